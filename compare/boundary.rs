@@ -1,0 +1,365 @@
+//! The library's C interface, and a safe wrapper for each call. All the unsafe code of the calls is here.
+//!
+//! A call is a value that holds its arguments: it can be made and shown. Its answer is the status together with the
+//! whole exit contents of every buffer lent for output, so that what a call must leave alone is compared as well.
+
+use crate::frames::Reading;
+use crate::refusal::Refusal;
+use std::fmt;
+
+#[link(name = "braidlark", kind = "static")]
+extern "C" {
+    fn braidlark_read(
+        frame: *const u8,
+        frame_length: usize,
+        fields: *mut u32,
+        fields_length: usize,
+        part_place: *mut u32,
+        part_length: *mut u32,
+    ) -> u8;
+
+    fn braidlark_write(
+        fields: *const u32,
+        fields_length: usize,
+        part: *const u8,
+        part_length: usize,
+        out: *mut u8,
+        out_length: usize,
+        written: *mut u32,
+    ) -> u8;
+}
+
+/// A call of the library with its arguments.
+pub trait Call: fmt::Display {
+    type Answer: Answer;
+
+    fn make(&self) -> Self::Answer;
+}
+
+/// What a call gave back.
+pub trait Answer: PartialEq + fmt::Display {
+    /// 0 for accepted, else the refusal number.
+    fn status(&self) -> u8;
+}
+
+/// How a buffer of no length is lent: both ways are allowed.
+#[derive(Clone, Copy, Debug)]
+pub enum Empty {
+    Null,
+    Address,
+}
+
+/// `braidlark_read` with `places` places for the fields.
+pub struct ReadCall<'a> {
+    pub frame: &'a [u8],
+    pub places: usize,
+    pub empty: Empty,
+}
+
+#[derive(PartialEq, Eq)]
+pub struct ReadAnswer {
+    status: u8,
+    fields: Vec<u32>,
+    part_place: u32,
+    part_length: u32,
+    disturbed: Vec<&'static str>,
+}
+
+impl ReadAnswer {
+    /// The answer with this reading: places past its numbers stay as they were.
+    pub fn accepted(reading: &Reading, places: usize) -> ReadAnswer {
+        ReadAnswer {
+            status: 0,
+            fields: laid_over_filler(&reading.numbers, places),
+            part_place: reading.part.start as u32,
+            part_length: reading.part.len() as u32,
+            disturbed: Vec::new(),
+        }
+    }
+
+    /// The answer with this refusal: nothing is written.
+    pub fn refused(refusal: Refusal, places: usize) -> ReadAnswer {
+        ReadAnswer {
+            status: refusal.number(),
+            fields: laid_over_filler(&[], places),
+            part_place: u32::FILLER[0],
+            part_length: u32::FILLER[0],
+            disturbed: Vec::new(),
+        }
+    }
+}
+
+impl Call for ReadCall<'_> {
+    type Answer = ReadAnswer;
+
+    fn make(&self) -> ReadAnswer {
+        let mut frame = Lent::input(self.frame);
+        let mut fields = Lent::output(self.places);
+        let mut part_place = Lent::output(1);
+        let mut part_length = Lent::output(1);
+        // SAFETY: each address is that of a live buffer of the length given with it, or NULL with length 0.
+        let status = unsafe {
+            braidlark_read(
+                frame.address(self.empty),
+                self.frame.len(),
+                fields.address(self.empty),
+                self.places,
+                part_place.address(self.empty),
+                part_length.address(self.empty),
+            )
+        };
+        ReadAnswer {
+            status,
+            disturbed: names_of(&[
+                ("frame", frame.is_changed(self.frame)),
+                ("around fields", fields.is_overrun()),
+                ("around part_place", part_place.is_overrun()),
+                ("around part_length", part_length.is_overrun()),
+            ]),
+            fields: fields.contents().to_vec(),
+            part_place: part_place.contents()[0],
+            part_length: part_length.contents()[0],
+        }
+    }
+}
+
+impl fmt::Display for ReadCall<'_> {
+    fn fmt(&self, text: &mut fmt::Formatter) -> fmt::Result {
+        write!(text, "braidlark_read(frame: {}", input_shown(self.frame))?;
+        write!(text, "; fields: {} places; {})", self.places, self.empty)
+    }
+}
+
+impl Answer for ReadAnswer {
+    fn status(&self) -> u8 {
+        self.status
+    }
+}
+
+impl fmt::Display for ReadAnswer {
+    fn fmt(&self, text: &mut fmt::Formatter) -> fmt::Result {
+        write!(text, "status {}; fields: {}", self.status, buffer_shown(&self.fields))?;
+        write!(text, "; part_place: {}", number_shown(self.part_place))?;
+        write!(text, "; part_length: {}", number_shown(self.part_length))?;
+        show_disturbed(text, &self.disturbed)
+    }
+}
+
+/// `braidlark_write` with `room` bytes for the frame.
+pub struct WriteCall<'a> {
+    pub fields: &'a [u32],
+    pub part: &'a [u8],
+    pub room: usize,
+    pub empty: Empty,
+}
+
+#[derive(PartialEq, Eq)]
+pub struct WriteAnswer {
+    status: u8,
+    out: Vec<u8>,
+    written: u32,
+    disturbed: Vec<&'static str>,
+}
+
+impl WriteAnswer {
+    /// The answer with this frame: bytes past it stay as they were.
+    pub fn accepted(frame: &[u8], room: usize) -> WriteAnswer {
+        let out = laid_over_filler(frame, room);
+        WriteAnswer { status: 0, out, written: frame.len() as u32, disturbed: Vec::new() }
+    }
+
+    /// The answer with this refusal: nothing is written.
+    pub fn refused(refusal: Refusal, room: usize) -> WriteAnswer {
+        let out = laid_over_filler(&[], room);
+        WriteAnswer { status: refusal.number(), out, written: u32::FILLER[0], disturbed: Vec::new() }
+    }
+}
+
+impl Call for WriteCall<'_> {
+    type Answer = WriteAnswer;
+
+    fn make(&self) -> WriteAnswer {
+        let mut fields = Lent::input(self.fields);
+        let mut part = Lent::input(self.part);
+        let mut out = Lent::output(self.room);
+        let mut written = Lent::output(1);
+        // SAFETY: each address is that of a live buffer of the length given with it, or NULL with length 0.
+        let status = unsafe {
+            braidlark_write(
+                fields.address(self.empty),
+                self.fields.len(),
+                part.address(self.empty),
+                self.part.len(),
+                out.address(self.empty),
+                self.room,
+                written.address(self.empty),
+            )
+        };
+        WriteAnswer {
+            status,
+            disturbed: names_of(&[
+                ("fields", fields.is_changed(self.fields)),
+                ("part", part.is_changed(self.part)),
+                ("around out", out.is_overrun()),
+                ("around written", written.is_overrun()),
+            ]),
+            out: out.contents().to_vec(),
+            written: written.contents()[0],
+        }
+    }
+}
+
+impl fmt::Display for WriteCall<'_> {
+    fn fmt(&self, text: &mut fmt::Formatter) -> fmt::Result {
+        write!(text, "braidlark_write(fields: {}", input_shown(self.fields))?;
+        write!(text, "; part: {}", input_shown(self.part))?;
+        write!(text, "; out: {} bytes; {})", self.room, self.empty)
+    }
+}
+
+impl Answer for WriteAnswer {
+    fn status(&self) -> u8 {
+        self.status
+    }
+}
+
+impl fmt::Display for WriteAnswer {
+    fn fmt(&self, text: &mut fmt::Formatter) -> fmt::Result {
+        write!(text, "status {}; out: {}", self.status, buffer_shown(&self.out))?;
+        write!(text, "; written: {}", number_shown(self.written))?;
+        show_disturbed(text, &self.disturbed)
+    }
+}
+
+impl fmt::Display for Empty {
+    fn fmt(&self, text: &mut fmt::Formatter) -> fmt::Result {
+        text.write_str(match self {
+            Empty::Null => "empty buffers as NULL",
+            Empty::Address => "empty buffers with an address",
+        })
+    }
+}
+
+/// The longest buffer that is lent for output.
+const MOST_FILLER: usize = 4096;
+
+/// How much filler stands on either side of a lent buffer. Odd, so that lent bytes are not aligned by luck.
+const GUARD: usize = 33;
+
+/// What stands in the places that nobody wrote to. It differs from place to place, so that no copied or constant run
+/// of values passes for it, and it is made before the program runs, because each call lays and checks much of it.
+trait Filler: Copy + PartialEq + fmt::LowerHex + 'static {
+    const FILLER: &'static [Self; MOST_FILLER];
+}
+
+impl Filler for u8 {
+    const FILLER: &'static [u8; MOST_FILLER] = &{
+        let mut filler = [0; MOST_FILLER];
+        let mut place = 0;
+        while place < MOST_FILLER {
+            filler[place] = (place as u8).wrapping_mul(0x3D) ^ 0xA5;
+            place += 1;
+        }
+        filler
+    };
+}
+
+impl Filler for u32 {
+    const FILLER: &'static [u32; MOST_FILLER] = &{
+        let mut filler = [0; MOST_FILLER];
+        let mut place = 0;
+        while place < MOST_FILLER {
+            filler[place] = (place as u32).wrapping_mul(0x9E37_79B1) ^ 0xA5C3_96E1;
+            place += 1;
+        }
+        filler
+    };
+}
+
+/// The exit contents of a lent buffer of this length that was written to from its start.
+fn laid_over_filler<T: Filler>(written: &[T], length: usize) -> Vec<T> {
+    let mut contents = T::FILLER[..length].to_vec();
+    contents[..written.len()].copy_from_slice(written);
+    contents
+}
+
+/// A buffer lent to the library for one call, inside a larger one of filler.
+struct Lent<T> {
+    memory: Vec<T>,
+}
+
+impl<T: Filler> Lent<T> {
+    fn input(contents: &[T]) -> Lent<T> {
+        let mut memory = Vec::with_capacity(GUARD + contents.len() + GUARD);
+        memory.extend_from_slice(&T::FILLER[..GUARD]);
+        memory.extend_from_slice(contents);
+        memory.extend_from_slice(&T::FILLER[..GUARD]);
+        Lent { memory }
+    }
+
+    fn output(length: usize) -> Lent<T> {
+        Lent::input(&T::FILLER[..length])
+    }
+
+    /// The address to lend. It is a mutable one of the whole memory, for inputs too, because the library is not
+    /// trusted to write only where it should.
+    fn address(&mut self, empty: Empty) -> *mut T {
+        match empty {
+            Empty::Null if self.contents().is_empty() => std::ptr::null_mut(),
+            _ => self.memory.as_mut_ptr().wrapping_add(GUARD),
+        }
+    }
+
+    fn contents(&self) -> &[T] {
+        &self.memory[GUARD..self.memory.len() - GUARD]
+    }
+
+    fn is_overrun(&self) -> bool {
+        let guard = &T::FILLER[..GUARD];
+        !self.memory.starts_with(guard) || !self.memory.ends_with(guard)
+    }
+
+    fn is_changed(&self, contents: &[T]) -> bool {
+        self.contents() != contents || self.is_overrun()
+    }
+}
+
+/// The names of what a call changed although it must not.
+fn names_of(tests: &[(&'static str, bool)]) -> Vec<&'static str> {
+    tests.iter().filter(|(_, disturbed)| *disturbed).map(|(name, _)| *name).collect()
+}
+
+fn show_disturbed(text: &mut fmt::Formatter, disturbed: &[&str]) -> fmt::Result {
+    if disturbed.is_empty() {
+        return Ok(());
+    }
+    write!(text, "; changed and must not be: {}", disturbed.join(", "))
+}
+
+/// An input in hex, with its length.
+fn input_shown<T: fmt::LowerHex>(values: &[T]) -> String {
+    format!("{} length {}", hex(values), values.len())
+}
+
+/// An output in hex, up to the last place that does not hold its filler any more.
+fn buffer_shown<T: Filler>(values: &[T]) -> String {
+    let untouched = values.iter().zip(T::FILLER).rev().take_while(|(value, filler)| value == filler).count();
+    let (touched, _) = values.split_at(values.len() - untouched);
+    match untouched {
+        0 => hex(touched),
+        _ => format!("{} and {} places untouched", hex(touched), untouched),
+    }
+}
+
+/// A length or place that was given back.
+fn number_shown(value: u32) -> String {
+    match value == u32::FILLER[0] {
+        true => "untouched".to_string(),
+        false => value.to_string(),
+    }
+}
+
+fn hex<T: fmt::LowerHex>(values: &[T]) -> String {
+    let digits: Vec<String> = values.iter().map(|value| format!("{:02x}", value)).collect();
+    format!("[{}]", digits.join(" "))
+}

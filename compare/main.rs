@@ -1,0 +1,104 @@
+//! `compare` puts the same calls to the library and to an implementation written from the paper alone, subject by
+//! subject, and stops at the first difference. This file is the command line and the order of the subjects.
+
+#![deny(warnings)]
+
+mod boundary;
+mod frames;
+mod frames_check;
+mod frames_drafts;
+mod random;
+mod refusal;
+mod report;
+
+use report::{Difference, Progress, Tally};
+use std::process::ExitCode;
+
+const USAGE: &str = "\
+usage: compare [--seed N] [--frames N] [--quiet] [--help]
+
+Compares the library, call by call, with an independent implementation.
+
+  --seed N    start of the random numbers, decimal or 0x and hex (1)
+  --frames N  random frames to compare, each in several calls (300000)
+  --quiet     no progress on standard error
+  --help      this text
+
+Prints one line for each subject. Exits with 0 if every call agrees, 1 at the
+first difference (seed, call and both answers on standard error), 2 if used wrongly.";
+
+const AGREED: u8 = 0;
+const DIFFERED: u8 = 1;
+const USED_WRONGLY: u8 = 2;
+
+/// What the command line asks for.
+pub struct Options {
+    pub seed: u64,
+    pub frames: u64,
+    pub quiet: bool,
+    pub help: bool,
+}
+
+/// A part of the library with an implementation module and a check module of its own.
+struct Subject {
+    name: &'static str,
+    check: fn(&Options, &mut Progress) -> Result<Tally, Difference>,
+}
+
+const SUBJECTS: [Subject; 1] = [Subject { name: "frames", check: frames_check::check }];
+
+fn main() -> ExitCode {
+    let arguments = std::env::args_os().skip(1).map(|argument| argument.to_string_lossy().into_owned());
+    let status = match parse(arguments) {
+        Ok(options) if options.help => {
+            println!("{}", USAGE);
+            AGREED
+        }
+        Ok(options) => compare(&options),
+        Err(message) => {
+            eprintln!("compare: {}; see compare --help", message);
+            USED_WRONGLY
+        }
+    };
+    ExitCode::from(status)
+}
+
+fn parse(mut arguments: impl Iterator<Item = String>) -> Result<Options, String> {
+    let mut options = Options { seed: 1, frames: 300_000, quiet: false, help: false };
+    while let Some(argument) = arguments.next() {
+        match argument.as_str() {
+            "--seed" => options.seed = number(&argument, arguments.next())?,
+            "--frames" => options.frames = number(&argument, arguments.next())?,
+            "--quiet" => options.quiet = true,
+            "--help" => options.help = true,
+            _ => return Err(format!("unknown argument '{}'", argument)),
+        }
+    }
+    Ok(options)
+}
+
+fn number(option: &str, value: Option<String>) -> Result<u64, String> {
+    let value = value.ok_or_else(|| format!("{} needs a number", option))?;
+    let parsed = match value.strip_prefix("0x") {
+        Some(digits) => u64::from_str_radix(digits, 16),
+        None => value.parse(),
+    };
+    parsed.map_err(|_| format!("{} needs a number, not '{}'", option, value))
+}
+
+fn compare(options: &Options) -> u8 {
+    for subject in &SUBJECTS {
+        let mut progress = Progress::new(subject.name, options.quiet);
+        let result = (subject.check)(options, &mut progress);
+        progress.end();
+        match result {
+            Ok(tally) => println!("{}: {}", subject.name, tally),
+            Err(difference) => {
+                let name = subject.name;
+                eprintln!("{}: the library differs, seed {:#x} (contents in hex)\n{}", name, options.seed, difference);
+                return DIFFERED;
+            }
+        }
+    }
+    AGREED
+}

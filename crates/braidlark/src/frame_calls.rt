@@ -1,0 +1,47 @@
+// Frames: one call reads any kind, one writes any, its fields as a list of numbers with the type first.
+ghost use mathlib.Core.Path.{_≡_};
+ghost use Rattle.braidlark.specs.FrameCalls.{readCall, readLeft, writeCall, writeLeft};
+use frames::answers::Written;
+use frames::layouts::layout_of;
+use octets::numbers::number8;
+use readers::numbers::show;
+use writers::numbers::write;
+
+// Reads a frame: its numbers, and where the bytes behind its fields start and how many they are.
+#[no_mangle]
+pub extern "C" fn braidlark_read(
+    frame: &[u8],
+    fields: &mut [u32],
+    part_place: &mut u32,
+    part_length: &mut u32,
+) -> u8
+    ensures { λ r. ⌜ readLeft r (now (fields .exit)) (now («part_place» .exit)) (now («part_length» .exit)) ≡ readCall (now (frame .entry)) (now (fields .entry)) (now («part_place» .entry)) (now («part_length» .entry)) ⌝ }
+{
+    let status = show(frame, fields);
+    if status != 0 {
+        return status;
+    }
+    let place = layout_of(number8(frame, 0)).head;
+    *part_place = place as u32;
+    *part_length = (frame.len() - 1 - place as usize) as u32;
+    0
+}
+
+// Writes the frame with these numbers and these bytes behind them, and says how many bytes it has.
+#[no_mangle]
+pub extern "C" fn braidlark_write(
+    fields: &[u32],
+    part: &[u8],
+    out: &mut [u8],
+    written: &mut u32,
+) -> u8
+    ensures { λ r. ⌜ writeLeft r (now (out .exit)) (now (written .exit)) ≡ writeCall (now (fields .entry)) (now (part .entry)) (now (out .entry)) (now (written .entry)) ⌝ }
+{
+    match write(fields, part, out) {
+        Written::Done(size) => {
+            *written = size as u32;
+            0
+        }
+        Written::Refused(refusal) => refusal.number,
+    }
+}

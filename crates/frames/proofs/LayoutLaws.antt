@@ -1,0 +1,51 @@
+-- The layout of a type: at most 15 fields, and where the array has them.
+-- Assumes nothing.
+use mathlib.Core.Path.{_≡_, refl, ap, _∙_}
+use mathlib.Core.Bool.{Bool, true}
+use mathlib.Core.List.{List, [], _∷_}
+use mathlib.Core.Logic.{⊎-elim}
+use Prim.Native.Nat.{ℕ, _-_, _≤_}
+use native.Mathlib.Omega.{arith}
+use borrow.Author.Tests.{leb-true}
+use lib.Dec.{leb}
+use lib.ListN.{length, take, replicate, length-append}
+use lib.Seq.{take-at}
+use Rattle.octets.specs.Layouts.{total}
+use Rattle.octets.specs.Lists.{every}
+use Rattle.frames.specs.declared.layouts.Layout.{Layout}
+use Rattle.frames.specs.Frames.{kinds}
+use Rattle.frames.specs.Layout.{widthsOf, layoutOf}
+use Rattle.frames.proofs.KindLaws.{asked, known-or-not, of-each}
+
+-- a test that holds of no widths, and of those of every kind, holds of those of any type
+pub of-widths : (test : List ℕ → Bool) → test [] ≡ true → every (λ k. test (1 ∷ k .widths)) kinds ≡ true → (t : ℕ) → test (widthsOf t) ≡ true
+of-widths test n h t =
+    ⊎-elim
+    (λ r. ap test (asked (λ k. 1 ∷ k .widths) [] (r .1) t (r .2)) ∙ of-each (λ k. test (1 ∷ k .widths)) h (r .1))
+    (λ r. ap test (r (List ℕ) (λ k. 1 ∷ k .widths) []) ∙ n)
+    (known-or-not t)
+
+widths-few : (t : ℕ) → length (widthsOf t) ≤ 15
+unfolding every
+widths-few t = leb-true _ _ (of-widths (λ ws. leb (length ws) 15) refl refl t)
+
+-- a layout that holds these widths: in the first places of its array
+pub record Laid (l : Layout) (ws : List ℕ) : Type 0 where
+  pub counted : l .count ≡ length ws
+  pub summed : l .head ≡ total ws
+  pub firsts : take (l .count) (l .widths) ≡ ws
+  pub within : l .count ≤ length (l .widths)
+  pub few : l .count ≤ 15
+
+pub laid-out : (l : Layout) (t : ℕ) → l ≡ layoutOf t → Laid l (widthsOf t)
+unfolding layoutOf
+laid-out l t e =
+    let ws = widthsOf t in
+    let rest : List ℕ = replicate (15 - length ws) 0 in
+    rw e (record {
+      counted = refl;
+      summed = refl;
+      firsts = take-at ws rest (length ws) refl;
+      within = omega (arith, length-append ws rest);
+      few = widths-few t;
+    })

@@ -1,0 +1,4 @@
+pub mod KindLaws
+pub mod LayoutLaws
+pub mod ToldLaws
+pub mod TripLaws

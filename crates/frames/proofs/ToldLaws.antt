@@ -1,0 +1,55 @@
+-- What an answer says is said by no other answer.
+-- Assumes nothing.
+use mathlib.Core.Path.{_≡_, refl, sym, ap, _∙_}
+use mathlib.Core.Bool.{cond}
+use mathlib.Core.List.{List, [], _∷_}
+use Prim.Native.Nat.{ℕ}
+use lib.Dec.{eqb}
+use Rattle.octets.specs.Answers.{Said, OneToOne}
+use Rattle.frames.specs.declared.answers.Frame.{Frame}
+use Rattle.frames.specs.declared.answers.Written.{Written}
+use Rattle.traffic.specs.Traffic.{dataFrom, updateFrom}
+use Rattle.requests.specs.Requests.{joinRequestFrom, joinResponseFrom, slotRequestFrom, discoveryRequestFrom, discoveryResponseFrom}
+use Rattle.beacons.specs.Beacons.{beaconFrom}
+use Rattle.frames.specs.Told.{told, toldWritten}
+
+-- the frame that says this
+frame-from : ℕ → List ℕ → Frame
+frame-from number [] = Frame.Refused (record { number = number })
+frame-from number (t ∷ vs) =
+    cond (eqb t 0x11) (Frame.Data (dataFrom vs))
+    (cond (eqb t 0x21) (Frame.JoinRequest (joinRequestFrom vs))
+    (cond (eqb t 0x22) (Frame.JoinResponse (joinResponseFrom vs))
+    (cond (eqb t 0x23) (Frame.SlotRequest (slotRequestFrom vs))
+    (cond (eqb t 0x24) (Frame.DiscoveryRequest (discoveryRequestFrom vs))
+    (cond (eqb t 0x25) (Frame.DiscoveryResponse (discoveryResponseFrom vs))
+    (cond (eqb t 0x31) (Frame.Update (updateFrom vs)) (Frame.Beacon (beaconFrom vs))))))))
+
+frame-back : (f : Frame) → frame-from (told f .refusal) (told f .values) ≡ f
+unfolding frame-from
+frame-back (Frame.Data f) = refl
+frame-back (Frame.JoinRequest f) = refl
+frame-back (Frame.JoinResponse f) = refl
+frame-back (Frame.SlotRequest f) = refl
+frame-back (Frame.DiscoveryRequest f) = refl
+frame-back (Frame.DiscoveryResponse f) = refl
+frame-back (Frame.Update f) = refl
+frame-back (Frame.Beacon f) = refl
+frame-back (Frame.Refused r) = refl
+
+pub told-one : OneToOne told
+told-one f g e = sym (frame-back f) ∙ (ap (λ (said : Said). frame-from (said .refusal) (said .values)) e ∙ frame-back g)
+
+-- the answer of a writer that says this
+written-from : ℕ → List ℕ → Written
+written-from number [] = Written.Refused (record { number = number })
+written-from number (n ∷ vs) = Written.Done n
+
+written-back : (w : Written) → written-from (toldWritten w .refusal) (toldWritten w .values) ≡ w
+unfolding written-from
+written-back (Written.Done n) = refl
+written-back (Written.Refused r) = refl
+
+pub told-written-one : OneToOne toldWritten
+told-written-one f g e =
+    sym (written-back f) ∙ (ap (λ (said : Said). written-from (said .refusal) (said .values)) e ∙ written-back g)

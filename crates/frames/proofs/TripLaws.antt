@@ -1,0 +1,169 @@
+-- The round trips, proved once over a kind.
+-- Assumes nothing.
+use mathlib.Core.Path.{_≡_, refl, sym, ap, _∙_}
+use mathlib.Core.Bool.{Bool, true, false, not, _||_, cond}
+use mathlib.Core.List.{List, [], _∷_, _++_, append-assoc, List·Memᴰ}
+use mathlib.Core.Logic.{⊎-elim}
+use Prim.Native.Nat.{ℕ, _+_, _≤_, _<_}
+use native.Mathlib.Omega.{arith}
+use borrow.Author.Tests.{eq-eqb, ne-eqb, le-ltb, eqb-true}
+use lib.Dec.{eqb, ltb}
+use lib.ListN.{length, take, drop, length-append}
+use lib.Seq.{take-at, drop-at, take-add}
+use Rattle.octets.specs.Answers.{Said, accepted, unless}
+use Rattle.octets.specs.Layouts.{total, fields, bytes, Fit, Bytes}
+use Rattle.octets.specs.Numbers.{num}
+use Rattle.octets.specs.Sums.{xors}
+use Rattle.octets.proofs.AnswerLaws.{unless-none, unless-number}
+use Rattle.octets.proofs.LayoutLaws.{fit-length, length-bytes, fields-bytes, bytes-fields, fields-fit}
+use Rattle.frames.specs.Frames.{kinds, readFrame}
+use Rattle.frames.specs.Layout.{widthsOf}
+use Rattle.shapes.specs.Reading.{isSealed, misfit, readRefusal, refusalAs, readAs, readUnknown}
+use Rattle.shapes.specs.Shape.{Kind, placeOf, lengthOf, valuesIn, partIn, sealed, frameOf}
+use Rattle.frames.specs.Trips.{refusalWith, RefusedAlike, ReadsBack, WritesBack}
+use Rattle.shapes.specs.Writing.{writeRefusal}
+use Rattle.frames.proofs.KindLaws.{asked, known-or-not, code-fits, of-type}
+use Rattle.shapes.proofs.ReadingLaws.{Passed, passed}
+use Rattle.shapes.proofs.SealLaws.{length-sealed, sealed-is, sealed-whole}
+
+-- the two orders of the length tests give the same number, if a frame of the right length has the right part
+in-order : (size due : ℕ) (good seen : Bool) → (size ≡ due → seen ≡ good)
+    → _≡_ {A = ℕ} (cond (not (eqb size due) || ltb 255 size) 1 (cond (not good) 4 0))
+    (cond (ltb 255 size) 1 (cond (not (eqb size due)) 1 (cond (not seen) 4 0)))
+in-order size due good seen h = go (eqb size due) (ltb 255 size) refl
+  where
+    go : (a b : Bool) → eqb size due ≡ a
+        → _≡_ {A = ℕ} (cond (not a || b) 1 (cond (not good) 4 0)) (cond b 1 (cond (not a) 1 (cond (not seen) 4 0)))
+    go true true q = refl
+    go true false q = rw (h (eqb-true size due q))
+    go false true q = refl
+    go false false q = refl
+
+-- ---- the bytes of a record, read
+module _ (k : Kind) (vs part : List ℕ) (small : k .code < 256) (f : Fit (k .widths) vs) where
+  abbrev head : List ℕ
+  head = bytes (1 ∷ k .widths) (k .code ∷ vs)
+
+  abbrev frame : List ℕ
+  frame = frameOf k vs part
+
+  fit-head : Fit (1 ∷ k .widths) (k .code ∷ vs)
+  fit-head = (small, f)
+
+  head-length : length head ≡ placeOf k
+  head-length = length-bytes (1 ∷ k .widths) (k .code ∷ vs) (fit-length (1 ∷ k .widths) (k .code ∷ vs) fit-head)
+
+  pub frame-length : length frame ≡ lengthOf k (length part)
+  frame-length = omega (arith, length-sealed (head ++ part), length-append head part, head-length)
+
+  frame-split : frame ≡ head ++ (part ++ (xors 0 (head ++ part) ∷ []))
+  unfolding sealed
+  frame-split = append-assoc head part (xors 0 (head ++ part) ∷ [])
+
+  frame-fields : fields (1 ∷ k .widths) frame 0 ≡ k .code ∷ vs
+  frame-fields = rw frame-split (fields-bytes (1 ∷ k .widths) (k .code ∷ vs) [] (part ++ (xors 0 (head ++ part) ∷ [])) 0 refl fit-head)
+
+  frame-type : num 1 frame 0 ≡ k .code
+  frame-type = cc frame-fields
+
+  frame-values : valuesIn k frame ≡ vs
+  frame-values = cc frame-fields
+
+  frame-part : k .extent vs ≡ length part → take (k .extent vs) (drop (placeOf k) frame) ≡ part
+  frame-part e =
+      rw (e, frame-split, drop-at head (part ++ (xors 0 (head ++ part) ∷ [])) (placeOf k) head-length)
+      (take-at part (xors 0 (head ++ part) ∷ []) (length part) refl)
+
+  frame-sealed : isSealed frame ≡ true
+  frame-sealed = sealed-is (head ++ part)
+
+  -- the reader meets the writer's reasons in the writer's order
+  pub alike : refusalWith k vs part ≡ refusalAs k frame
+  unfolding writeRefusal readRefusal
+  alike =
+      simp (frame-type, frame-values, frame-sealed, eq-eqb (k .code) (k .code) refl, ne-eqb (length frame) 0 (λ z. omega (arith, frame-length)), le-ltb (length frame) (length frame) (omega arith))
+      (in-order (length frame) (lengthOf k (k .extent vs)) (k .rule vs part) _
+      (λ e. ap (k .rule vs) (frame-part (omega (arith, frame-length)))))
+
+-- ---- over the eight kinds
+as-known : (k : Kind) → List·Memᴰ k kinds → (s : List ℕ) → num 1 s 0 ≡ k .code → readFrame s ≡ readAs k s
+as-known k m s e = of-type s (num 1 s 0) refl ∙ asked (λ x. readAs x s) (readUnknown s) m (num 1 s 0) e
+
+pub refused-alike : RefusedAlike
+refused-alike k m vs part f =
+    let c = code-fits m in
+    alike k vs part c f
+    ∙ sym (ap (λ (r : Said). r .refusal) (as-known k m (frameOf k vs part) (frame-type k vs part c f)) ∙ unless-number (refusalAs k (frameOf k vs part)) _)
+
+written-due : (due size : ℕ) (good : Bool) (room : ℕ) → writeRefusal due size good room ≡ 0 → size ≡ due
+unfolding writeRefusal
+written-due due size good room e = go (eqb size due) (ltb 255 size) refl e
+  where
+    go : (a b : Bool) → eqb size due ≡ a → _≡_ {A = ℕ} (cond (not a || b) 1 (cond (not good) 4 (cond (ltb room size) 5 0))) 0 → size ≡ due
+    go true b q z = eqb-true size due q
+    go false b q z = absurd (omega arith)
+
+pub reads-back : ReadsBack
+reads-back k m vs part f e =
+    let c = code-fits m in
+    let s : List ℕ = frameOf k vs part in
+    let z : refusalAs k s ≡ 0 = sym (alike k vs part c f) ∙ e in
+    let d = written-due (lengthOf k (k .extent vs)) (length s) (k .rule vs part) (length s) e in (
+      as-known k m s (frame-type k vs part c f) ∙ (unless-none (refusalAs k s) _ z ∙ ap (λ (us : List ℕ). accepted (k .code ∷ us)) (frame-values k vs part c f)),
+      rw (frame-values k vs part c f) (frame-part k vs part c f (omega (arith, frame-length k vs part c f))),
+    )
+
+-- ---- bytes that are not refused, written again
+module _ (k : Kind) (s : List ℕ) (b : Bytes s) (e : refusalAs k s ≡ 0) where
+  abbrev known : Passed (k .code) (lengthOf k (k .extent (valuesIn k s))) (k .rule (valuesIn k s) (partIn k s)) s
+  known = passed _ _ _ s e
+
+  rewritten : frameOf k (valuesIn k s) (partIn k s) ≡ s
+  rewritten =
+      let n = placeOf k + k .extent (valuesIn k s) in
+      let h : bytes (1 ∷ k .widths) (k .code ∷ valuesIn k s) ≡ take (placeOf k) s =
+      rw (← known .typed) (bytes-fields s b (1 ∷ k .widths) 0 (omega (arith, known .sized))) in
+      rw (h, ← take-add (placeOf k) (k .extent (valuesIn k s)) s) (sealed-whole s n (omega (arith, known .sized)) (known .summed))
+
+-- what is read is of one of the kinds
+read-of : (s : List ℕ) → readFrame s .refusal ≡ 0 → (k : Kind) × List·Memᴰ k kinds × (num 1 s 0 ≡ k .code)
+unfolding readFrame
+read-of s e = ⊎-elim (λ r. r) (λ r. absurd (unknown (misfit s) (rw (r Said (λ k. readAs k s) (readUnknown s)) at e))) (known-or-not (num 1 s 0))
+  where
+    unknown : (b : Bool) → unless (cond b 1 2) (accepted []) .refusal ≡ 0 → ⊥
+    unknown true z = omega arith
+    unknown false z = omega arith
+
+unrefused : (k : Kind) (s : List ℕ) → readFrame s ≡ readAs k s → readFrame s .refusal ≡ 0 → refusalAs k s ≡ 0
+unrefused k s said e = sym (unless-number (refusalAs k s) (k .code ∷ valuesIn k s)) ∙ (ap (λ (x : Said). x .refusal) (sym said) ∙ e)
+
+-- its values stand where the layout of its type says
+pub values-read : (s : List ℕ) → readFrame s .refusal ≡ 0 → readFrame s .values ≡ fields (widthsOf (num 1 s 0)) s 0
+values-read s e =
+    let (k, m, c) = read-of s e in
+    let said = as-known k m s c in
+    let z = unrefused k s said e in
+    rw (said, unless-none (refusalAs k s) (accepted (k .code ∷ valuesIn k s)) z, asked (λ x. 1 ∷ x .widths) [] m (num 1 s 0) c, ← c)
+
+-- it has at most 255 bytes, and its checksum behind its fields
+pub read-size : (s : List ℕ) → readFrame s .refusal ≡ 0 → (length s ≤ 255) × (total (widthsOf (num 1 s 0)) < length s)
+read-size s e =
+    let (k, m, c) = read-of s e in
+    let p = passed _ _ _ s (unrefused k s (as-known k m s c) e) in
+    (p .short, rw (asked (λ x. 1 ∷ x .widths) [] m (num 1 s 0) c) (omega (arith, p .sized)))
+
+pub writes-back : WritesBack
+writes-back s b e =
+    let (k, m, c) = read-of s e in
+    let said = as-known k m s c in
+    let z = unrefused k s said e in
+    let f = fields-fit s b (k .widths) 1 in
+    let same = rewritten k s b z in
+    record {
+      kind = k;
+      known = m;
+      said = said ∙ unless-none (refusalAs k s) (accepted (k .code ∷ valuesIn k s)) z;
+      fit = f;
+      writable = alike k (valuesIn k s) (partIn k s) (code-fits m) f ∙ (ap (refusalAs k) same ∙ z);
+      same = same;
+    }

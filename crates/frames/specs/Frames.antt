@@ -1,0 +1,23 @@
+-- The eight kinds, and reading a frame of any of them.
+-- Assumes nothing.
+use Prim.Native.Nat.{ℕ}
+use mathlib.Core.List.{List, [], _∷_}
+use Rattle.octets.specs.Answers.{Said}
+use Rattle.octets.specs.Numbers.{num}
+use Rattle.shapes.specs.Reading.{readAs, readUnknown}
+use Rattle.shapes.specs.Shape.{Kind, among}
+use Rattle.requests.specs.Requests.{joinRequest, joinResponse, slotRequest, discoveryRequest, discoveryResponse}
+use Rattle.traffic.specs.Traffic.{dataKind, update}
+use Rattle.beacons.specs.Beacons.{beacon}
+
+-- every kind, in the paper's order
+abbrev pub kinds : List Kind
+kinds = dataKind ∷ joinRequest ∷ joinResponse ∷ slotRequest ∷ discoveryRequest ∷ discoveryResponse ∷ update ∷ beacon ∷ []
+
+-- reading bytes of type t: as the kind that has this type
+abbrev pub readTyped : ℕ → List ℕ → Said
+readTyped t s = among kinds t (λ k. readAs k s) (readUnknown s)
+
+-- reading a frame
+unfoldable pub readFrame : List ℕ → Said
+readFrame s = readTyped (num 1 s 0) s

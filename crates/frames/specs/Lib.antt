@@ -1,0 +1,5 @@
+pub mod Frames
+pub mod Layout
+pub mod Listed
+pub mod Told
+pub mod Trips

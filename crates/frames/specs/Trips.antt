@@ -1,0 +1,40 @@
+-- What holds of reading and writing together, over all eight kinds.
+-- Assumes nothing.
+use mathlib.Core.Path.{_≡_}
+use mathlib.Core.List.{List, _∷_, List·Memᴰ}
+use Prim.Native.Nat.{ℕ}
+use lib.ListN.{length}
+use Rattle.octets.specs.Answers.{accepted}
+use Rattle.octets.specs.Layouts.{Fit, Bytes}
+use Rattle.frames.specs.Frames.{kinds, readFrame}
+use Rattle.shapes.specs.Shape.{Kind, lengthOf, valuesIn, partIn, frameOf}
+use Rattle.shapes.specs.Writing.{writeRefusal}
+
+-- why a frame of a kind with these values and these bytes behind them is not written, a short buffer aside: this room is enough
+abbrev pub refusalWith : Kind → List ℕ → List ℕ → ℕ
+refusalWith k vs part =
+    let frame = frameOf k vs part in
+    writeRefusal (lengthOf k (k .extent vs)) (length frame) (k .rule vs part) (length frame)
+
+-- a record is refused by its writer with n exactly if the bytes that it would be are refused by the reader with n
+abbrev pub RefusedAlike : Type 0
+RefusedAlike = (k : Kind) → List·Memᴰ k kinds → (vs part : List ℕ) → Fit (k .widths) vs → refusalWith k vs part ≡ readFrame (frameOf k vs part) .refusal
+
+-- reading what was written gives the record, and the bytes behind it
+abbrev pub ReadsBack : Type 0
+ReadsBack =
+    (k : Kind) → List·Memᴰ k kinds → (vs part : List ℕ) → Fit (k .widths) vs → refusalWith k vs part ≡ 0
+    → (readFrame (frameOf k vs part) ≡ accepted (k .code ∷ vs)) × (partIn k (frameOf k vs part) ≡ part)
+
+-- of what is read: its kind, and that writing its record and the bytes behind it gives the same bytes
+pub record Rewritten (s : List ℕ) : Type 0 where
+  pub kind : Kind
+  pub known : List·Memᴰ kind kinds
+  pub said : readFrame s ≡ accepted (kind .code ∷ valuesIn kind s)
+  pub fit : Fit (kind .widths) (valuesIn kind s)
+  pub writable : refusalWith kind (valuesIn kind s) (partIn kind s) ≡ 0
+  pub same : frameOf kind (valuesIn kind s) (partIn kind s) ≡ s
+
+-- writing what was read gives the same bytes
+abbrev pub WritesBack : Type 0
+WritesBack = (s : List ℕ) → Bytes s → readFrame s .refusal ≡ 0 → Rewritten s

@@ -1,0 +1,24 @@
+-- A call's answer, where a number refuses it and where none does.
+-- Assumes nothing.
+use mathlib.Core.Path.{_≡_, refl, sym}
+use mathlib.Core.Bool.{Bool, true, false, cond}
+use mathlib.Core.List.{List}
+use Prim.Native.Nat.{ℕ}
+use borrow.Author.Tests.{eq-eqb, ne-eqb, eqb-true}
+use lib.Dec.{eqb}
+use Rattle.octets.specs.Answers.{Said, accepted, refused, unless}
+
+module _ (n : ℕ) (said : Said) where
+  pub unless-none : n ≡ 0 → unless n said ≡ said
+  unless-none e = rw (eq-eqb n 0 e)
+
+  pub unless-some : (n ≡ 0 → ⊥) → unless n said ≡ refused n
+  unless-some e = rw (ne-eqb n 0 e)
+
+-- the number that refuses is the one that is said
+pub unless-number : (n : ℕ) (vs : List ℕ) → unless n (accepted vs) .refusal ≡ n
+unless-number n vs = go (eqb n 0) refl
+  where
+    go : (t : Bool) → eqb n 0 ≡ t → cond t (accepted vs) (refused n) .refusal ≡ n
+    go true q = sym (eqb-true n 0 q)
+    go false q = refl

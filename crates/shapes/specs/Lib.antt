@@ -1,0 +1,4 @@
+pub mod Reading
+pub mod Rules
+pub mod Shape
+pub mod Writing

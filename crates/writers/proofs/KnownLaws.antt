@@ -1,0 +1,125 @@
+-- Numbers whose type is that of a kind: what the writer does with them is what the kind's definition says.
+-- Assumes nothing.
+use mathlib.Core.Path.{_≡_, refl, sym, ap, _∙_}
+use mathlib.Core.Bool.{Bool, true, false, not, _||_, cond}
+use mathlib.Core.List.{List, [], _∷_, _++_, List·Memᴰ}
+use mathlib.Core.Logic.{⊎-elim}
+use Prim.Native.Nat.{ℕ, suc, _+_, _≤_, _<_}
+use native.Mathlib.Omega.{arith}
+use borrow.Author.Tests.{leb-true}
+use lib.Dec.{eqb, leb, ltb}
+use lib.ListN.{length, getD, take}
+use Rattle.octets.specs.Answers.{refused}
+use Rattle.octets.specs.Layouts.{total, bytes}
+use Rattle.octets.specs.Lists.{every}
+use Rattle.frames.specs.declared.answers.Written.{Written}
+use Rattle.frames.specs.declared.layouts.Layout.{Layout}
+use Rattle.frames.specs.Frames.{kinds}
+use Rattle.frames.specs.Layout.{widthsOf, layoutOf}
+use Rattle.frames.specs.Listed.{given, fitting, extentOf, writeListed, writeNumbers}
+use Rattle.shapes.specs.Shape.{Kind, placeOf, lengthOf, sealed, frameOf}
+use Rattle.frames.specs.Told.{wrote}
+use Rattle.shapes.specs.Writing.{Wrote, writeRefusal, writing}
+use Rattle.frames.proofs.KindLaws.{asked, known-or-not, code-fits}
+use Rattle.frames.proofs.LayoutLaws.{laid-out, of-widths}
+use Rattle.writers.specs.Taking.{takes}
+use Rattle.writers.proofs.ListedLaws.{length-given, fitting-fit, fitting-stand, told-late, takes-kept}
+use Rattle.writers.proofs.WritingLaws.{frame-length, unwritten}
+
+-- the kind that numbers of this type are of, and what its layout holds
+pub record Known (code : ℕ) (layout : Layout) : Type 0 where
+  pub kind : Kind
+  pub member : List·Memᴰ kind kinds
+  pub typed : code ≡ kind .code
+  pub counted : layout .count ≡ length (1 ∷ kind .widths)
+  pub widths : take (layout .count) (layout .widths) ≡ 1 ∷ kind .widths
+  pub head : layout .head ≡ placeOf kind
+  pub within : layout .count ≤ length (layout .widths)
+  pub small : layout .head ≤ 64
+
+heads-small : (t : ℕ) → total (widthsOf t) ≤ 64
+unfolding every
+heads-small t = leb-true _ _ (of-widths (λ ws. leb (total ws) 64) refl refl t)
+
+pub known : (code : ℕ) (layout : Layout) → layout ≡ layoutOf code → (layout .count ≡ 0 → ⊥) → Known code layout
+known code layout e z =
+    let l = laid-out layout code e in
+    ⊎-elim
+    (λ r.
+    let w : widthsOf code ≡ 1 ∷ r .0 .widths = asked (λ k. 1 ∷ k .widths) [] (r .1) code (r .2) in
+    record {
+      kind = r .0;
+      member = r .1;
+      typed = r .2;
+      counted = l .counted ∙ ap length w;
+      widths = l .firsts ∙ w;
+      head = l .summed ∙ ap total w;
+      within = l .within;
+      small = omega (arith, l .summed, heads-small code);
+    })
+    (λ r. absurd (z (l .counted ∙ ap length (r (List ℕ) (λ k. 1 ∷ k .widths) []))))
+    (known-or-not code)
+
+module _ (code : ℕ) (layout : Layout) (k : Known code layout) (ns part out : List ℕ) (t : getD ns 0 0 ≡ code) where
+  abbrev vs : List ℕ
+  vs = given (k .kind .widths) ns 1
+
+  abbrev frame : List ℕ
+  frame = frameOf (k .kind) vs part
+
+  pub due : layout .head + 1 + extentOf code ns ≡ lengthOf (k .kind) (k .kind .extent vs)
+  unfolding extentOf
+  due = rw (k .head, asked (λ x. x .extent (given (x .widths) ns 1)) 0 (k .member) code (k .typed))
+
+  same : writeNumbers ns part out ≡ writeListed (k .kind) ns part out
+  unfolding writeNumbers
+  same = asked (λ x. writeListed x ns part out) _ (k .member) (getD ns 0 0) (t ∙ k .typed)
+
+  size : length frame ≡ layout .head + length part + 1
+  size = frame-length (1 ∷ k .kind .widths) (k .kind .code ∷ vs) part [] (layout .head) (ap suc (sym (length-given (k .kind .widths) ns 1))) (sym (k .head))
+
+  refuses : (d s r : ℕ) → writeRefusal d s false r ≡ 0 → ⊥
+  unfolding writeRefusal
+  refuses d s r e = go (not (eqb s d) || ltb 255 s) e
+    where
+      go : (b : Bool) → _≡_ {A = ℕ} (cond b 1 4) 0 → ⊥
+      go true z = omega arith
+      go false z = omega arith
+
+  pub unfit : (n : ℕ) → fitting (1 ∷ k .kind .widths) ns 0 ≡ false
+      → n ≡ writeRefusal (layout .head + 1 + extentOf code ns) (layout .head + length part + 1) false (length out)
+      → wrote (Written.Refused (record { number = n })) out ≡ writeNumbers ns part out
+  unfit n f e =
+      rw (same, f)
+      (unwritten (lengthOf (k .kind) (k .kind .extent vs)) false frame out n (rw (size, ← due) e) (λ z. refuses _ _ _ (sym e ∙ z)))
+
+  pub fit : (r : Written) (last : List ℕ) (good : Bool) → fitting (1 ∷ k .kind .widths) ns 0 ≡ true
+      → good ≡ takes (sealed (bytes (take (layout .count) (layout .widths)) (take (layout .count) ns) ++ part))
+      → wrote r last ≡ writing (layout .head + 1 + extentOf code ns) good (sealed (bytes (take (layout .count) (layout .widths)) (take (layout .count) ns) ++ part)) out
+      → wrote r last ≡ writeNumbers ns part out
+  fit r last good f g e =
+      let s : take (layout .count) ns ≡ k .kind .code ∷ vs = ap (λ (n : ℕ). take n ns) (k .counted) ∙ (fitting-stand (1 ∷ k .kind .widths) ns 0 f ∙ ap (λ (c : ℕ). c ∷ vs) (t ∙ k .typed)) in
+      let w : sealed (bytes (take (layout .count) (layout .widths)) (take (layout .count) ns) ++ part) ≡ frame = rw (k .widths, s) in
+      let h = fitting-fit (1 ∷ k .kind .widths) ns 0 f in
+      (rw (due, w) at e) ∙
+      (told-late (lengthOf (k .kind) (k .kind .extent vs)) good (k .kind .rule vs part) frame out
+      (λ d l. (rw w at g) ∙ takes-kept (k .kind) (k .member) vs part (h .1) d l)
+      ∙ sym (rw (same, f)))
+
+-- numbers whose type is that of no kind
+module _ (ns part out : List ℕ) where
+  refused-two : ((k : Kind) → List·Memᴰ k kinds → getD ns 0 0 ≡ k .code → ⊥) → wrote (Written.Refused (record { number = 2 })) out ≡ writeNumbers ns part out
+  unfolding writeNumbers
+  refused-two h =
+      ⊎-elim (λ r. absurd (h (r .0) (r .1) (r .2))) (λ r. sym (r Wrote (λ k. writeListed k ns part out) (record { said = refused 2; held = out })))
+      (known-or-not (getD ns 0 0))
+
+  pub too-large : 255 < getD ns 0 0 → wrote (Written.Refused (record { number = 2 })) out ≡ writeNumbers ns part out
+  too-large h = refused-two (λ k m e. omega (arith, code-fits m))
+
+  pub unknown : (layout : Layout) → layout ≡ layoutOf (getD ns 0 0) → layout .count ≡ 0 → wrote (Written.Refused (record { number = 2 })) out ≡ writeNumbers ns part out
+  unknown layout e z =
+      refused-two
+      (λ k m c.
+      let w = laid-out layout (getD ns 0 0) e .counted ∙ ap length (asked (λ x. 1 ∷ x .widths) [] m (getD ns 0 0) c) in
+      omega arith)

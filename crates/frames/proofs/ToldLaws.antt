@@ -1,11 +1,12 @@
 -- What an answer says is said by no other answer.
 -- Assumes nothing.
-use mathlib.Core.Path.{_≡_, refl, sym, ap, _∙_}
+use mathlib.Core.Path.{_≡_, refl}
 use mathlib.Core.Bool.{cond}
 use mathlib.Core.List.{List, [], _∷_}
 use Prim.Native.Nat.{ℕ}
 use lib.Dec.{eqb}
-use Rattle.octets.specs.Answers.{Said, OneToOne}
+use Rattle.octets.specs.Answers.{OneToOne}
+use Rattle.octets.proofs.AnswerLaws.{one-by-return}
 use Rattle.frames.specs.declared.answers.Frame.{Frame}
 use Rattle.frames.specs.declared.answers.Written.{Written}
 use Rattle.traffic.specs.Traffic.{dataFrom, updateFrom}
@@ -38,7 +39,7 @@ frame-back (Frame.Beacon f) = refl
 frame-back (Frame.Refused r) = refl
 
 pub told-one : OneToOne told
-told-one f g e = sym (frame-back f) ∙ (ap (λ (said : Said). frame-from (said .refusal) (said .values)) e ∙ frame-back g)
+told-one = one-by-return told frame-from frame-back
 
 -- the answer of a writer that says this
 written-from : ℕ → List ℕ → Written
@@ -51,5 +52,4 @@ written-back (Written.Done n) = refl
 written-back (Written.Refused r) = refl
 
 pub told-written-one : OneToOne toldWritten
-told-written-one f g e =
-    sym (written-back f) ∙ (ap (λ (said : Said). written-from (said .refusal) (said .values)) e ∙ written-back g)
+told-written-one = one-by-return toldWritten written-from written-back

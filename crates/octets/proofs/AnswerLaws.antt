@@ -1,12 +1,12 @@
 -- A call's answer, where a number refuses it and where none does.
 -- Assumes nothing.
-use mathlib.Core.Path.{_≡_, refl, sym}
+use mathlib.Core.Path.{_≡_, refl, sym, ap, _∙_}
 use mathlib.Core.Bool.{Bool, true, false, cond}
 use mathlib.Core.List.{List}
 use Prim.Native.Nat.{ℕ}
 use borrow.Author.Tests.{eq-eqb, ne-eqb, eqb-true}
 use lib.Dec.{eqb}
-use Rattle.octets.specs.Answers.{Said, accepted, refused, unless}
+use Rattle.octets.specs.Answers.{Said, accepted, refused, unless, OneToOne}
 
 module _ (n : ℕ) (said : Said) where
   pub unless-none : n ≡ 0 → unless n said ≡ said
@@ -22,3 +22,9 @@ unless-number n vs = go (eqb n 0) refl
     go : (t : Bool) → eqb n 0 ≡ t → cond t (accepted vs) (refused n) .refusal ≡ n
     go true q = sym (eqb-true n 0 q)
     go false q = refl
+
+-- an answer that can be told from what it says is said by no other
+pub one-by-return :
+    {A : Type 0} (told : A → Said) (from : ℕ → List ℕ → A) → ((a : A) → from (told a .refusal) (told a .values) ≡ a) → OneToOne told
+one-by-return told from back a b e =
+    sym (back a) ∙ (ap (λ (said : Said). from (said .refusal) (said .values)) e ∙ back b)

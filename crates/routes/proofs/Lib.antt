@@ -1,0 +1,4 @@
+pub mod PlaceLaws
+pub mod RowLaws
+pub mod TableLaws
+pub mod ToldLaws

@@ -1,0 +1,9 @@
+use borrow.Author.Needs.{needs}
+use Rattle.routes.proofs.row.Row.forgotten.Statement.{statement}
+use Rattle.routes.proofs.row.Row.forgotten.Tie as tie
+
+returns : tie.Need-returns
+returns c = cc
+
+pub forgotten-spec : {M : Type 1} → statement M
+forgotten-spec = tie.close (tie.spec (λ c κs. search needs) (λ c κs. search needs) returns)

@@ -1,0 +1,72 @@
+-- A table within rule, and what fresh table, lookup and forget answer.
+-- Assumes nothing.
+use Prim.Native.Nat.{ℕ}
+use mathlib.Core.Bool.{Bool, false, not, _&&_, cond}
+use mathlib.Core.List.{List, [], _∷_, map}
+use lib.Dec.{eqb}
+use lib.ListN.{length, drop, replicate}
+use Rattle.octets.specs.Answers.{Said, accepted, reason, first, unless}
+use Rattle.octets.specs.Lists.{every}
+use Rattle.moments.specs.Moments.{inOrder}
+use Rattle.shapes.specs.Rules.{address}
+use Rattle.routes.specs.declared.row.Row.{Row}
+use Rattle.routes.specs.declared.table.Table.{Table}
+use Rattle.routes.specs.declared.table.Changed.{Changed}
+use Rattle.routes.specs.Rows.{none, usable, rowRule, isNone, forgotten, ascending, inUse, pad, standing, rowFor}
+
+-- the rows of a table, in order
+abbrev pub rowsOf : Table → List Row
+rowsOf t = inUse (t .rows)
+
+-- the last pair forwarded: its original source is an address; where there is none, its fields are zero
+abbrev pub pairOk : Bool → ℕ → ℕ → Bool
+pairOk forwarded origin sequence = cond forwarded (address origin) (eqb origin 0 && eqb sequence 0)
+
+-- a table is within rule: its unit is an address, its rows ascend and keep their rules, and every place behind them is zeros
+unfoldable pub withinRule : Table → Bool
+withinRule t =
+    address (t .own) && pairOk (t .forwarded) (t .origin) (t .sequence) && ascending (rowsOf t) && every (rowRule (t .own) (t .time)) (rowsOf t)
+    && every isNone (drop (length (rowsOf t)) (t .rows))
+
+-- the table with these rows at this time
+abbrev pub withRows : Table → ℕ → List Row → Table
+withRows t time rs = record { own = t .own; time = time; forwarded = t .forwarded; origin = t .origin; sequence = t .sequence; rows = pad rs }
+
+-- a changing call: the number that refuses it with the table as it was, or the new table
+abbrev pub settled : ℕ → Table → Table → Changed
+settled number t new = record { refused = number; table = cond (eqb number 0) new t }
+
+-- ---- the calls
+
+-- a table with no rows
+abbrev pub emptyTable : ℕ → ℕ → Table
+emptyTable own time = record { own = own; time = time; forwarded = false; origin = 0; sequence = 0; rows = replicate 48 none }
+
+-- fresh table: 4, and then a table of zeros, else the empty table of this unit with the time as last accepted
+unfoldable pub freshOf : ℕ → ℕ → Changed
+freshOf own time = settled (first (reason (not (address own)) 4 ∷ [])) (emptyTable 0 0) (emptyTable own time)
+
+-- lookup: 14 4 8 11, else the next hop and the hops of the usable row
+unfoldable pub lookupOf : Table → ℕ → ℕ → Said
+lookupOf t d time =
+    let r = rowFor d (rowsOf t) in
+    unless
+    (first
+    (reason (not (withinRule t)) 14 ∷
+    reason (not (address d)) 4 ∷
+    reason (not (inOrder (t .time) time)) 8 ∷
+    reason (not (eqb (r .destination) d && usable time r)) 11 ∷
+    []))
+    (accepted (r .«next_hop» ∷ r .hops ∷ []))
+
+-- forget: 14 4 6 8
+unfoldable pub forgetOf : Table → ℕ → ℕ → Changed
+forgetOf t unit time =
+    settled
+    (first
+    (reason (not (withinRule t)) 14 ∷
+    reason (not (address unit)) 4 ∷
+    reason (eqb unit (t .own)) 6 ∷
+    reason (not (inOrder (t .time) time)) 8 ∷
+    []))
+    t (withRows t time (map (forgotten unit time) (standing time (rowsOf t))))

@@ -1,0 +1,258 @@
+// A unit's table of at most 48 routes, by value.
+ghost use mathlib.Core.Path.{_≡_};
+ghost use mathlib.Core.Bool.{cond};
+ghost use mathlib.Core.List.{[], _∷_, map};
+ghost use Rattle.routes.specs.Places.{okPlaces};
+ghost use Rattle.routes.specs.Rows.{forgotten, inUse, pad, standing, rowFor};
+ghost use Rattle.octets.specs.Answers.{accepted, reason, first, unless};
+ghost use Rattle.routes.specs.Tables.{pairOk, withinRule, settled, emptyTable, freshOf, lookupOf, forgetOf};
+ghost use Rattle.routes.specs.Told.{toldFound};
+use crate::row::Row;
+use frames::answers::Refusal;
+use moments::in_order;
+
+// `forwarded` says whether a beacon was forwarded; `origin` and `sequence` are then the pair of the last one.
+pub struct Table {
+    pub own: u16,
+    pub time: u32,
+    pub forwarded: bool,
+    pub origin: u16,
+    pub sequence: u16,
+    pub rows: [Row; 48],
+}
+
+// What a changing call gives: the table, which is as it was where `refused` is not 0.
+pub struct Changed {
+    pub refused: u8,
+    pub table: Table,
+}
+
+pub struct Hop {
+    pub next_hop: u16,
+    pub hops: u8,
+}
+
+// What a lookup answers.
+pub enum Found {
+    Hop(Hop),
+    Refused(Refusal),
+}
+
+// Whether each place may stand before the next.
+fn places_ok(own: u16, last: u32, rows: [Row; 48]) -> bool
+    ensures { λ r. ⌜ r ≡ okPlaces own last rows ⌝ }
+{
+    for i in 0..47 {
+        let row = rows[i];
+        let after = rows[i + 1];
+        if !row.ordered(own, last, after.destination) {
+            return false;
+        }
+    }
+    let row = rows[47];
+    row.ordered(own, last, 0)
+}
+
+// The pair of the last beacon forwarded, or zeros.
+fn pair_ok(forwarded: bool, origin: u16, sequence: u16) -> bool
+    ensures { λ r. ⌜ r ≡ pairOk forwarded origin sequence ⌝ }
+{
+    if forwarded {
+        (1 <= origin) & (origin <= 0xFFFE)
+    } else {
+        (origin == 0) & (sequence == 0)
+    }
+}
+
+// The number of the first of four reasons that holds, 0 where none does.
+fn first_of(a: bool, an: u8, b: bool, bn: u8, c: bool, cn: u8, d: bool, dn: u8) -> u8
+    ensures { λ r. ⌜ r ≡ first (reason a an ∷ reason b bn ∷ reason c cn ∷ reason d dn ∷ []) ⌝ }
+{
+    if a {
+        an
+    } else if b {
+        bn
+    } else if c {
+        cn
+    } else if d {
+        dn
+    } else {
+        0
+    }
+}
+
+// The row for a destination, or none.
+fn row_for(rows: [Row; 48], destination: u16) -> Row
+    ensures { λ r. ⌜ r ≡ rowFor destination (inUse rows) ⌝ }
+{
+    for i in 0..48 {
+        let row = rows[i];
+        if row.destination == 0 {
+            return Row::none();
+        }
+        if row.destination == destination {
+            return row;
+        }
+    }
+    Row::none()
+}
+
+// The rows that stand, at the front.
+fn standing_rows(rows: [Row; 48], time: u32) -> [Row; 48]
+    ensures { λ r. ⌜ r ≡ pad (standing time (inUse rows)) ⌝ }
+{
+    let mut out = [Row {
+        destination: 0,
+        next_hop: 0,
+        hops: 0,
+        quality: 0,
+        time: 0,
+        withdrawn: false,
+    }; 48];
+    let mut n = 0;
+    for i in 0..48 {
+        let row = rows[i];
+        if row.destination == 0 {
+            return out;
+        }
+        if !row.stands(time) {
+            continue;
+        }
+        out[n] = row;
+        n += 1;
+    }
+    out
+}
+
+// Each row when a unit is forgotten.
+fn forgotten_rows(rows: [Row; 48], unit: u16, time: u32) -> [Row; 48]
+    ensures { λ r. ⌜ r ≡ map (forgotten unit time) rows ⌝ }
+{
+    let mut out = rows;
+    for i in 0..48 {
+        let row = out[i];
+        out[i] = row.forgotten(unit, time);
+    }
+    out
+}
+
+fn zeros(own: u16, time: u32) -> Table
+    ensures { λ r. ⌜ r ≡ emptyTable own time ⌝ }
+{
+    Table {
+        own,
+        time,
+        forwarded: false,
+        origin: 0,
+        sequence: 0,
+        rows: [Row {
+            destination: 0,
+            next_hop: 0,
+            hops: 0,
+            quality: 0,
+            time: 0,
+            withdrawn: false,
+        }; 48],
+    }
+}
+
+// The table that a call gives: the new one, or the old one with the number that refuses the call.
+fn settled(refused: u8, old: Table, new: Table) -> Changed
+    ensures { λ r. ⌜ r ≡ settled refused old new ⌝ }
+{
+    if refused == 0 {
+        return Changed {
+            refused,
+            table: new,
+        };
+    }
+    Changed {
+        refused,
+        table: old,
+    }
+}
+
+fn answered(refused: u8, row: Row) -> Found
+    ensures { λ r. ⌜ toldFound r ≡ unless refused (accepted (row .«next_hop» ∷ row .hops ∷ [])) ⌝ }
+{
+    if refused == 0 {
+        return Found::Hop(Hop {
+            next_hop: row.next_hop,
+            hops: row.hops,
+        });
+    }
+    Found::Refused(Refusal { number: refused })
+}
+
+impl Table {
+    // An empty table; a unit that is no address is refused, with zeros.
+    pub fn fresh(own: u16, time: u32) -> Changed
+        ensures { λ r. ⌜ r ≡ freshOf own time ⌝ }
+    {
+        let address = (1 <= own) & (own <= 0xFFFE);
+        let refused = first_of(!address, 4, false, 0, false, 0, false, 0);
+        settled(refused, zeros(0, 0), zeros(own, time))
+    }
+
+    // Whether it is a table as document 01 says.
+    pub fn within_rule(self) -> bool
+        ensures { λ r. ⌜ r ≡ withinRule self ⌝ }
+    {
+        let rows = self.rows;
+        ((1 <= self.own) & (self.own <= 0xFFFE))
+            & pair_ok(self.forwarded, self.origin, self.sequence)
+            & places_ok(self.own, self.time, rows)
+    }
+
+    // The next hop to a destination, by a row that is usable at this time.
+    pub fn lookup(self, destination: u16, time: u32) -> Found
+        ensures { λ r. ⌜ toldFound r ≡ lookupOf self destination time ⌝ }
+    {
+        let rows = self.rows;
+        let row = row_for(rows, destination);
+        let address = (1 <= destination) & (destination <= 0xFFFE);
+        let usable = (row.destination == destination) & row.usable(time);
+        let refused = first_of(
+            !self.within_rule(),
+            14,
+            !address,
+            4,
+            !in_order(self.time, time),
+            8,
+            !usable,
+            11,
+        );
+        answered(refused, row)
+    }
+
+    // Withdraws all usable rows to a unit or through it.
+    pub fn forget(self, unit: u16, time: u32) -> Changed
+        ensures { λ r. ⌜ r ≡ forgetOf self unit time ⌝ }
+    {
+        let rows = self.rows;
+        let address = (1 <= unit) & (unit <= 0xFFFE);
+        let refused = first_of(
+            !self.within_rule(),
+            14,
+            !address,
+            4,
+            unit == self.own,
+            6,
+            !in_order(self.time, time),
+            8,
+        );
+        let next = forgotten_rows(standing_rows(rows, time), unit, time);
+        settled(
+            refused,
+            self,
+            Table {
+                own: self.own,
+                time,
+                forwarded: self.forwarded,
+                origin: self.origin,
+                sequence: self.sequence,
+                rows: next,
+            },
+        )
+    }
+}

@@ -1,0 +1,4 @@
+pub mod LifeLaws
+pub mod MomentLaws
+pub mod StepLaws
+pub mod TableLaws

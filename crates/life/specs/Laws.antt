@@ -1,0 +1,45 @@
+-- What holds of every life, as statements.
+-- Assumes nothing.
+use mathlib.Core.Path.{_≡_}
+use mathlib.Core.Bool.{true}
+use mathlib.Core.List.{List, [], _∷_}
+use Prim.Native.Nat.{ℕ, _*_, _<_, _≤_}
+use Rattle.moments.specs.Moments.{ageAt}
+use Rattle.life.specs.declared.state.State.{State}
+use Rattle.life.specs.Calls.{withinRule, onEvent, onTick}
+use Rattle.life.specs.States.{Normal, Recovery, Stopped, leadsTo}
+
+-- every accepted call gives a state within rule
+abbrev pub KeepsRule : Type 0
+KeepsRule =
+    (s : State) (time : ℕ)
+    → ((event : ℕ) → onEvent s event time .refused ≡ 0 → withinRule (onEvent s event time .state) ≡ true)
+    × ((ms : ℕ) → onTick s ms time .refused ≡ 0 → withinRule (onTick s ms time .state) ≡ true)
+
+-- Stopped is never left
+abbrev pub StaysStopped : Type 0
+StaysStopped =
+    (s : State) (time : ℕ) → s .kind ≡ Stopped
+    → ((event : ℕ) → onEvent s event time .state .kind ≡ Stopped)
+    × ((ms : ℕ) → onTick s ms time .state .kind ≡ Stopped)
+
+-- a list of events, each at the same time, that are all accepted, from one kind to another
+abbrev pub follow : ℕ → List ℕ → ℕ
+follow kind [] = kind
+follow kind (e ∷ es) = follow (leadsTo kind e) es
+
+-- from every state but Stopped some events lead to Normal: the table has no other trap
+abbrev pub NoOtherTrap : Type 0
+NoOtherTrap = (kind : ℕ) → kind < Stopped → (es : List ℕ) × (follow kind es ≡ Normal)
+
+-- a unit in Normal is in Recovery after the first accepted tick more than three superframes after its last beacon, and no earlier
+abbrev pub NoticesSilence : Type 0
+NoticesSilence =
+    (s : State) (ms time : ℕ) → s .kind ≡ Normal → onTick s ms time .refused ≡ 0
+    → (3 * ms < ageAt time (s .beacon) → onTick s ms time .state .kind ≡ Recovery)
+    × (ageAt time (s .beacon) ≤ 3 * ms → onTick s ms time .state .kind ≡ Normal)
+
+-- entering Normal records a beacon, so that three superframes begin again
+abbrev pub StartsAnew : Type 0
+StartsAnew =
+    (s : State) (event time : ℕ) → onEvent s event time .refused ≡ 0 → leadsTo (s .kind) event ≡ Normal → onEvent s event time .state .beacon ≡ time

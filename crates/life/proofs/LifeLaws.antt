@@ -11,18 +11,22 @@ use Rattle.life.specs.States.{Stopped, ready, beacon, accepted, roleChan
 use Rattle.life.specs.declared.state.State.{State}
 use Rattle.life.specs.Calls.{onEvent, onTick, gone}
 use Rattle.life.specs.Laws.{KeepsRule, StaysStopped, NoOtherTrap, NoticesSilence, StartsAnew}
+use Rattle.life.proofs.MomentLaws.{in-order-self}
 use Rattle.life.proofs.TableLaws.{leads-known, tick-known, stays-normal, of-choice}
 use Rattle.life.proofs.StepLaws.{passed, allowed, keeps, refused-anyhow, records}
 
 pub keeps-rule : KeepsRule
 unfolding onEvent onTick
-keeps-rule s time = (
-  λ event e.
-      let a = allowed s time _ e in
-      rw (eq-eqb (onEvent s event time .refused) 0 e) (keeps _ _ a (leads-known (s .kind) event (passed _ 6 0 (a .none) .0))),
-  λ ms e.
-      let a = allowed s time _ e in
-      rw (eq-eqb (onTick s ms time .refused) 0 e) (keeps _ _ a (tick-known (s .kind) _ _ _ (a .known))),
+keeps-rule = (
+  λ time. rw (in-order-self time),
+  λ s time. (
+    λ event e.
+        let a = allowed s time _ e in
+        rw (eq-eqb (onEvent s event time .refused) 0 e) (keeps _ _ a (leads-known (s .kind) event (passed _ 6 0 (a .none) .0))),
+    λ ms e.
+        let a = allowed s time _ e in
+        rw (eq-eqb (onTick s ms time .refused) 0 e) (keeps _ _ a (tick-known (s .kind) _ _ _ (a .known))),
+  ),
 )
 
 pub stays-stopped : StaysStopped

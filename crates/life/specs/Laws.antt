@@ -6,15 +6,16 @@ use mathlib.Core.List.{List, [], _∷_}
 use Prim.Native.Nat.{ℕ, _*_, _<_, _≤_}
 use Rattle.moments.specs.Moments.{ageAt}
 use Rattle.life.specs.declared.state.State.{State}
-use Rattle.life.specs.Calls.{withinRule, onEvent, onTick}
+use Rattle.life.specs.Calls.{withinRule, freshState, onEvent, onTick}
 use Rattle.life.specs.States.{Normal, Recovery, Stopped, leadsTo}
 
--- every accepted call gives a state within rule
+-- a fresh state is within rule, and every accepted call gives one that is
 abbrev pub KeepsRule : Type 0
 KeepsRule =
-    (s : State) (time : ℕ)
+    ((time : ℕ) → withinRule (freshState time) ≡ true)
+    × ((s : State) (time : ℕ)
     → ((event : ℕ) → onEvent s event time .refused ≡ 0 → withinRule (onEvent s event time .state) ≡ true)
-    × ((ms : ℕ) → onTick s ms time .refused ≡ 0 → withinRule (onTick s ms time .state) ≡ true)
+    × ((ms : ℕ) → onTick s ms time .refused ≡ 0 → withinRule (onTick s ms time .state) ≡ true))
 
 -- Stopped is never left
 abbrev pub StaysStopped : Type 0
@@ -23,16 +24,16 @@ StaysStopped =
     → ((event : ℕ) → onEvent s event time .state .kind ≡ Stopped)
     × ((ms : ℕ) → onTick s ms time .state .kind ≡ Stopped)
 
--- a list of events, each at the same time, that are all accepted, from one kind to another
+-- where a list of events leads from a kind, by the table alone; an event that is not listed leads Nowhere, and from there none leads on
 abbrev pub follow : ℕ → List ℕ → ℕ
 follow kind [] = kind
 follow kind (e ∷ es) = follow (leadsTo kind e) es
 
--- from every state but Stopped some events lead to Normal: the table has no other trap
+-- from every kind but Stopped the table has a list of events to Normal: it has no other trap
 abbrev pub NoOtherTrap : Type 0
 NoOtherTrap = (kind : ℕ) → kind < Stopped → (es : List ℕ) × (follow kind es ≡ Normal)
 
--- a unit in Normal is in Recovery after the first accepted tick more than three superframes after its last beacon, and no earlier
+-- an accepted tick in Normal leads to Recovery if it comes more than three superframes after the last beacon, and else stays in Normal
 abbrev pub NoticesSilence : Type 0
 NoticesSilence =
     (s : State) (ms time : ℕ) → s .kind ≡ Normal → onTick s ms time .refused ≡ 0

@@ -1,4 +1,3 @@
 pub mod LifeLaws
-pub mod MomentLaws
 pub mod StepLaws
 pub mod TableLaws

@@ -11,7 +11,7 @@ use Rattle.life.specs.States.{Stopped, ready, beacon, accepted, roleChan
 use Rattle.life.specs.declared.state.State.{State}
 use Rattle.life.specs.Calls.{onEvent, onTick, gone}
 use Rattle.life.specs.Laws.{KeepsRule, StaysStopped, NoOtherTrap, NoticesSilence, StartsAnew}
-use Rattle.life.proofs.MomentLaws.{in-order-self}
+use Rattle.moments.proofs.MomentLaws.{in-order-self}
 use Rattle.life.proofs.TableLaws.{leads-known, tick-known, stays-normal, of-choice}
 use Rattle.life.proofs.StepLaws.{passed, allowed, keeps, refused-anyhow, records}
 

@@ -10,7 +10,7 @@ use Rattle.moments.specs.Moments.{inOrder}
 use Rattle.life.specs.declared.state.State.{State}
 use Rattle.life.specs.States.{Normal, Stopped}
 use Rattle.life.specs.Calls.{withinRule, gone}
-use Rattle.life.proofs.MomentLaws.{in-order-self, in-order-on}
+use Rattle.moments.proofs.MomentLaws.{in-order-self, in-order-on}
 use Rattle.life.proofs.TableLaws.{of-choice}
 
 -- where no number is given, a reason does not hold and those behind it give none

@@ -1,4 +1,5 @@
 pub mod PlaceLaws
 pub mod RowLaws
+pub mod StandingLaws
 pub mod TableLaws
 pub mod ToldLaws

@@ -1,14 +1,14 @@
 -- The calls on a table, from what its parts say.
 -- Assumes nothing.
 use mathlib.Core.Path.{_≡_, refl, sym, ap, _∙_}
-use mathlib.Core.Bool.{Bool, true, false, not, _&&_, cond}
+use mathlib.Core.Bool.{Bool, true, false, not, _&&_, cond, and-eq-true-iff, false≢true}
 use mathlib.Core.List.{List, [], _∷_, _++_, map}
-use Prim.Native.Nat.{ℕ, zero, suc}
+use Prim.Native.Nat.{ℕ, zero, suc, _-_}
 use native.Mathlib.Decide.{ℕ-discrete}
 use native.Mathlib.Omega.{arith}
-use borrow.Author.Tests.{ne-eqb, leb-true}
+use borrow.Author.Tests.{ne-eqb, leb-true, eqb-true, not-true}
 use lib.Dec.{eqb, leb}
-use lib.ListN.{replicate, length-map}
+use lib.ListN.{length, drop, replicate, length-map, length-drop}
 use Rattle.octets.specs.Answers.{Reason, reason, first}
 use Rattle.octets.specs.Lists.{every}
 use Rattle.moments.specs.Moments.{inOrder}
@@ -16,9 +16,10 @@ use Rattle.shapes.specs.Rules.{address}
 use Rattle.routes.specs.declared.row.Row.{Row}
 use Rattle.routes.specs.declared.table.Table.{Table}
 use Rattle.routes.specs.Places.{okPlaces}
-use Rattle.routes.specs.Rows.{none, usable, rowRule, forgotten, ascending, inUse, pad, standing}
-use Rattle.routes.specs.Tables.{pairOk, withinRule, settled, withRows, forgetOf}
+use Rattle.routes.specs.Rows.{none, usable, rowRule, isNone, forgotten, ascending, inUse, pad, standing, standingPlaces}
+use Rattle.routes.specs.Tables.{rowsOf, pairOk, withinRule, settled, withRows, forgetOf}
 use Rattle.routes.proofs.PlaceLaws.{ok-right}
+use Rattle.routes.proofs.StandingLaws.{standing-places}
 
 regrouped : (x a e n : Bool) → (x && (a && e && n)) ≡ (x && a && e && n)
 regrouped true a e n = refl
@@ -57,31 +58,97 @@ forgotten-none unit time h = rw (ne-eqb 0 unit (λ z. h (sym z))) (go (usable ti
     go true = refl
     go false = refl
 
--- what an accepted call says of the unit that it names
-pub second-passed : (a b : Bool) (m n : ℕ) (rest : List Reason) → (m ≡ 0 → ⊥) → (n ≡ 0 → ⊥) → first (reason a m ∷ reason (not b) n ∷ rest) ≡ 0 → b ≡ true
-second-passed true b m n rest p q e = absurd (p e)
-second-passed false true m n rest p q e = refl
-second-passed false false m n rest p q e = absurd (q e)
+-- what an accepted call says of the table and the unit that it names
+pub record Passed (a b : Bool) : Type 0 where
+  pub within : a ≡ true
+  pub unit : b ≡ true
+
+pub two-passed : (a b : Bool) (m n : ℕ) (rest : List Reason) → (m ≡ 0 → ⊥) → (n ≡ 0 → ⊥) → first (reason (not a) m ∷ reason (not b) n ∷ rest) ≡ 0 → Passed a b
+two-passed false b m n rest p q e = absurd (p e)
+two-passed true true m n rest p q e = record { within = refl; unit = refl }
+two-passed true false m n rest p q e = absurd (q e)
 
 pub address-some : (unit : ℕ) → address unit ≡ true → unit ≡ 0 → ⊥
-address-some unit e z = go (leb 1 unit) refl e
+address-some unit e z = omega (arith, leb-true 1 unit (and-eq-true-iff (leb 1 unit) (leb unit 0xFFFE) .0 e .0))
+
+-- ---- the places of a table within rule are its rows, with zeros behind them
+abbrev built : ℕ → ℕ → ℕ → ℕ → ℕ → Bool → Row
+built destination next hops quality time withdrawn =
+    record { destination = destination; «next_hop» = next; hops = hops; quality = quality; time = time; withdrawn = withdrawn }
+
+is-none : (r : Row) → isNone r ≡ true → r ≡ none
+is-none r e =
+    let (a, withdrawn) = and-eq-true-iff (eqb (r .destination) 0 && eqb (r .«next_hop») 0 && eqb (r .hops) 0 && eqb (r .quality) 0 && eqb (r .time) 0) (not (r .withdrawn)) .0 e in
+    let (b, time) = and-eq-true-iff (eqb (r .destination) 0 && eqb (r .«next_hop») 0 && eqb (r .hops) 0 && eqb (r .quality) 0) (eqb (r .time) 0) .0 a in
+    let (c, quality) = and-eq-true-iff (eqb (r .destination) 0 && eqb (r .«next_hop») 0 && eqb (r .hops) 0) (eqb (r .quality) 0) .0 b in
+    let (d, hops) = and-eq-true-iff (eqb (r .destination) 0 && eqb (r .«next_hop») 0) (eqb (r .hops) 0) .0 c in
+    let (destination, next) = and-eq-true-iff (eqb (r .destination) 0) (eqb (r .«next_hop») 0) .0 d in
+    let whole : built (r .destination) (r .«next_hop») (r .hops) (r .quality) (r .time) (r .withdrawn) ≡ none =
+    rw (eqb-true (r .destination) 0 destination, eqb-true (r .«next_hop») 0 next, eqb-true (r .hops) 0 hops, eqb-true (r .quality) 0 quality, eqb-true (r .time) 0 time, not-true (r .withdrawn) withdrawn) in
+    whole
+
+all-none : (rs : List Row) → every isNone rs ≡ true → rs ≡ replicate (length rs) none
+unfolding every
+all-none [] e = refl
+all-none (r ∷ rs) e =
+    let (here, later) = and-eq-true-iff (isNone r) (every isNone rs) .0 e in
+    rw (is-none r here) (ap (λ (l : List Row). none ∷ l) (all-none rs later))
+
+-- the rows in use stand first
+in-use-first : (rs : List Row) → inUse rs ++ drop (length (inUse rs)) rs ≡ rs
+in-use-first [] = refl
+in-use-first (r ∷ rs) = go (eqb (r .destination) 0) (in-use-first rs)
   where
-    go : (b : Bool) → leb 1 unit ≡ b → (b && leb unit 0xFFFE) ≡ true → ⊥
-    go true q r = omega (arith, leb-true 1 unit q)
-    go false q r = mathlib.Core.Bool.false≢true r
+    go : (b : Bool) → inUse rs ++ drop (length (inUse rs)) rs ≡ rs → cond b [] (r ∷ inUse rs) ++ drop (length (cond b [] (r ∷ inUse rs))) (r ∷ rs) ≡ r ∷ rs
+    go true h = refl
+    go false h = ap (λ (l : List Row). r ∷ l) h
+
+-- the five parts of the rule
+pub record Within (t : Table) : Type 0 where
+  pub unit : address (t .own) ≡ true
+  pub pair : pairOk (t .forwarded) (t .origin) (t .sequence) ≡ true
+  pub ascends : ascending (rowsOf t) ≡ true
+  pub rules : every (rowRule (t .own) (t .time)) (rowsOf t) ≡ true
+  pub zeros : every isNone (drop (length (rowsOf t)) (t .rows)) ≡ true
+
+five : (u p a r z : Bool) → (u && p && a && r && z) ≡ true → (u ≡ true) × (p ≡ true) × (a ≡ true) × (r ≡ true) × (z ≡ true)
+five true true true true true e = (refl, refl, refl, refl, refl)
+five true true true true false e = absurd (false≢true e)
+five true true true false z e = absurd (false≢true e)
+five true true false r z e = absurd (false≢true e)
+five true false a r z e = absurd (false≢true e)
+five false p a r z e = absurd (false≢true e)
+
+pub within : (t : Table) → withinRule t ≡ true → Within t
+unfolding withinRule
+within t e =
+    let w = five (address (t .own)) (pairOk (t .forwarded) (t .origin) (t .sequence)) (ascending (rowsOf t)) (every (rowRule (t .own) (t .time)) (rowsOf t)) (every isNone (drop (length (rowsOf t)) (t .rows))) e in
+    record { unit = w .0; pair = w .1; ascends = w .2; rules = w .3; zeros = w .4 }
+
+pub by-parts : (t : Table) → Within t → withinRule t ≡ true
+unfolding withinRule
+by-parts t w = rw (w .unit, w .pair, w .ascends, w .rules, w .zeros)
+
+pub held : (t : Table) → length (t .rows) ≡ 48 → withinRule t ≡ true → t .rows ≡ pad (rowsOf t)
+unfolding pad
+held t l e =
+    let behind = drop (length (rowsOf t)) (t .rows) in
+    let count : length behind ≡ 48 - length (rowsOf t) = length-drop (length (rowsOf t)) (t .rows) ∙ rw l in
+    sym (in-use-first (t .rows)) ∙ ap (λ (rs : List Row). rowsOf t ++ rs) (all-none behind (within t e .zeros) ∙ ap (λ (n : ℕ). replicate n none) count)
 
 -- the table of an accepted forget, with its rows as the loops leave them
-module _ (t : Table) (unit time n : ℕ) (rows : List Row) where
+module _ (t : Table) (unit time n : ℕ) (rows : List Row) (l : length (t .rows) ≡ 48) where
   abbrev Left : Table
   Left = record { own = t .own; time = time; forwarded = t .forwarded; origin = t .origin; sequence = t .sequence; rows = rows }
 
   pub forgets : n ≡ first (reason (not (withinRule t)) 14 ∷ reason (not (address unit)) 4 ∷ reason (eqb unit (t .own)) 6 ∷ reason (not (inOrder (t .time) time)) 8 ∷ [])
-      → rows ≡ map (forgotten unit time) (pad (standing time (inUse (t .rows)))) → settled n t Left ≡ forgetOf t unit time
+      → rows ≡ map (forgotten unit time) (standingPlaces time (t .rows)) → settled n t Left ≡ forgetOf t unit time
   unfolding forgetOf
   forgets e q =
-      let h : n ≡ 0 → Left ≡ withRows t time (map (forgotten unit time) (standing time (inUse (t .rows)))) =
+      let h : n ≡ 0 → Left ≡ withRows t time (map (forgotten unit time) (standing time (rowsOf t))) =
       λ z.
-      let a : address unit ≡ true = second-passed (not (withinRule t)) (address unit) 14 4 (reason (eqb unit (t .own)) 6 ∷ reason (not (inOrder (t .time) time)) 8 ∷ []) (λ y. omega arith) (λ y. omega arith) (sym e ∙ z) in
+      let p = two-passed (withinRule t) (address unit) 14 4 (reason (eqb unit (t .own)) 6 ∷ reason (not (inOrder (t .time) time)) 8 ∷ []) (λ y. omega arith) (λ y. omega arith) (sym e ∙ z) in
+      let stand = ap (map (forgotten unit time)) (standing-places time (t .rows) (held t l (p .within))) in
       ap (λ (rs : List Row). record { own = t .own; time = time; forwarded = t .forwarded; origin = t .origin; sequence = t .sequence; rows = rs })
-      (q ∙ map-pad (forgotten unit time) (forgotten-none unit time (address-some unit a)) (standing time (inUse (t .rows)))) in
+      (q ∙ (stand ∙ map-pad (forgotten unit time) (forgotten-none unit time (address-some unit (p .unit))) (standing time (rowsOf t)))) in
       settled-same n t Left _ h ∙ rw e

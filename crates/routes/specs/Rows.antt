@@ -5,6 +5,7 @@ use mathlib.Core.Bool.{Bool, true, false, not, _&&_, _||_, cond}
 use mathlib.Core.List.{List, [], _∷_, _++_}
 use lib.Dec.{eqb, leb, ltb}
 use lib.ListN.{length, replicate}
+use Rattle.octets.specs.Lists.{every}
 use Rattle.moments.specs.Moments.{ageAt, inOrder}
 use Rattle.shapes.specs.Rules.{address}
 use Rattle.routes.specs.declared.row.Row.{Row}
@@ -67,6 +68,10 @@ pad rs = rs ++ replicate (48 - length rs) none
 abbrev pub standing : ℕ → List Row → List Row
 standing time [] = []
 standing time (r ∷ rs) = cond (stands time r) (r ∷ standing time rs) (standing time rs)
+
+-- the 48 places when the rows that are gone have been dropped: as they were where none is
+unfoldable pub standingPlaces : ℕ → List Row → List Row
+standingPlaces time places = cond (every (stands time) (inUse places)) places (pad (standing time (inUse places)))
 
 -- the row for a destination, `none` where there is none
 abbrev pub rowFor : ℕ → List Row → Row

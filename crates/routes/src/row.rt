@@ -29,7 +29,8 @@ fn either(test: bool, first: Row, second: Row) -> Row
 }
 
 impl Row {
-    pub(crate) fn none() -> Row
+    // A place that is not in use.
+    pub fn none() -> Row
         ensures { λ r. ⌜ r ≡ none ⌝ }
     {
         Row {
@@ -43,7 +44,7 @@ impl Row {
     }
 
     // Whether it may carry traffic at this time.
-    pub(crate) fn usable(self, time: u32) -> bool
+    pub fn usable(self, time: u32) -> bool
         ensures { λ r. ⌜ r ≡ usable time self ⌝ }
     {
         !self.withdrawn & (age(time, self.time) <= 300000)

@@ -1,15 +1,16 @@
 // A unit's table of at most 48 routes, by value.
 ghost use mathlib.Core.Path.{_≡_};
-ghost use mathlib.Core.Bool.{cond};
 ghost use mathlib.Core.List.{[], _∷_, map};
 ghost use Rattle.routes.specs.Places.{okPlaces};
-ghost use Rattle.routes.specs.Rows.{forgotten, inUse, pad, standing, rowFor};
-ghost use Rattle.octets.specs.Answers.{accepted, reason, first, unless};
+ghost use Rattle.routes.specs.Rows.{forgotten, inUse, rowFor};
+ghost use Rattle.octets.specs.Answers.{accepted, unless};
 ghost use Rattle.routes.specs.Tables.{pairOk, withinRule, settled, emptyTable, freshOf, lookupOf, forgetOf};
 ghost use Rattle.routes.specs.Told.{toldFound};
 use crate::row::Row;
+use crate::standing::standing_places;
 use frames::answers::Refusal;
 use moments::in_order;
+use octets::answers::refuse_if;
 
 // `forwarded` says whether a beacon was forwarded; `origin` and `sequence` are then the pair of the last one.
 pub struct Table {
@@ -64,23 +65,6 @@ fn pair_ok(forwarded: bool, origin: u16, sequence: u16) -> bool
     }
 }
 
-// The number of the first of four reasons that holds, 0 where none does.
-fn first_of(a: bool, an: u8, b: bool, bn: u8, c: bool, cn: u8, d: bool, dn: u8) -> u8
-    ensures { λ r. ⌜ r ≡ first (reason a an ∷ reason b bn ∷ reason c cn ∷ reason d dn ∷ []) ⌝ }
-{
-    if a {
-        an
-    } else if b {
-        bn
-    } else if c {
-        cn
-    } else if d {
-        dn
-    } else {
-        0
-    }
-}
-
 // The row for a destination, or none.
 fn row_for(rows: [Row; 48], destination: u16) -> Row
     ensures { λ r. ⌜ r ≡ rowFor destination (inUse rows) ⌝ }
@@ -95,33 +79,6 @@ fn row_for(rows: [Row; 48], destination: u16) -> Row
         }
     }
     Row::none()
-}
-
-// The rows that stand, at the front.
-fn standing_rows(rows: [Row; 48], time: u32) -> [Row; 48]
-    ensures { λ r. ⌜ r ≡ pad (standing time (inUse rows)) ⌝ }
-{
-    let mut out = [Row {
-        destination: 0,
-        next_hop: 0,
-        hops: 0,
-        quality: 0,
-        time: 0,
-        withdrawn: false,
-    }; 48];
-    let mut n = 0;
-    for i in 0..48 {
-        let row = rows[i];
-        if row.destination == 0 {
-            return out;
-        }
-        if !row.stands(time) {
-            continue;
-        }
-        out[n] = row;
-        n += 1;
-    }
-    out
 }
 
 // Each row when a unit is forgotten.
@@ -190,8 +147,7 @@ impl Table {
         ensures { λ r. ⌜ r ≡ freshOf own time ⌝ }
     {
         let address = (1 <= own) & (own <= 0xFFFE);
-        let refused = first_of(!address, 4, false, 0, false, 0, false, 0);
-        settled(refused, zeros(0, 0), zeros(own, time))
+        settled(refuse_if(!address, 4, 0), zeros(0, 0), zeros(own, time))
     }
 
     // Whether it is a table as document 01 says.
@@ -212,17 +168,10 @@ impl Table {
         let row = row_for(rows, destination);
         let address = (1 <= destination) & (destination <= 0xFFFE);
         let usable = (row.destination == destination) & row.usable(time);
-        let refused = first_of(
-            !self.within_rule(),
-            14,
-            !address,
-            4,
-            !in_order(self.time, time),
-            8,
-            !usable,
-            11,
-        );
-        answered(refused, row)
+        let refused = refuse_if(!usable, 11, 0);
+        let refused = refuse_if(!in_order(self.time, time), 8, refused);
+        let refused = refuse_if(!address, 4, refused);
+        answered(refuse_if(!self.within_rule(), 14, refused), row)
     }
 
     // Withdraws all usable rows to a unit or through it.
@@ -231,17 +180,11 @@ impl Table {
     {
         let rows = self.rows;
         let address = (1 <= unit) & (unit <= 0xFFFE);
-        let refused = first_of(
-            !self.within_rule(),
-            14,
-            !address,
-            4,
-            unit == self.own,
-            6,
-            !in_order(self.time, time),
-            8,
-        );
-        let next = forgotten_rows(standing_rows(rows, time), unit, time);
+        let refused = refuse_if(!in_order(self.time, time), 8, 0);
+        let refused = refuse_if(unit == self.own, 6, refused);
+        let refused = refuse_if(!address, 4, refused);
+        let refused = refuse_if(!self.within_rule(), 14, refused);
+        let next = forgotten_rows(standing_places(rows, time), unit, time);
         settled(
             refused,
             self,

@@ -8,7 +8,7 @@ use Rattle.routes.proofs.table.Table.fresh.Tie as tie
 
 returns : tie.Need-returns
 unfolding freshOf
-returns c = c .settled .ensures ∙ rw (c .before .before .before .first-of .ensures, c .before .before .zeros .ensures, c .before .zeros2 .ensures)
+returns c = c .settled .ensures ∙ rw (c .before .before .before .refuse-if .ensures, c .before .before .zeros .ensures, c .before .zeros2 .ensures)
 
 pub fresh-spec : {M : Type 1} → statement M
 fresh-spec =

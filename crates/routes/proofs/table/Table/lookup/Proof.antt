@@ -8,8 +8,21 @@ use Rattle.routes.proofs.table.Table.lookup.Tie as tie
 
 returns : tie.Need-returns
 unfolding lookupOf
-returns c = c .answered .ensures ∙ rw (c .before .first-of .ensures, c .before .before .before .within-rule .ensures, c .before .before .in-order .ensures, c .before .before .before .before .usable .ensures, c .before .before .before .before .before .before .row-for .ensures)
+returns c =
+    let third = c .before .before .before in
+    let first = third .before .before .before in
+    c .answered .ensures ∙
+    rw (
+      c .before .refuse-if4 .ensures,
+      third .refuse-if3 .ensures,
+      third .before .refuse-if2 .ensures,
+      first .refuse-if .ensures,
+      c .before .before .within-rule .ensures,
+      third .before .before .in-order .ensures,
+      first .before .usable .ensures,
+      first .before .before .before .row-for .ensures,
+    )
 
 pub lookup-spec : {M : Type 1} → statement M
 lookup-spec =
-    tie.close (tie.spec (λ c κs. search needs) (λ c κs. search needs) (λ c κs. search needs) (λ c κs. search needs) (λ c κs. search needs) (λ c κs. search needs) returns)
+    tie.close (tie.spec (λ c κs. search needs) (λ c κs. search needs) (λ c κs. search needs) (λ c κs. search needs) (λ c κs. search needs) (λ c κs. search needs) (λ c κs. search needs) (λ c κs. search needs) (λ c κs. search needs) returns)

@@ -1,4 +1,4 @@
--- `standing_rows`'s loop gathers the standing rows of the places passed.
+-- `gathered`'s loop gathers the standing rows of the places passed.
 -- Assumes nothing.
 use mathlib.Core.Path.{sym, _∙_}
 use native.Mathlib.Omega.{arith}
@@ -8,8 +8,8 @@ use Prim.Native.Nat.{_-_}
 use Rattle.routes.specs.Rows.{pad}
 use Rattle.routes.proofs.RowLaws.{Gathered, gathered-end, gathered-last, gathered-skip, gathered-push}
 use borrow.Author.Needs.{needs}
-use Rattle.routes.proofs.table.standing_rows.Statement.{statement}
-use Rattle.routes.proofs.table.standing_rows.Tie as tie
+use Rattle.routes.proofs.standing.gathered.Statement.{statement}
+use Rattle.routes.proofs.standing.gathered.Tie as tie
 
 abbrev Inv-loop : tie.InvT-loop
 Inv-loop time rows out₀ n₀ i₀ out n i = Gathered time rows i n out
@@ -45,6 +45,6 @@ returns-2 c =
     let a = c .before .before .args in
     gathered-last (a .time) (a .t1) (search needs) (l .i) (l .n) (l .out) (l .inv) (omega arith)
 
-pub standing-rows-spec : {M : Type 1} → statement M
-standing-rows-spec =
+pub gathered-spec : {M : Type 1} → statement M
+gathered-spec =
     tie.close (tie.spec Inv-loop μ-loop loop-holds (λ c. search needs) (λ c. search needs) returns (λ c κs. search needs) (λ c. search needs) (λ c. search needs) loop-again (λ c. search needs) (λ c. search needs) (λ c. search needs) (λ c. search needs) (λ c. search needs) loop-again-2 returns-2)

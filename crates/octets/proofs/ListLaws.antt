@@ -1,12 +1,12 @@
 -- A loop that stores f i at i, one store a turn, leaves `tab n f ++ drop n d` after n turns; one that tests f i has tested `tab n f`.
 -- Assumes nothing.
 use mathlib.Core.Path.{_≡_, refl, sym, ap}
-use mathlib.Core.Bool.{Bool, _&&_, and-true, and-assoc}
+use mathlib.Core.Bool.{Bool, true, _&&_, and-true, and-assoc, and-eq-true-iff}
 use mathlib.Core.List.{List, [], _∷_, _++_}
 use Prim.Native.Nat.{ℕ, zero, suc, _+_, _<_}
 use native.Mathlib.Nat.{not-suc-le-zero, le-of-suc-le-suc, suc-ne-zero, suc-inj}
 use native.Mathlib.Numerals.{add-one}
-use lib.ListN.{length, set, drop}
+use lib.ListN.{length, getD, set, drop}
 use Rattle.octets.specs.Lists.{tab, every}
 
 module _ {ℓ} {A : Type ℓ} where
@@ -38,6 +38,24 @@ module _ {ℓ} {A : Type ℓ} where
       go : (n : ℕ) (f : ℕ → A) → tab (suc n) f ≡ tab n f ++ (f n ∷ [])
       go zero f = refl
       go (suc n) f = ap (λ (t : List A). f 0 ∷ t) (go n (λ k. f (suc k)))
+
+  pub length-tab : (n : ℕ) (f : ℕ → A) → length (tab n f) ≡ n
+  unfolding tab
+  length-tab zero f = refl
+  length-tab (suc n) f = ap suc (length-tab n (λ k. f (suc k)))
+
+  pub getD-tab : (n : ℕ) (f : ℕ → A) (k : ℕ) (d : A) → k < n → getD (tab n f) k d ≡ f k
+  unfolding tab
+  getD-tab zero f k d h = absurd (not-suc-le-zero h)
+  getD-tab (suc n) f zero d h = refl
+  getD-tab (suc n) f (suc k) d h = getD-tab n (λ j. f (suc j)) k d (le-of-suc-le-suc h)
+
+  -- what holds of every element holds of each
+  pub every-at : (test : A → Bool) (l : List A) (k : ℕ) (d : A) → every test l ≡ true → k < length l → test (getD l k d) ≡ true
+  unfolding every
+  every-at test [] k d e h = absurd (not-suc-le-zero h)
+  every-at test (a ∷ l) zero d e h = and-eq-true-iff (test a) (every test l) .0 e .0
+  every-at test (a ∷ l) (suc k) d e h = every-at test l k d (and-eq-true-iff (test a) (every test l) .0 e .1) (le-of-suc-le-suc h)
 
   pub every-snoc : (test : A → Bool) (l : List A) (a : A) → every test (l ++ (a ∷ [])) ≡ (every test l && test a)
   unfolding every

@@ -1,0 +1,209 @@
+-- The loop over an update's candidates: what is learned so far, with what is left to learn, is the whole.
+-- Assumes nothing.
+use mathlib.Core.Path.{_≡_, refl, sym, ap, _∙_}
+use mathlib.Core.Bool.{Bool, true, false, not, _||_}
+use mathlib.Core.List.{List, [], _∷_, _++_}
+use Prim.Native.Nat.{ℕ, suc, _+_, _-_, _*_, _≤_, _<_}
+use native.Mathlib.Nat.{add-zero}
+use native.Mathlib.Numerals.{add-one}
+use native.Mathlib.Omega.{arith}
+use borrow.Author.Tests.{not-true, not-false, ltb-true}
+use lib.Dec.{eqb, ltb}
+use lib.ListN.{length, getD, drop, set, length-append, length-replicate, drop-of-length-le}
+use lib.Seq.{drop-cons}
+use mir.Val.{boolByte}
+use Rattle.octets.specs.Lists.{tab, every}
+use Rattle.octets.proofs.ListLaws.{length-tab, getD-tab, every-at}
+use Rattle.routes.specs.declared.row.Row.{Row}
+use Rattle.routes.specs.Rows.{none, pad}
+use Rattle.merges.specs.declared.candidate.Candidate.{Candidate}
+use Rattle.merges.specs.Learning.{put, learned, learn, learnAll}
+use Rattle.merges.specs.Offering.{nothing, offerAt, candidateNo, walked, fair}
+use Rattle.merges.specs.Searching.{goesOn, stores, skips, made, movedIn}
+use Rattle.merges.proofs.PadLaws.{pad-at, used-within}
+use Rattle.merges.proofs.SearchLaws.{Searched, searched-start, searched-on}
+use Rattle.merges.proofs.StepLaws.{Sound, Stored, stored-sound, step-off, step-set, step-move}
+
+-- 48 places, however many rows
+pub pad-length : (rs : List Row) → length rs ≤ 48 → length (pad rs) ≡ 48
+unfolding pad
+pad-length rs h = omega (arith, length-append rs (lib.ListN.replicate (48 - length rs) none), length-replicate (48 - length rs) none)
+
+numbered : (own origin quality : ℕ) (part : List ℕ) (n : ℕ) → offerAt own origin quality part n ≡ candidateNo own origin quality part (n + 1)
+unfolding candidateNo
+numbered own origin quality part n = rw add-one
+
+bit : (b : Bool) → boolByte b ≤ 1
+bit true = omega arith
+bit false = omega arith
+
+goes-far : (at d : ℕ) (r : Row) → goesOn at d r ≡ true → (at < 47) × (0 < r .destination) × (r .destination < d)
+goes-far at d r e =
+    let (a, b) = mathlib.Core.Bool.and-eq-true-iff (ltb at 47) (ltb 0 (r .destination)) .0 (both .0) in
+    (ltb-true at 47 a, ltb-true 0 (r .destination) b, ltb-true (r .destination) d (both .1))
+  where
+    both : (mathlib.Core.Bool._&&_ (ltb at 47) (ltb 0 (r .destination)) ≡ true) × (ltb (r .destination) d ≡ true)
+    both = mathlib.Core.Bool.and-eq-true-iff (mathlib.Core.Bool._&&_ (ltb at 47) (ltb 0 (r .destination))) (ltb (r .destination) d) .0 e
+
+module _ (part : List ℕ) (count own origin quality time : ℕ) (rows₀ : List Row) where
+  abbrev all : List Candidate
+  all = walked own origin quality count part
+
+  -- `rows` stand in the places; the search for the candidate's row has come to the place `at`
+  pub record Merging (out : List Row) (c : Candidate) (done skipped at : ℕ) : Type 0 where
+    pub rows : List Row
+    pub held : out ≡ pad rows
+    pub long : length out ≡ 48
+    pub sound : Sound rows
+    pub few : count ≤ 24
+    pub via : 0 < origin
+    pub fairly : every fair all ≡ true
+    pub counted : done ≤ count + 1
+    pub small : skipped ≤ done
+    pub next : c ≡ candidateNo own origin quality part done
+    pub place : at ≤ 47
+    pub search : Searched (c .destination) rows at
+    pub rest : learnAll origin time (drop done all) (learned rows skipped) ≡ learnAll origin time all (learned rows₀ 0)
+
+  pub merging-start : (out : List Row) (c : Candidate) → out ≡ pad rows₀ → Sound rows₀ → count ≤ 24 → 0 < origin → every fair all ≡ true → c ≡ candidateNo own origin quality part 0
+      → Merging out c 0 0 0
+  merging-start out c held sound few via fairly next =
+      record {
+        rows = rows₀;
+        held = held;
+        long = ap length held ∙ pad-length rows₀ (sound .fits);
+        sound = sound;
+        few = few;
+        via = via;
+        fairly = fairly;
+        counted = omega arith;
+        small = omega arith;
+        next = next;
+        place = omega arith;
+        search = searched-start (c .destination) rows₀;
+        rest = refl;
+      }
+
+  module _ (out : List Row) (c : Candidate) (done skipped at : ℕ) (m : Merging out c done skipped at) where
+    abbrev row : Row
+    row = getD out at none
+
+    here : row ≡ getD (m .rows) at none
+    here = ap (λ (l : List Row). getD l at none) (m .held) ∙ pad-at (m .rows) at
+
+    -- ---- one place on
+    pub merging-on : (b : Bool) → b ≡ goesOn at (c .destination) row → b ≡ true → Merging out c done skipped (at + 1)
+    merging-on b e t =
+        let g = goes-far at (c .destination) row (sym e ∙ t) in
+        let within = used-within (m .rows) (m .sound .inUse) at (rw (← m .held) (g .1)) in
+        record {
+          rows = m .rows;
+          held = m .held;
+          long = m .long;
+          sound = m .sound;
+          few = m .few;
+          via = m .via;
+          fairly = m .fairly;
+          counted = m .counted;
+          small = m .small;
+          next = m .next;
+          place = omega (arith, g .0);
+          search = searched-on (c .destination) (m .rows) at (m .search) within (rw (← here) (g .2));
+          rest = m .rest;
+        }
+
+    pub less-on : (b : Bool) → b ≡ goesOn at (c .destination) row → b ≡ true → done ≤ count → (count + 1 - done) * 48 - (at + 1) < (count + 1 - done) * 48 - at
+    less-on b e t h = omega (arith, goes-far at (c .destination) row (sym e ∙ t) .0)
+
+    pub less-next : done ≤ count → (count + 1 - (done + 1)) * 48 - 0 < (count + 1 - done) * 48 - at
+    less-next h = omega (arith, m .place)
+
+    pub done-fits : done ≤ count → done + 1 < 64
+    done-fits h = omega (arith, m .few)
+
+    pub skipped-fits : done ≤ count → (b : Bool) → skipped + boolByte b < 64
+    skipped-fits h b = omega (arith, m .few, m .small, bit b)
+
+    pub merging-end : count < done → (out ≡ pad (learnAll origin time all (learned rows₀ 0) .rows)) × (skipped ≡ learnAll origin time all (learned rows₀ 0) .skipped)
+    merging-end h =
+        let none-left : drop done all ≡ [] = drop-of-length-le all {i = done} (omega (arith, length-tab (count + 1) (candidateNo own origin quality part))) in
+        let end : learned (m .rows) skipped ≡ learnAll origin time all (learned rows₀ 0) = rw none-left at (m .rest) in
+        (m .held ∙ ap (λ l. pad (l .rows)) end, ap (λ l. l .skipped) end)
+
+    -- ---- where the search stops
+    module _ (h : done ≤ count) (goes there full stored skip : Bool) (new : Row) (eg : goes ≡ goesOn at (c .destination) row) (stop : goes ≡ false)
+        (et : there ≡ eqb (row .destination) (c .destination)) (ef : full ≡ ltb 0 (getD out 47 none .destination)) (es : stored ≡ stores origin time c row there full)
+        (ek : skip ≡ skips c there full) (en : new ≡ made origin time c row) (c′ : Candidate) (next′ : c′ ≡ offerAt own origin quality part done) where
+      fit : done < length all
+      fit = omega (arith, length-tab (count + 1) (candidateNo own origin quality part))
+
+      this : getD all done nothing ≡ c
+      this = getD-tab (count + 1) (candidateNo own origin quality part) done nothing (omega arith) ∙ sym (m .next)
+
+      this-fair : fair c ≡ true
+      this-fair = rw (← this) (every-at fair all done nothing (m .fairly) fit)
+
+      turned : learnAll origin time (drop (done + 1) all) (learn origin time c (learned (m .rows) skipped)) ≡ learnAll origin time all (learned rows₀ 0)
+      turned = rw add-one (ap (λ x. learnAll origin time (drop (suc done) all) (learn origin time x (learned (m .rows) skipped))) (sym this) ∙ (rw (drop-cons all done nothing fit) at (m .rest)))
+
+      one-more : (rows′ out′ : List Row) → out′ ≡ pad rows′ → Sound rows′ → learn origin time c (learned (m .rows) skipped) ≡ learned rows′ (skipped + boolByte skip)
+          → Merging out′ c′ (done + 1) (skipped + boolByte skip) 0
+      one-more rows′ out′ held′ sound′ e =
+          record {
+            rows = rows′;
+            held = held′;
+            long = ap length held′ ∙ pad-length rows′ (sound′ .fits);
+            sound = sound′;
+            few = m .few;
+            via = m .via;
+            fairly = m .fairly;
+            counted = omega arith;
+            small = omega (arith, m .small, bit skip);
+            next = next′ ∙ numbered own origin quality part done;
+            place = omega arith;
+            search = searched-start (c′ .destination) rows′;
+            rest = rw (← e) turned;
+          }
+
+      -- what was decided, said of the list of rows
+      abbrev seen : Row
+      seen = getD (pad (m .rows)) at none
+
+      halted : goesOn at (c .destination) seen ≡ false
+      halted = rw (← m .held) (sym eg ∙ stop)
+
+      decided : stores origin time c seen (eqb (seen .destination) (c .destination)) (ltb 0 (getD (pad (m .rows)) 47 none .destination)) ≡ stored
+      decided = rw (← m .held, ← et, ← ef) (sym es)
+
+      no-room : skips c (eqb (seen .destination) (c .destination)) (ltb 0 (getD (pad (m .rows)) 47 none .destination)) ≡ skip
+      no-room = rw (← m .held, ← et, ← ef) (sym ek)
+
+      same-row : made origin time c seen ≡ new
+      same-row = rw (← m .held) (sym en)
+
+      is-there : eqb (seen .destination) (c .destination) ≡ there
+      is-there = rw (← m .held) (sym et)
+
+      stored-more : (out′ : List Row) (new′ : Row) → Stored new′ (learn origin time c (learned (m .rows) skipped)) (m .rows) skipped → out′ ≡ pad (put new′ (m .rows)) → skip ≡ false
+          → Merging out′ c′ (done + 1) (skipped + boolByte skip) 0
+      stored-more out′ new′ s held′ none-skipped =
+          one-more (put new′ (m .rows)) out′ held′ (stored-sound new′ _ (m .rows) skipped (m .sound) s) (s .learns ∙ rw (none-skipped, add-zero))
+
+      pub turn-off : not stored ≡ true → Merging out c′ (done + 1) (skipped + boolByte skip) 0
+      turn-off t =
+          one-more (m .rows) out (m .held) (m .sound)
+          (step-off origin time c (m .rows) skipped at (m .sound) (m .search) (m .place) halted (m .via) this-fair (decided ∙ not-true stored t) ∙ rw no-room)
+
+      module _ (t : not stored ≡ false) where
+        taken : stores origin time c seen (eqb (seen .destination) (c .destination)) (ltb 0 (getD (pad (m .rows)) 47 none .destination)) ≡ true
+        taken = decided ∙ not-false stored t
+
+        pub turn-set : there ≡ true → Merging (set out at new) c′ (done + 1) (skipped + boolByte skip) 0
+        turn-set y =
+            let (s, placed, unskipped) = step-set origin time c (m .rows) skipped at (m .sound) (m .search) (m .place) halted (m .via) this-fair taken (is-there ∙ y) in
+            stored-more (set out at new) (made origin time c seen) s (rw (m .held, ← same-row) placed) (sym no-room ∙ unskipped)
+
+        pub turn-move : there ≡ false → (moved : List Row) → moved ≡ movedIn out at new → Merging moved c′ (done + 1) (skipped + boolByte skip) 0
+        turn-move y moved e =
+            let (s, placed, unskipped) = step-move origin time c (m .rows) skipped at (m .sound) (m .search) (m .place) halted (m .via) this-fair taken (is-there ∙ y) in
+            stored-more moved (made origin time c seen) s (e ∙ rw (m .held, ← same-row) placed) (sym no-room ∙ unskipped)

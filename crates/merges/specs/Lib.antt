@@ -1,0 +1,5 @@
+pub mod Candidates
+pub mod Learning
+pub mod Merges
+pub mod Offering
+pub mod Searching

@@ -1,0 +1,47 @@
+-- Merging an update that was received.
+-- Assumes nothing.
+use Prim.Native.Nat.{ℕ}
+use mathlib.Core.Bool.{not, cond}
+use mathlib.Core.List.{List, [], _∷_}
+use lib.Dec.{eqb, ltb}
+use Rattle.octets.specs.Answers.{reason, refusing, first}
+use Rattle.octets.specs.Calls.{after}
+use Rattle.moments.specs.Moments.{inOrder}
+use Rattle.shapes.specs.Reading.{refusalAs}
+use Rattle.shapes.specs.Shape.{valuesIn, partIn}
+use Rattle.traffic.specs.declared.update.UpdateHeader.{UpdateHeader}
+use Rattle.traffic.specs.Traffic.{update, updateFrom, entriesOf}
+use Rattle.routes.specs.declared.table.Table.{Table}
+use Rattle.routes.specs.Rows.{standing}
+use Rattle.routes.specs.Tables.{rowsOf, withinRule, withRows}
+use Rattle.merges.specs.declared.merging.Merged.{Merged}
+use Rattle.merges.specs.Candidates.{candidates}
+use Rattle.merges.specs.Learning.{Learned, learned, learnAll}
+
+-- the fields of an update
+abbrev pub updateIn : List ℕ → UpdateHeader
+updateIn s = updateFrom (valuesIn update s)
+
+-- 14 1 2 1 3 4 6 8 9
+unfoldable pub mergeRefusal : Table → List ℕ → ℕ → ℕ → ℕ
+mergeRefusal t s quality time =
+    first
+    (reason (not (withinRule t)) 14 ∷
+    refusing (refusalAs update s) ∷
+    reason (eqb (updateIn s .origin) (t .own)) 6 ∷
+    reason (not (inOrder (t .time) time)) 8 ∷
+    reason (ltb quality 40) 9 ∷
+    [])
+
+-- every candidate of the update in order, over the rows that stand
+unfoldable pub mergedRows : Table → List ℕ → ℕ → ℕ → Learned
+mergedRows t s quality time =
+    let u = updateIn s in
+    learnAll (u .origin) time (candidates (t .own) (u .origin) quality (entriesOf (u .count) (partIn update s))) (learned (standing time (rowsOf t)) 0)
+
+-- the number that refuses it with the table as it was; or the new table, and how many candidates were skipped
+unfoldable pub mergeOf : Table → List ℕ → ℕ → ℕ → Merged
+mergeOf t s quality time =
+    let refusal = mergeRefusal t s quality time in
+    let all = mergedRows t s quality time in
+    record { refused = refusal; skipped = after refusal 0 (all .skipped); table = after refusal t (withRows t time (all .rows)) }

@@ -1,0 +1,41 @@
+-- What the code sees of a table's 48 places while it looks for a candidate's row: the search goes up from the first place and stops at the first
+-- that is not lower. The laws carry it to the list of rows.
+-- Assumes nothing.
+use Prim.Native.Nat.{ℕ}
+use mathlib.Core.Bool.{Bool, not, _&&_, _||_, cond}
+use mathlib.Core.List.{List, [], _∷_, _++_}
+use lib.Dec.{eqb, ltb}
+use lib.ListN.{take, drop}
+use Rattle.routes.specs.declared.row.Row.{Row}
+use Rattle.routes.specs.Rows.{withdrawnAt}
+use Rattle.merges.specs.declared.candidate.Candidate.{Candidate}
+use Rattle.merges.specs.Candidates.{bad}
+use Rattle.merges.specs.Learning.{rowBy, givesWay, takenBack}
+
+-- the search for a destination goes on from the place `at`, which holds the row r; the last place ends it in any case
+abbrev pub goesOn : ℕ → ℕ → Row → Bool
+goesOn at destination r = ltb at 47 && ltb 0 (r .destination) && ltb (r .destination) destination
+
+-- a candidate changes the row for its destination
+abbrev pub changes : ℕ → ℕ → Candidate → Row → Bool
+changes via time c r = cond (bad c) (takenBack via time r) (givesWay via time c r)
+
+-- where the search stopped at the row r, which is for its destination or not, with the last place in use or not: it stores a row there, ..
+abbrev pub stores : ℕ → ℕ → Candidate → Row → Bool → Bool → Bool
+stores via time c r there full = there && changes via time c r || not there && not (bad c) && not full
+
+-- .. or there is no room for it
+abbrev pub skips : Candidate → Bool → Bool → Bool
+skips c there full = not there && not (bad c) && full
+
+-- what it makes of that row, or of none
+abbrev pub made : ℕ → ℕ → Candidate → Row → Row
+made via time c r = cond (bad c) (withdrawnAt time r) (rowBy via time c)
+
+-- a row pushed in at the first of some places: each row moves up by one, as far as the first place that is not in use
+abbrev pub pushed : Row → List Row → List Row
+pushed w [] = []
+pushed w (r ∷ rs) = w ∷ cond (eqb (r .destination) 0) rs (pushed r rs)
+
+abbrev pub movedIn : List Row → ℕ → Row → List Row
+movedIn places at w = take at places ++ pushed w (drop at places)

@@ -1,0 +1,77 @@
+// Merging an update into a table.
+ghost use mathlib.Core.Path.{_≡_};
+ghost use mathlib.Core.Bool.{true};
+ghost use Prim.Native.Nat.{_≤_, _<_};
+ghost use Rattle.octets.specs.Lists.{every};
+ghost use Rattle.routes.specs.Rows.{ascending, inUse, pad};
+ghost use Rattle.merges.specs.Learning.{learned, learnAll};
+ghost use Rattle.merges.specs.Offering.{walked, fair};
+use crate::candidate::Candidate;
+use crate::moving::moved_in;
+use crate::steps::goes_on;
+use crate::steps::made;
+use crate::steps::skips;
+use crate::steps::stores;
+use routes::row::Row;
+use routes::table::Table;
+
+// What a merge gives: the table, which is as it was where `refused` is not 0, and how many candidates found no room.
+pub struct Merged {
+    pub refused: u8,
+    pub skipped: u8,
+    pub table: Table,
+}
+
+// The rows when every candidate has been learned, and how many were skipped.
+struct Rows {
+    rows: [Row; 48],
+    skipped: u8,
+}
+
+// Every candidate of an update in turn: one loop on one array. A turn takes the search for the candidate's row one place on, or, where that stops,
+// does with the candidate and takes the next. Only a new row is moved in by a call that copies the array.
+fn learn_all(
+    rows: [Row; 48],
+    part: &[u8],
+    count: u8,
+    own: u16,
+    origin: u16,
+    quality: u8,
+    time: u32,
+) -> Rows
+    requires { ⌜ (rows ≡ pad (inUse rows)) × (ascending (inUse rows) ≡ true) × (count ≤ 24) × (0 < origin) × (every fair (walked own origin quality count (now part)) ≡ true) ⌝ }
+    ensures { λ r. ⌜ (r .rows ≡ pad (learnAll origin time (walked own origin quality count (now (part .entry))) (learned (inUse rows) 0) .rows)) × (r .skipped ≡ learnAll origin time (walked own origin quality count (now (part .entry))) (learned (inUse rows) 0) .skipped) ⌝ }
+{
+    let mut out = rows;
+    let mut candidate = Candidate::neighbour(origin, quality);
+    let mut done: u8 = 0;
+    let mut skipped: u8 = 0;
+    let mut at: usize = 0;
+    while done <= count {
+        let row = out[at];
+        if goes_on(at, candidate.destination, row) {
+            at += 1;
+            continue;
+        }
+        let last = out[47];
+        let there = row.destination == candidate.destination;
+        let full = 0 < last.destination;
+        let stored = stores(origin, time, candidate, row, there, full);
+        let new = made(origin, time, candidate, row);
+        let place = at;
+        skipped += skips(candidate, there, full) as u8;
+        candidate = Candidate::at(part, done, own, origin, quality);
+        done += 1;
+        at = 0;
+        if !stored {
+            continue;
+        }
+        if there {
+            out[place] = new;
+            continue;
+        }
+        let next = moved_in(out, place, new);
+        out = next;
+    }
+    Rows { rows: out, skipped }
+}

@@ -1,0 +1,73 @@
+// What is done with a candidate, on its own and on the row where its search stopped. None of these takes the array: a call that does copies it.
+ghost use mathlib.Core.Path.{_≡_};
+ghost use Rattle.merges.specs.Searching.{goesOn, changes, stores, skips, made};
+use crate::candidate::Candidate;
+use routes::row::Row;
+
+// Whether the search goes on from a place: not past the last one, so that `at` is always a place.
+pub(crate) fn goes_on(at: usize, destination: u16, row: Row) -> bool
+    ensures { λ r. ⌜ r ≡ goesOn at destination row ⌝ }
+{
+    (at < 47) & (0 < row.destination) & (row.destination < destination)
+}
+
+// Whether a candidate changes the row for its destination.
+fn changes(via: u16, time: u32, candidate: Candidate, row: Row) -> bool
+    ensures { λ r. ⌜ r ≡ changes via time candidate row ⌝ }
+{
+    let usable = row.usable(time);
+    let same = row.next_hop == via;
+    if candidate.bad() {
+        return usable & same;
+    }
+    let hops = row.hops as u16;
+    !usable
+        | same
+        | (candidate.hops < hops)
+        | ((candidate.hops == hops) & (row.quality < candidate.quality))
+}
+
+// Whether a candidate stores a row where its search stopped: `there` says that the row is for its destination, `full` that the last place is in use.
+pub(crate) fn stores(
+    via: u16,
+    time: u32,
+    candidate: Candidate,
+    row: Row,
+    there: bool,
+    full: bool,
+) -> bool
+    ensures { λ r. ⌜ r ≡ stores via time candidate row there full ⌝ }
+{
+    (there & changes(via, time, candidate, row)) | (!there & !candidate.bad() & !full)
+}
+
+// Whether there is no room for a candidate.
+pub(crate) fn skips(candidate: Candidate, there: bool, full: bool) -> bool
+    ensures { λ r. ⌜ r ≡ skips candidate there full ⌝ }
+{
+    !there & !candidate.bad() & full
+}
+
+// The row that a candidate makes: a bad one withdraws the row that was there.
+pub(crate) fn made(via: u16, time: u32, candidate: Candidate, row: Row) -> Row
+    ensures { λ r. ⌜ r ≡ made via time candidate row ⌝ }
+{
+    if candidate.bad() {
+        return Row {
+            destination: row.destination,
+            next_hop: row.next_hop,
+            hops: row.hops,
+            quality: row.quality,
+            time,
+            withdrawn: true,
+        };
+    }
+    Row {
+        destination: candidate.destination,
+        next_hop: via,
+        hops: candidate.hops as u8,
+        quality: candidate.quality,
+        time,
+        withdrawn: false,
+    }
+}

@@ -1,6 +1,9 @@
 pub mod CandidateLaws
+pub mod LearnLaws
 pub mod LoopLaws
+pub mod MergeLaws
 pub mod MoveLaws
+pub mod OfferLaws
 pub mod PadLaws
 pub mod PutLaws
 pub mod SearchLaws

@@ -1,21 +1,22 @@
 -- The loop over an update's candidates: what is learned so far, with what is left to learn, is the whole.
 -- Assumes nothing.
 use mathlib.Core.Path.{_≡_, refl, sym, ap, _∙_}
-use mathlib.Core.Bool.{Bool, true, false, not, _||_}
-use mathlib.Core.List.{List, [], _∷_, _++_}
+use mathlib.Core.Bool.{Bool, true, false, not}
+use mathlib.Core.List.{List, []}
 use Prim.Native.Nat.{ℕ, suc, _+_, _-_, _*_, _≤_, _<_}
 use native.Mathlib.Nat.{add-zero}
 use native.Mathlib.Numerals.{add-one}
 use native.Mathlib.Omega.{arith}
 use borrow.Author.Tests.{not-true, not-false, ltb-true}
 use lib.Dec.{eqb, ltb}
-use lib.ListN.{length, getD, drop, set, length-append, length-replicate, drop-of-length-le}
+use lib.ListN.{length, getD, drop, set, drop-of-length-le}
 use lib.Seq.{drop-cons}
 use mir.Val.{boolByte}
-use Rattle.octets.specs.Lists.{tab, every}
+use Rattle.octets.specs.Lists.{every}
 use Rattle.octets.proofs.ListLaws.{length-tab, getD-tab, every-at}
 use Rattle.routes.specs.declared.row.Row.{Row}
 use Rattle.routes.specs.Rows.{none, pad}
+use Rattle.routes.proofs.StandingLaws.{pad-length}
 use Rattle.merges.specs.declared.candidate.Candidate.{Candidate}
 use Rattle.merges.specs.Learning.{put, learned, learn, learnAll}
 use Rattle.merges.specs.Offering.{nothing, offerAt, candidateNo, walked, fair}
@@ -23,11 +24,6 @@ use Rattle.merges.specs.Searching.{goesOn, stores, skips, made, movedIn}
 use Rattle.merges.proofs.PadLaws.{pad-at, used-within}
 use Rattle.merges.proofs.SearchLaws.{Searched, searched-start, searched-on}
 use Rattle.merges.proofs.StepLaws.{Sound, Stored, stored-sound, step-off, step-set, step-move}
-
--- 48 places, however many rows
-pub pad-length : (rs : List Row) → length rs ≤ 48 → length (pad rs) ≡ 48
-unfolding pad
-pad-length rs h = omega (arith, length-append rs (lib.ListN.replicate (48 - length rs) none), length-replicate (48 - length rs) none)
 
 numbered : (own origin quality : ℕ) (part : List ℕ) (n : ℕ) → offerAt own origin quality part n ≡ candidateNo own origin quality part (n + 1)
 unfolding candidateNo

@@ -1,21 +1,20 @@
 -- The 48 places of a list of rows in use: what stands at a place, a store, a row moved in.
 -- Assumes nothing.
 use mathlib.Core.Path.{_≡_, refl, sym, ap, _∙_}
-use mathlib.Core.Bool.{Bool, true, false, not, _&&_, cond, and-eq-true-iff}
+use mathlib.Core.Bool.{Bool, true, not, and-eq-true-iff}
 use mathlib.Core.List.{List, [], _∷_, _++_, append-assoc}
-use Prim.Native.Nat.{ℕ, zero, suc, _+_, _-_, _≤_, _<_}
+use Prim.Native.Nat.{ℕ, zero, suc, _-_, _≤_, _<_}
 use native.Mathlib.Decide.{decLt}
 use native.Mathlib.Omega.{arith}
 use borrow.Author.Tests.{ne-eqb, ltb-true, lt-ltb, le-ltb}
-use lib.Dec.{eqb, ltb}
+use lib.Dec.{ltb}
 use lib.ListN.{length, getD, take, drop, set, replicate, length-append, length-set, length-take, length-drop, List·getD-eq-default}
+use lib.Seq.{set-append-left, take-append-le, drop-append-le}
 use Rattle.octets.specs.Lists.{every}
 use Rattle.routes.specs.declared.row.Row.{Row}
 use Rattle.routes.specs.Rows.{none, pad}
+use Rattle.routes.proofs.StandingLaws.{used}
 use Rattle.merges.specs.Searching.{pushed, movedIn}
-
-abbrev pub used : Row → Bool
-used r = ltb 0 (r .destination)
 
 pub used-at : (rs : List Row) (at : ℕ) → every used rs ≡ true → at < length rs → 0 < getD rs at none .destination
 unfolding every
@@ -63,14 +62,9 @@ full rs u f = go (decLt 47 (length rs))
         let z : getD rs 47 none ≡ none = List·getD-eq-default rs none {n = 47} (omega arith) in
         rw (pad-at rs 47, z, lt-ltb (length rs) 48 (omega arith))
 
-set-first : (rs zs : List Row) (at : ℕ) (w : Row) → at < length rs → set (rs ++ zs) at w ≡ set rs at w ++ zs
-set-first [] zs at w h = absurd (omega arith)
-set-first (r ∷ rs) zs zero w h = refl
-set-first (r ∷ rs) zs (suc at) w h = ap (λ (l : List Row). r ∷ l) (set-first rs zs at w (omega arith))
-
 pub set-pad : (rs : List Row) (at : ℕ) (w : Row) → at < length rs → set (pad rs) at w ≡ pad (set rs at w)
 unfolding pad
-set-pad rs at w h = rw (set-first rs (replicate (48 - length rs) none) at w h, length-set)
+set-pad rs at w h = rw (set-append-left rs (replicate (48 - length rs) none) at w h, length-set)
 
 -- a row pushed in before rows in use with a free place behind them
 pushed-free : (w : Row) (xs zs : List Row) → every used xs ≡ true → pushed w (xs ++ (none ∷ zs)) ≡ w ∷ (xs ++ zs)
@@ -80,16 +74,6 @@ pushed-free w (x ∷ xs) zs u =
     let (here, later) = and-eq-true-iff (used x) (every used xs) .0 u in
     let k = ltb-true 0 (x .destination) here in
     rw (ne-eqb (x .destination) 0 (omega (arith, k)), pushed-free x xs zs later)
-
-take-first : (rs zs : List Row) (at : ℕ) → at ≤ length rs → take at (rs ++ zs) ≡ take at rs
-take-first rs zs zero h = refl
-take-first [] zs (suc at) h = absurd (omega arith)
-take-first (r ∷ rs) zs (suc at) h = ap (λ (l : List Row). r ∷ l) (take-first rs zs at (omega arith))
-
-drop-first : (rs zs : List Row) (at : ℕ) → at ≤ length rs → drop at (rs ++ zs) ≡ drop at rs ++ zs
-drop-first rs zs zero h = refl
-drop-first [] zs (suc at) h = absurd (omega arith)
-drop-first (r ∷ rs) zs (suc at) h = drop-first rs zs at (omega arith)
 
 pub every-drop : (test : Row → Bool) (rs : List Row) (at : ℕ) → every test rs ≡ true → every test (drop at rs) ≡ true
 unfolding every
@@ -108,7 +92,7 @@ moved-pad rs at w u h room =
     rw (
       free,
       size,
-      take-first rs (none ∷ replicate k none) at h,
-      drop-first rs (none ∷ replicate k none) at h,
+      take-append-le at rs (none ∷ replicate k none) h,
+      drop-append-le at rs (none ∷ replicate k none) h,
       pushed-free w (drop at rs) (replicate k none) (every-drop used rs at u),
     ) (sym (append-assoc (take at rs) (w ∷ drop at rs) (replicate k none)))

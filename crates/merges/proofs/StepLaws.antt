@@ -3,22 +3,23 @@
 use mathlib.Core.Path.{_≡_, refl, sym, ap, _∙_}
 use mathlib.Core.Bool.{Bool, true, false, not, _&&_, _||_, cond, and-eq-true-iff, and-false, false≢true}
 use mathlib.Core.List.{List, [], _∷_, _++_}
-use Prim.Native.Nat.{ℕ, suc, _+_, _≤_, _<_}
+use Prim.Native.Nat.{ℕ, _+_, _≤_, _<_}
 use native.Mathlib.Nat.{add-zero}
 use native.Mathlib.Decide.{ℕ-discrete, decLt}
 use native.Mathlib.Omega.{arith}
-use borrow.Author.Tests.{eq-eqb, ne-eqb, lt-ltb, ltb-true, ltb-false, eqb-true, eqb-false}
+use borrow.Author.Tests.{eq-eqb, ne-eqb, lt-ltb, ltb-true, eqb-true, eqb-false}
 use lib.Dec.{eqb, ltb}
 use lib.ListN.{length, getD, take, drop, set, length-set, List·getD-eq-default}
 use mir.Val.{boolByte}
 use Rattle.octets.specs.Lists.{every}
 use Rattle.routes.specs.declared.row.Row.{Row}
-use Rattle.routes.specs.Rows.{none, usable, withdrawnAt, ascending, inUse, pad, rowFor}
+use Rattle.routes.specs.Rows.{none, usable, withdrawnAt, ascending, pad, rowFor}
+use Rattle.routes.proofs.StandingLaws.{used}
 use Rattle.merges.specs.declared.candidate.Candidate.{Candidate}
 use Rattle.merges.specs.Candidates.{bad}
-use Rattle.merges.specs.Learning.{put, rowBy, takenBack, givesWay, Learned, learned, met, newTo, learn}
+use Rattle.merges.specs.Learning.{put, rowBy, Learned, learned, met, newTo, learn}
 use Rattle.merges.specs.Searching.{goesOn, changes, stores, skips, made, movedIn}
-use Rattle.merges.proofs.PadLaws.{used, pad-at, used-within, within-used, full, set-pad, moved-pad}
+use Rattle.merges.proofs.PadLaws.{pad-at, used-within, within-used, full, set-pad, moved-pad}
 use Rattle.merges.proofs.PutLaws.{put-every, put-length, put-ascending}
 use Rattle.merges.proofs.SearchLaws.{Searched, searched-on, stop-end, put-end, stop-same, set-same, put-higher, stop-higher}
 
@@ -27,27 +28,6 @@ pub record Sound (rs : List Row) : Type 0 where
   pub inUse : every used rs ≡ true
   pub ascends : ascending rs ≡ true
   pub fits : length rs ≤ 48
-
--- the rows in use of some places
-pub in-use-used : (places : List Row) → every used (inUse places) ≡ true
-unfolding every
-in-use-used [] = refl
-in-use-used (r ∷ rs) = go (ℕ-discrete (r .destination) 0) (in-use-used rs)
-  where
-    go : Dec (r .destination ≡ 0) → every used (inUse rs) ≡ true → every used (cond (eqb (r .destination) 0) [] (r ∷ inUse rs)) ≡ true
-    go (yes z) e = rw (eq-eqb (r .destination) 0 z)
-    go (no z) e = rw (ne-eqb (r .destination) 0 z, lt-ltb 0 (r .destination) (omega arith)) e
-
-in-use-shorter : (places : List Row) → length (inUse places) ≤ length places
-in-use-shorter [] = omega arith
-in-use-shorter (r ∷ rs) = go (eqb (r .destination) 0) (in-use-shorter rs)
-  where
-    go : (b : Bool) → length (inUse rs) ≤ length rs → length (cond b [] (r ∷ inUse rs)) ≤ suc (length rs)
-    go true h = omega arith
-    go false h = omega arith
-
-pub in-use-fits : (places : List Row) → length places ≡ 48 → length (inUse places) ≤ 48
-in-use-fits places e = omega (arith, in-use-shorter places)
 
 -- a candidate has stored a row among some rows
 pub record Stored (new : Row) (after : Learned) (rows : List Row) (skipped : ℕ) : Type 0 where
@@ -60,7 +40,7 @@ stored-sound new after rows skipped sound s =
     record { inUse = put-every used new rows (s .isUsed) (sound .inUse); ascends = put-ascending new rows (sound .ascends); fits = s .fits }
 
 -- no row in use is for no unit
-zero-none : (rs : List Row) → every used rs ≡ true → rowFor 0 rs ≡ none
+pub zero-none : (rs : List Row) → every used rs ≡ true → rowFor 0 rs ≡ none
 unfolding every
 zero-none [] u = refl
 zero-none (r ∷ rs) u =

@@ -5,6 +5,7 @@ ghost use Prim.Native.Nat.{_≤_, _<_};
 ghost use Rattle.octets.specs.Lists.{every};
 ghost use Rattle.routes.specs.Rows.{ascending, inUse, pad};
 ghost use Rattle.merges.specs.Learning.{learned, learnAll};
+ghost use Rattle.merges.specs.Merges.{mergeRefusal, mergeOf};
 ghost use Rattle.merges.specs.Offering.{walked, fair};
 use crate::candidate::Candidate;
 use crate::moving::moved_in;
@@ -12,8 +13,14 @@ use crate::steps::goes_on;
 use crate::steps::made;
 use crate::steps::skips;
 use crate::steps::stores;
+use moments::in_order;
+use octets::answers::refuse_if;
+use readers::parts::entries;
+use readers::refusals::update;
 use routes::row::Row;
+use routes::standing::standing_places;
 use routes::table::Table;
+use traffic::update::UpdateHeader;
 
 // What a merge gives: the table, which is as it was where `refused` is not 0, and how many candidates found no room.
 pub struct Merged {
@@ -74,4 +81,56 @@ fn learn_all(
         out = next;
     }
     Rows { rows: out, skipped }
+}
+
+// Why an update is not merged, 0 where it is.
+fn why_unmerged(table: Table, frame: &[u8], quality: u8, time: u32) -> u8
+    ensures { λ r. ⌜ r ≡ mergeRefusal table (now (frame .entry)) quality time ⌝ }
+{
+    let origin = UpdateHeader::of(frame).origin;
+    let unread = update(frame);
+    let refused = refuse_if(quality < 40, 9, 0);
+    let refused = refuse_if(!in_order(table.time, time), 8, refused);
+    let refused = refuse_if(origin == table.own, 6, refused);
+    let refused = refuse_if(unread != 0, unread, refused);
+    refuse_if(!table.within_rule(), 14, refused)
+}
+
+// Merges an update that was heard with this quality.
+pub fn merge(table: Table, frame: &[u8], quality: u8, time: u32) -> Merged
+    ensures { λ r. ⌜ r ≡ mergeOf table (now (frame .entry)) quality time ⌝ }
+{
+    let refused = why_unmerged(table, frame, quality, time);
+    if refused != 0 {
+        return Merged {
+            refused,
+            skipped: 0,
+            table,
+        };
+    }
+    let header = UpdateHeader::of(frame);
+    let rows = table.rows;
+    let standing = standing_places(rows, time);
+    let learned = learn_all(
+        standing,
+        entries(frame),
+        header.count,
+        table.own,
+        header.origin,
+        quality,
+        time,
+    );
+    let next = learned.rows;
+    Merged {
+        refused: 0,
+        skipped: learned.skipped,
+        table: Table {
+            own: table.own,
+            time,
+            forwarded: table.forwarded,
+            origin: table.origin,
+            sequence: table.sequence,
+            rows: next,
+        },
+    }
 }

@@ -1,7 +1,7 @@
 -- A call's answer, where a number refuses it and where none does.
 -- Assumes nothing.
 use mathlib.Core.Path.{_≡_, refl, sym, ap, _∙_}
-use mathlib.Core.Bool.{Bool, true, false, cond}
+use mathlib.Core.Bool.{Bool, true, false, not, cond, false≢true}
 use mathlib.Core.List.{List}
 use Prim.Native.Nat.{ℕ}
 use borrow.Author.Tests.{eq-eqb, ne-eqb, eqb-true}
@@ -22,6 +22,19 @@ unless-number n vs = go (eqb n 0) refl
     go : (t : Bool) → eqb n 0 ≡ t → cond t (accepted vs) (refused n) .refusal ≡ n
     go true q = sym (eqb-true n 0 q)
     go false q = refl
+
+-- where no number is given, the first reason does not hold and those behind it give none
+pub passed-by : (b : Bool) (n rest : ℕ) → (n ≡ 0 → ⊥) → cond b n rest ≡ 0 → (b ≡ false) × (rest ≡ 0)
+passed-by false n rest z e = (refl, e)
+passed-by true n rest z e = absurd (z e)
+
+-- and another call whose number would be given gave none
+pub passed-call : (n rest : ℕ) → cond (not (eqb n 0)) n rest ≡ 0 → (n ≡ 0) × (rest ≡ 0)
+passed-call n rest e = go (eqb n 0) refl e
+  where
+    go : (b : Bool) → eqb n 0 ≡ b → cond (not b) n rest ≡ 0 → (n ≡ 0) × (rest ≡ 0)
+    go true q e = (eqb-true n 0 q, e)
+    go false q e = absurd (false≢true (sym q ∙ eq-eqb n 0 e))
 
 -- an answer that can be told from what it says is said by no other
 pub one-by-return :

@@ -6,6 +6,7 @@ use mathlib.Core.List.{List, [], _∷_, _++_}
 use Prim.Native.Nat.{ℕ, zero, suc, _+_, _<_}
 use native.Mathlib.Nat.{not-suc-le-zero, le-of-suc-le-suc, suc-ne-zero, suc-inj}
 use native.Mathlib.Numerals.{add-one}
+use native.Mathlib.Omega.{arith}
 use lib.ListN.{length, getD, set, drop}
 use Rattle.octets.specs.Lists.{tab, every}
 
@@ -56,6 +57,11 @@ module _ {ℓ} {A : Type ℓ} where
   every-at test [] k d e h = absurd (not-suc-le-zero h)
   every-at test (a ∷ l) zero d e h = and-eq-true-iff (test a) (every test l) .0 e .0
   every-at test (a ∷ l) (suc k) d e h = every-at test l k d (and-eq-true-iff (test a) (every test l) .0 e .1) (le-of-suc-le-suc h)
+
+  pub every-tab : (test : A → Bool) (n : ℕ) (f : ℕ → A) → ((k : ℕ) → k < n → test (f k) ≡ true) → every test (tab n f) ≡ true
+  unfolding tab every
+  every-tab test zero f h = refl
+  every-tab test (suc n) f h = rw (h 0 (omega arith)) (every-tab test n (λ k. f (suc k)) (λ k l. h (suc k) (omega arith)))
 
   pub every-snoc : (test : A → Bool) (l : List A) (a : A) → every test (l ++ (a ∷ [])) ≡ (every test l && test a)
   unfolding every

@@ -1,11 +1,12 @@
 -- `learn_all`'s loop: `Merging` holds before each turn, and each of the four ways through it keeps it.
 -- Assumes nothing.
-use mathlib.Core.Path.{_≡_, refl, sym, _∙_}
+use mathlib.Core.Path.{refl}
 use Prim.Native.Nat.{_+_, _-_, _*_}
 use native.Mathlib.Omega.{arith}
 use Rattle.routes.specs.Rows.{inUse}
 use Rattle.merges.specs.Offering.{candidateNo}
-use Rattle.merges.proofs.StepLaws.{Sound, in-use-used, in-use-fits}
+use Rattle.routes.proofs.StandingLaws.{in-use-used, in-use-fits}
+use Rattle.merges.proofs.StepLaws.{Sound}
 use Rattle.merges.proofs.LoopLaws.{Merging, merging-start, merging-on, merging-end, less-on, less-next, done-fits, skipped-fits, turn-off, turn-set, turn-move}
 use borrow.Author.Needs.{needs, fits-under}
 use Rattle.merges.proofs.merging.learn_all.Statement.{statement}

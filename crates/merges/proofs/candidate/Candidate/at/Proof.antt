@@ -1,7 +1,7 @@
 -- `Candidate::at`: nothing of an entry that is passed over, else what it offers.
 -- Assumes nothing.
-use mathlib.Core.Path.{sym, ap, _∙_}
-use Rattle.merges.specs.Offering.{offerOf, offerAt}
+use mathlib.Core.Path.{_∙_}
+use Rattle.merges.specs.Offering.{offerAt}
 use borrow.Author.Needs.{needs}
 use Rattle.merges.proofs.candidate.Candidate.at.Statement.{statement}
 use Rattle.merges.proofs.candidate.Candidate.at.Tie as tie

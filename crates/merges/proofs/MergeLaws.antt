@@ -1,0 +1,124 @@
+-- Merging an update, from what its parts say.
+-- Assumes nothing.
+use mathlib.Core.Path.{_≡_, sym, ap, _∙_}
+use mathlib.Core.Bool.{true, false, not, and-eq-true-iff}
+use mathlib.Core.List.{List}
+use Prim.Native.Nat.{ℕ, _≤_, _<_}
+use native.Mathlib.Omega.{arith}
+use borrow.Author.Tests.{ne-eqb, not-false, ltb-false, leb-true}
+use lib.Dec.{eqb, leb, ltb}
+use lib.ListN.{length}
+use Rattle.octets.specs.Lists.{every}
+use Rattle.octets.proofs.AnswerLaws.{passed-by, passed-call}
+use Rattle.moments.specs.Moments.{inOrder}
+use Rattle.shapes.specs.Reading.{refusalAs}
+use Rattle.shapes.specs.Rules.{address}
+use Rattle.shapes.specs.Shape.{lengthOf, valuesIn, partIn}
+use Rattle.shapes.proofs.ReadingLaws.{passed}
+use Rattle.traffic.specs.declared.update.UpdateHeader.{UpdateHeader}
+use Rattle.traffic.specs.Traffic.{update, updateValues, updateFrom, entryRule, entriesOf}
+use Rattle.routes.specs.declared.row.Row.{Row}
+use Rattle.routes.specs.declared.table.Table.{Table}
+use Rattle.routes.specs.Rows.{ascending, inUse, pad, standing, standingPlaces}
+use Rattle.routes.specs.Tables.{rowsOf, withinRule}
+use Rattle.routes.proofs.StandingLaws.{used, in-use-used, in-use-pad, standing-every, standing-ascending, standing-places}
+use Rattle.routes.proofs.TableLaws.{held, within}
+use Rattle.merges.specs.Learning.{learned, learnAll}
+use Rattle.merges.specs.Merges.{updateIn, mergeRefusal, mergedRows, mergeOf}
+use Rattle.merges.specs.Offering.{walked, fair}
+use Rattle.merges.proofs.OfferLaws.{walked-fair, walked-same}
+
+-- the fields that were read are those of the frame
+pub header-in : (h : UpdateHeader) (s : List ℕ) → updateValues h ≡ valuesIn update s → h ≡ updateIn s
+header-in h s e = ap updateFrom e
+
+-- what holds where an update is merged
+pub record Mergeable (t : Table) (s : List ℕ) (quality time : ℕ) : Type 0 where
+  pub rule : withinRule t ≡ true
+  pub origin : address (updateIn s .origin) ≡ true
+  pub entries : every entryRule (entriesOf (updateIn s .count) (partIn update s)) ≡ true
+  pub few : updateIn s .count ≤ 24
+  pub other : eqb (updateIn s .origin) (t .own) ≡ false
+  pub timely : inOrder (t .time) time ≡ true
+  pub heard : 40 ≤ quality
+
+pub mergeable : (t : Table) (s : List ℕ) (quality time : ℕ) → mergeRefusal t s quality time ≡ 0 → Mergeable t s quality time
+unfolding mergeRefusal
+mergeable t s quality time e =
+    let (a, e₁) = passed-by (not (withinRule t)) 14 _ (λ z. omega arith) e in
+    let (b, e₂) = passed-call (refusalAs update s) _ e₁ in
+    let (c, e₃) = passed-by (eqb (updateIn s .origin) (t .own)) 6 _ (λ z. omega arith) e₂ in
+    let (d, e₄) = passed-by (not (inOrder (t .time) time)) 8 _ (λ z. omega arith) e₃ in
+    let (f, e₅) = passed-by (ltb quality 40) 9 0 (λ z. omega arith) e₄ in
+    let p = passed (update .code) (lengthOf update (update .extent (valuesIn update s))) (update .rule (valuesIn update s) (partIn update s)) s b in
+    let (origin, entries) = and-eq-true-iff (address (updateIn s .origin)) (every entryRule (entriesOf (updateIn s .count) (partIn update s))) .0 (p .kept) in
+    let short = p .short in
+    let sized = p .sized in
+    record {
+      rule = not-false (withinRule t) a;
+      origin = origin;
+      entries = entries;
+      few = omega (arith, short, sized);
+      other = c;
+      timely = not-false (inOrder (t .time) time) d;
+      heard = ltb-false quality 40 f;
+    }
+
+module _ (t : Table) (s : List ℕ) (quality time : ℕ) (long : length (t .rows) ≡ 48) (m : Mergeable t s quality time) where
+  abbrev u : UpdateHeader
+  u = updateIn s
+
+  pub some-origin : 0 < u .origin
+  some-origin =
+      let h = leb-true 1 (u .origin) (and-eq-true-iff (leb 1 (u .origin)) (leb (u .origin) 0xFFFE) .0 (m .origin) .0) in
+      omega (arith, h)
+
+  standing-used : every used (standing time (rowsOf t)) ≡ true
+  standing-used = standing-every used time (rowsOf t) (in-use-used (t .rows))
+
+  -- the places that are handed on hold the rows that stand
+  module _ (places : List Row) (e : places ≡ standingPlaces time (t .rows)) where
+    stand : places ≡ pad (standing time (rowsOf t))
+    stand = e ∙ standing-places time (t .rows) (held t long (m .rule))
+
+    stand-rows : inUse places ≡ standing time (rowsOf t)
+    stand-rows = ap inUse stand ∙ in-use-pad (standing time (rowsOf t)) standing-used
+
+    stand-held : places ≡ pad (inUse places)
+    stand-held = stand ∙ ap pad (sym stand-rows)
+
+    stand-ascends : ascending (inUse places) ≡ true
+    stand-ascends = rw stand-rows (standing-ascending time (rowsOf t) (within t (m .rule) .ascends))
+
+    walk-fair : every fair (walked (t .own) (u .origin) quality (u .count) (partIn update s)) ≡ true
+    walk-fair = walked-fair (t .own) (u .origin) quality (u .count) (partIn update s) some-origin (m .entries)
+
+    merged-same : learnAll (u .origin) time (walked (t .own) (u .origin) quality (u .count) (partIn update s)) (learned (inUse places) 0) ≡ mergedRows t s quality time
+    unfolding mergedRows
+    merged-same =
+        rw stand-rows (walked-same (t .own) (u .origin) quality (u .count) (partIn update s) time (learned (standing time (rowsOf t)) 0) some-origin (m .entries) standing-used)
+
+    -- the same, of the header and the entries that were read
+    module _ (h : UpdateHeader) (part : List ℕ) (eh : h ≡ updateIn s) (ep : part ≡ partIn update s) where
+      pub learnable :
+          (places ≡ pad (inUse places)) × (ascending (inUse places) ≡ true) × (h .count ≤ 24) × (0 < h .origin)
+          × (every fair (walked (t .own) (h .origin) quality (h .count) part) ≡ true)
+      learnable = rw (eh, ep) (stand-held, stand-ascends, m .few, some-origin, walk-fair)
+
+      pub merged-by : learnAll (h .origin) time (walked (t .own) (h .origin) quality (h .count) part) (learned (inUse places) 0) ≡ mergedRows t s quality time
+      merged-by = rw (eh, ep) merged-same
+
+-- ---- the answer
+module _ (t : Table) (s : List ℕ) (quality time : ℕ) where
+  pub unmerged : (n : ℕ) → n ≡ mergeRefusal t s quality time → (n ≡ 0 → ⊥) → record { refused = n; skipped = 0; table = t } ≡ mergeOf t s quality time
+  unfolding mergeOf
+  unmerged n e z = rw (← e, ne-eqb n 0 z)
+
+  pub merges : (skipped : ℕ) (rows : List Row) → mergeRefusal t s quality time ≡ 0 → skipped ≡ mergedRows t s quality time .skipped → rows ≡ pad (mergedRows t s quality time .rows)
+      → record {
+        refused = 0;
+        skipped = skipped;
+        table = record { own = t .own; time = time; forwarded = t .forwarded; origin = t .origin; sequence = t .sequence; rows = rows };
+      } ≡ mergeOf t s quality time
+  unfolding mergeOf
+  merges skipped rows z k r = rw (z, k, r)

@@ -21,10 +21,9 @@ fn changes(via: u16, time: u32, candidate: Candidate, row: Row) -> bool
         return usable & same;
     }
     let hops = row.hops as u16;
-    !usable
-        | same
-        | (candidate.hops < hops)
-        | ((candidate.hops == hops) & (row.quality < candidate.quality))
+    let fewer = candidate.hops < hops;
+    let better = (candidate.hops == hops) & (row.quality < candidate.quality);
+    !usable | same | fewer | better
 }
 
 // Whether a candidate stores a row where its search stopped: `there` says that the row is for its destination, `full` that the last place is in use.

@@ -1,5 +1,6 @@
 pub mod PlaceLaws
 pub mod RowLaws
+pub mod RuleLaws
 pub mod StandingLaws
 pub mod TableLaws
 pub mod ToldLaws

@@ -1,0 +1,93 @@
+-- Rows within rule, and the table that is made of them.
+-- Assumes nothing.
+use mathlib.Core.Path.{_≡_, refl, sym, ap, _∙_}
+use mathlib.Core.Bool.{Bool, true, false, not, _&&_, cond, and-eq-true-iff, false≢true}
+use mathlib.Core.List.{List, [], _∷_}
+use Prim.Native.Nat.{ℕ}
+use native.Mathlib.Omega.{arith}
+use borrow.Author.Tests.{leb-true, lt-ltb}
+use lib.Dec.{eqb, leb, ltb}
+use lib.ListN.{length}
+use Rattle.octets.specs.Lists.{every}
+use Rattle.moments.specs.Moments.{inOrder}
+use Rattle.moments.proofs.MomentLaws.{in-order-on}
+use Rattle.shapes.specs.Rules.{address}
+use Rattle.routes.specs.declared.row.Row.{Row}
+use Rattle.routes.specs.declared.table.Table.{Table}
+use Rattle.routes.specs.Rows.{rowRule, ascending, inUse, pad}
+use Rattle.routes.specs.Tables.{rowsOf, pairOk, withinRule, withRows}
+use Rattle.routes.proofs.StandingLaws.{used, in-use-pad, pad-zeros}
+use Rattle.routes.proofs.TableLaws.{Within, by-parts}
+
+-- the parts of a row's rule
+pub record Ruled (own last : ℕ) (r : Row) : Type 0 where
+  pub destination : address (r .destination) ≡ true
+  pub other : not (eqb (r .destination) own) ≡ true
+  pub hop : address (r .«next_hop») ≡ true
+  pub otherHop : not (eqb (r .«next_hop») own) ≡ true
+  pub hops : (leb 1 (r .hops) && leb (r .hops) 16) ≡ true
+  pub quality : leb 40 (r .quality) ≡ true
+  pub past : inOrder (r .time) last ≡ true
+
+parts : (d o h p s q t : Bool) → (d && o && (h && p) && s && q && t) ≡ true
+    → (d ≡ true) × (o ≡ true) × (h ≡ true) × (p ≡ true) × (s ≡ true) × (q ≡ true) × (t ≡ true)
+parts true true true true true true true e = (refl, refl, refl, refl, refl, refl, refl)
+parts true true true true true true false e = absurd (false≢true e)
+parts true true true true true false t e = absurd (false≢true e)
+parts true true true true false q t e = absurd (false≢true e)
+parts true true true false s q t e = absurd (false≢true e)
+parts true true false p s q t e = absurd (false≢true e)
+parts true false h p s q t e = absurd (false≢true e)
+parts false o h p s q t e = absurd (false≢true e)
+
+module _ (own last : ℕ) (r : Row) where
+  pub ruled : rowRule own last r ≡ true → Ruled own last r
+  ruled e =
+      let k = parts (address (r .destination)) (not (eqb (r .destination) own)) (address (r .«next_hop»)) (not (eqb (r .«next_hop») own)) (leb 1 (r .hops) && leb (r .hops) 16) (leb 40 (r .quality)) (inOrder (r .time) last) e in
+      record { destination = k .0; other = k .1; hop = k .2; otherHop = k .3; hops = k .4; quality = k .5; past = k .6 }
+
+  pub by-rules : Ruled own last r → rowRule own last r ≡ true
+  by-rules k = rw (k .destination, k .other, k .hop, k .otherHop, k .hops, k .quality, k .past)
+
+-- what holds of every row by what held of it before
+pub every-on : (test test′ : Row → Bool) → ((r : Row) → test r ≡ true → test′ r ≡ true) → (rs : List Row) → every test rs ≡ true → every test′ rs ≡ true
+unfolding every
+every-on test test′ on [] e = refl
+every-on test test′ on (r ∷ rs) e =
+    let (here, later) = and-eq-true-iff (test r) (every test rs) .0 e in
+    rw (on r here) (every-on test test′ on rs later)
+
+-- rows within rule are so at a later time, and in use
+pub rules-later : (own last time : ℕ) → inOrder last time ≡ true → (rs : List Row) → every (rowRule own last) rs ≡ true → every (rowRule own time) rs ≡ true
+rules-later own last time h =
+    every-on (rowRule own last) (rowRule own time)
+    (λ r e.
+    let k = ruled own last r e in
+    by-rules own time r
+    (record {
+      destination = k .destination;
+      other = k .other;
+      hop = k .hop;
+      otherHop = k .otherHop;
+      hops = k .hops;
+      quality = k .quality;
+      past = in-order-on (r .time) last time (k .past) h;
+    }))
+
+pub rules-used : (own last : ℕ) (rs : List Row) → every (rowRule own last) rs ≡ true → every used rs ≡ true
+rules-used own last =
+    every-on (rowRule own last) used
+    (λ r e.
+    let h = leb-true 1 (r .destination) (and-eq-true-iff (leb 1 (r .destination)) (leb (r .destination) 0xFFFE) .0 (ruled own last r e .destination) .0) in
+    lt-ltb 0 (r .destination) (omega (arith, h)))
+
+-- the rows of a table that is made of rows within rule are these rows
+pub rows-of-pad : (own last : ℕ) (rs : List Row) → every (rowRule own last) rs ≡ true → inUse (pad rs) ≡ rs
+rows-of-pad own last rs e = in-use-pad rs (rules-used own last rs e)
+
+-- and it is within rule
+pub rows-within : (t : Table) → address (t .own) ≡ true → pairOk (t .forwarded) (t .origin) (t .sequence) ≡ true → (rs : List Row) → t .rows ≡ pad rs → ascending rs ≡ true
+    → every (rowRule (t .own) (t .time)) rs ≡ true → withinRule t ≡ true
+rows-within t unit pair rs e ascends rules =
+    let same : rowsOf t ≡ rs = ap inUse e ∙ rows-of-pad (t .own) (t .time) rs rules in
+    by-parts t (record { unit = unit; pair = pair; ascends = rw same ascends; rules = rw same rules; zeros = rw (same, e) (pad-zeros rs) })

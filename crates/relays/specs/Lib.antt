@@ -1,0 +1,3 @@
+pub mod Forwards
+pub mod Pages
+pub mod Relays

@@ -1,12 +1,12 @@
 -- A call's answer, where a number refuses it and where none does.
 -- Assumes nothing.
 use mathlib.Core.Path.{_≡_, refl, sym, ap, _∙_}
-use mathlib.Core.Bool.{Bool, true, false, not, cond, false≢true}
-use mathlib.Core.List.{List}
+use mathlib.Core.Bool.{Bool, true, false, cond, false≢true}
+use mathlib.Core.List.{List, [], _∷_}
 use Prim.Native.Nat.{ℕ}
 use borrow.Author.Tests.{eq-eqb, ne-eqb, eqb-true}
 use lib.Dec.{eqb}
-use Rattle.octets.specs.Answers.{Said, accepted, refused, unless, OneToOne}
+use Rattle.octets.specs.Answers.{Said, accepted, refused, Reason, refusing, first, unless, OneToOne}
 
 module _ (n : ℕ) (said : Said) where
   pub unless-none : n ≡ 0 → unless n said ≡ said
@@ -23,18 +23,29 @@ unless-number n vs = go (eqb n 0) refl
     go true q = sym (eqb-true n 0 q)
     go false q = refl
 
--- where no number is given, the first reason does not hold and those behind it give none
-pub passed-by : (b : Bool) (n rest : ℕ) → (n ≡ 0 → ⊥) → cond b n rest ≡ 0 → (b ≡ false) × (rest ≡ 0)
-passed-by false n rest z e = (refl, e)
-passed-by true n rest z e = absurd (z e)
+-- ---- a call that is not refused
+-- a reason that gives 0 does not hold
+abbrev pub Numbered : List Reason → Type 0
+Numbered [] = Unit
+Numbered (r ∷ rs) = (r .number ≡ 0 → r .holds ≡ false) × Numbered rs
 
--- and another call whose number would be given gave none
-pub passed-call : (n rest : ℕ) → cond (not (eqb n 0)) n rest ≡ 0 → (n ≡ 0) × (rest ≡ 0)
-passed-call n rest e = go (eqb n 0) refl e
+abbrev pub NoneHolds : List Reason → Type 0
+NoneHolds [] = Unit
+NoneHolds (r ∷ rs) = (r .holds ≡ false) × NoneHolds rs
+
+pub numbered : (b : Bool) (n : ℕ) → (n ≡ 0 → ⊥) → n ≡ 0 → b ≡ false
+numbered b n h z = absurd (h z)
+
+pub refusing-numbered : (n : ℕ) → n ≡ 0 → refusing n .holds ≡ false
+refusing-numbered n z = rw (eq-eqb n 0 z)
+
+pub none-holds : (rs : List Reason) → Numbered rs → first rs ≡ 0 → NoneHolds rs
+none-holds [] h e = tt
+none-holds (r ∷ rs) h e = go (r .holds) refl (none-holds rs (h .1)) e
   where
-    go : (b : Bool) → eqb n 0 ≡ b → cond (not b) n rest ≡ 0 → (n ≡ 0) × (rest ≡ 0)
-    go true q e = (eqb-true n 0 q, e)
-    go false q e = absurd (false≢true (sym q ∙ eq-eqb n 0 e))
+    go : (b : Bool) → r .holds ≡ b → (first rs ≡ 0 → NoneHolds rs) → cond b (r .number) (first rs) ≡ 0 → (r .holds ≡ false) × NoneHolds rs
+    go true q f z = absurd (false≢true (sym (h .0 z) ∙ q))
+    go false q f z = (q, f z)
 
 -- an answer that can be told from what it says is said by no other
 pub one-by-return :

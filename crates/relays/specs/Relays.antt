@@ -53,10 +53,10 @@ relayOf t s time out =
     let refusal = relayRefusal t s time (length out) in
     record {
       said =
-      unless refusal
-      (cond (forUs t s)
-      (accepted (dataIn s .count ∷ []))
-      (accepted (getD (lookupOf t (dataIn s .destination) time .values) 0 0 ∷ length (copyOf s) ∷ [])));
+          unless refusal
+          (cond (forUs t s)
+          (accepted (dataIn s .count ∷ []))
+          (accepted (getD (lookupOf t (dataIn s .destination) time .values) 0 0 ∷ length (copyOf s) ∷ [])));
       held = after refusal out (cond (forUs t s) out (sets out 0 (copyOf s)));
     }
 

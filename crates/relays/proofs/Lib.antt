@@ -1,2 +1,4 @@
 pub mod CopyLaws
+pub mod ForwardLaws
+pub mod ReasonLaws
 pub mod RelayLaws

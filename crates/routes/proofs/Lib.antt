@@ -1,3 +1,5 @@
+pub mod DroppedLaws
+pub mod KeepLaws
 pub mod PlaceLaws
 pub mod RowLaws
 pub mod RuleLaws

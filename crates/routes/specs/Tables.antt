@@ -32,6 +32,10 @@ withinRule t =
 abbrev pub withRows : Table → ℕ → List Row → Table
 withRows t time rs = record { own = t .own; time = time; forwarded = t .forwarded; origin = t .origin; sequence = t .sequence; rows = pad rs }
 
+-- the same table without the rows that are gone at this time
+abbrev pub dropped : ℕ → Table → Table
+dropped time t = withRows t (t .time) (standing time (rowsOf t))
+
 -- a changing call: the number that refuses it with the table as it was, or the new table
 abbrev pub settled : ℕ → Table → Table → Changed
 settled number t new = record { refused = number; table = cond (eqb number 0) new t }

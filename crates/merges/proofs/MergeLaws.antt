@@ -2,14 +2,15 @@
 -- Assumes nothing.
 use mathlib.Core.Path.{_≡_, sym, ap, _∙_}
 use mathlib.Core.Bool.{true, false, not, and-eq-true-iff}
-use mathlib.Core.List.{List}
+use mathlib.Core.List.{List, [], _∷_}
 use Prim.Native.Nat.{ℕ, _≤_, _<_}
 use native.Mathlib.Omega.{arith}
-use borrow.Author.Tests.{ne-eqb, not-false, ltb-false, leb-true}
+use borrow.Author.Tests.{eqb-true, ne-eqb, not-false, ltb-false, leb-true}
 use lib.Dec.{eqb, leb, ltb}
 use lib.ListN.{length}
+use Rattle.octets.specs.Answers.{reason, refusing}
 use Rattle.octets.specs.Lists.{every}
-use Rattle.octets.proofs.AnswerLaws.{passed-by, passed-call}
+use Rattle.octets.proofs.AnswerLaws.{numbered, refusing-numbered, none-holds}
 use Rattle.moments.specs.Moments.{inOrder}
 use Rattle.shapes.specs.Reading.{refusalAs}
 use Rattle.shapes.specs.Rules.{address}
@@ -45,23 +46,28 @@ pub record Mergeable (t : Table) (s : List ℕ) (quality time : ℕ) : Type 0 wh
 pub mergeable : (t : Table) (s : List ℕ) (quality time : ℕ) → mergeRefusal t s quality time ≡ 0 → Mergeable t s quality time
 unfolding mergeRefusal
 mergeable t s quality time e =
-    let (a, e₁) = passed-by (not (withinRule t)) 14 _ (λ z. omega arith) e in
-    let (b, e₂) = passed-call (refusalAs update s) _ e₁ in
-    let (c, e₃) = passed-by (eqb (updateIn s .origin) (t .own)) 6 _ (λ z. omega arith) e₂ in
-    let (d, e₄) = passed-by (not (inOrder (t .time) time)) 8 _ (λ z. omega arith) e₃ in
-    let (f, e₅) = passed-by (ltb quality 40) 9 0 (λ z. omega arith) e₄ in
-    let p = passed (update .code) (lengthOf update (update .extent (valuesIn update s))) (update .rule (valuesIn update s) (partIn update s)) s b in
+    let n =
+    none-holds
+    (reason (not (withinRule t)) 14 ∷
+    refusing (refusalAs update s) ∷
+    reason (eqb (updateIn s .origin) (t .own)) 6 ∷
+    reason (not (inOrder (t .time) time)) 8 ∷
+    reason (ltb quality 40) 9 ∷
+    [])
+    (numbered _ 14 (λ z. omega arith), (refusing-numbered (refusalAs update s), (numbered _ 6 (λ z. omega arith), (numbered _ 8 (λ z. omega arith), (numbered _ 9 (λ z. omega arith), tt))))) e in
+    let others = n .1 .1 in
+    let p = passed (update .code) (lengthOf update (update .extent (valuesIn update s))) (update .rule (valuesIn update s) (partIn update s)) s (eqb-true (refusalAs update s) 0 (not-false (eqb (refusalAs update s) 0) (n .1 .0))) in
     let (origin, entries) = and-eq-true-iff (address (updateIn s .origin)) (every entryRule (entriesOf (updateIn s .count) (partIn update s))) .0 (p .kept) in
     let short = p .short in
     let sized = p .sized in
     record {
-      rule = not-false (withinRule t) a;
+      rule = not-false (withinRule t) (n .0);
       origin = origin;
       entries = entries;
       few = omega (arith, short, sized);
-      other = c;
-      timely = not-false (inOrder (t .time) time) d;
-      heard = ltb-false quality 40 f;
+      other = others .0;
+      timely = not-false (inOrder (t .time) time) (others .1 .0);
+      heard = ltb-false quality 40 (others .1 .1 .0);
     }
 
 module _ (t : Table) (s : List ℕ) (quality time : ℕ) (long : length (t .rows) ≡ 48) (m : Mergeable t s quality time) where

@@ -12,6 +12,7 @@ use lib.ListN.{length}
 use Rattle.octets.specs.Lists.{every}
 use Rattle.routes.specs.declared.row.Row.{Row}
 use Rattle.routes.specs.Rows.{ascending}
+use Rattle.routes.proofs.StandingLaws.{ascending-rest}
 use Rattle.merges.specs.Learning.{put}
 
 module _ (w r : Row) (rs : List Row) where
@@ -51,10 +52,6 @@ put-length w (r ∷ rs) =
     by-place (λ l. length l ≤ suc (length rs) + 1) w r rs (λ h. omega (arith, more)) (λ h. omega arith) (λ h. omega arith)
 
 -- ascending, place by place
-pub ascending-first : (r : Row) (rs : List Row) → ascending (r ∷ rs) ≡ true → ascending rs ≡ true
-ascending-first r [] e = refl
-ascending-first r (s ∷ rs) e = and-eq-true-iff (ltb (r .destination) (s .destination)) (ascending (s ∷ rs)) .0 e .1
-
 ascending-step : (r s : Row) (rs : List Row) → ascending (r ∷ s ∷ rs) ≡ true → r .destination < s .destination
 ascending-step r s rs e = ltb-true _ _ (and-eq-true-iff (ltb (r .destination) (s .destination)) (ascending (s ∷ rs)) .0 e .0)
 
@@ -74,10 +71,10 @@ before-put r w (s ∷ rs) e h p =
 -- a row in place of one with its destination
 in-place : (w r : Row) (rs : List Row) → r .destination ≡ w .destination → ascending (r ∷ rs) ≡ true → ascending (w ∷ rs) ≡ true
 in-place w r [] e a = refl
-in-place w r (s ∷ rs) e a = ascending-cons w s rs (omega (arith, ascending-step r s rs a)) (ascending-first r (s ∷ rs) a)
+in-place w r (s ∷ rs) e a = ascending-cons w s rs (omega (arith, ascending-step r s rs a)) (ascending-rest r (s ∷ rs) a)
 
 pub put-ascending : (w : Row) (rs : List Row) → ascending rs ≡ true → ascending (put w rs) ≡ true
 put-ascending w [] e = refl
 put-ascending w (r ∷ rs) e =
-    let later = put-ascending w rs (ascending-first r rs e) in
+    let later = put-ascending w rs (ascending-rest r rs e) in
     by-place (λ l. ascending l ≡ true) w r rs (λ h. before-put r w rs e h later) (λ h. in-place w r rs h e) (λ h. ascending-cons w r rs h e)

@@ -13,8 +13,9 @@ use lib.ListN.{length, getD, take, drop, set, drop-of-length-le}
 use lib.Seq.{drop-cons, take-suc, append-snoc, set-split}
 use Rattle.routes.specs.declared.row.Row.{Row}
 use Rattle.routes.specs.Rows.{none, ascending, rowFor}
+use Rattle.routes.proofs.StandingLaws.{ascending-rest}
 use Rattle.merges.specs.Learning.{put}
-use Rattle.merges.proofs.PutLaws.{put-above, put-same, put-below, ascending-first}
+use Rattle.merges.proofs.PutLaws.{put-above, put-same, put-below}
 
 -- at this place, what is left to do for a destination is the whole
 pub record Searched (d : ℕ) (rs : List Row) (at : ℕ) : Type 0 where
@@ -68,12 +69,12 @@ pub none-above : (d : ℕ) (r : Row) (rs : List Row) → ascending (r ∷ rs) �
 none-above d r [] e h = rw (ne-eqb (r .destination) d (omega arith))
 none-above d r (s ∷ rs) e h =
     let k = ltb-true (r .destination) (s .destination) (and-eq-true-iff (ltb (r .destination) (s .destination)) (ascending (s ∷ rs)) .0 e .0) in
-    rw (ne-eqb (r .destination) d (omega arith)) (none-above d s rs (ascending-first r (s ∷ rs) e) (omega (arith, k)))
+    rw (ne-eqb (r .destination) d (omega arith)) (none-above d s rs (ascending-rest r (s ∷ rs) e) (omega (arith, k)))
 
 ascending-drop : (at : ℕ) (rs : List Row) → ascending rs ≡ true → ascending (drop at rs) ≡ true
 ascending-drop zero rs e = e
 ascending-drop (suc at) [] e = refl
-ascending-drop (suc at) (r ∷ rs) e = ascending-drop at rs (ascending-first r rs e)
+ascending-drop (suc at) (r ∷ rs) e = ascending-drop at rs (ascending-rest r rs e)
 
 pub stop-higher : (d : ℕ) (rs : List Row) (at : ℕ) → Searched d rs at → at < length rs → ascending rs ≡ true → d < getD rs at none .destination → rowFor d rs ≡ none
 stop-higher d rs at s h e k =

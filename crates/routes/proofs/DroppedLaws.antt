@@ -16,7 +16,9 @@ use Rattle.routes.specs.declared.row.Row.{Row}
 use Rattle.routes.specs.declared.table.Table.{Table}
 use Rattle.routes.specs.Rows.{none, usable, stands, forgotten, ascending, standing, rowFor}
 use Rattle.routes.specs.Tables.{rowsOf, withinRule, withRows, dropped, lookupOf, forgetOf}
-use Rattle.routes.proofs.KeepLaws.{some, every-standing, ascending-tail, ascending-standing, ascending-above, in-use-some, in-use-pad, within-pad, standing-rules}
+use Rattle.routes.proofs.KeepLaws.{ascending-above, standing-rules}
+use Rattle.routes.proofs.RuleLaws.{within-pad}
+use Rattle.routes.proofs.StandingLaws.{used, in-use-used, in-use-pad, standing-every, standing-ascending, ascending-rest}
 use Rattle.routes.proofs.TableLaws.{within, address-some}
 
 -- ---- the rows
@@ -30,7 +32,7 @@ standing-again time (r ∷ rs) = go (stands time r) refl (standing-again time rs
     go false q h = h
 
 pub dropped-rows : (time : ℕ) (t : Table) → rowsOf (dropped time t) ≡ standing time (rowsOf t)
-dropped-rows time t = in-use-pad (standing time (rowsOf t)) (every-standing some time (rowsOf t) (in-use-some (t .rows)))
+dropped-rows time t = in-use-pad (standing time (rowsOf t)) (standing-every used time (rowsOf t) (in-use-used (t .rows)))
 
 pub dropped-standing : (time : ℕ) (t : Table) → standing time (rowsOf (dropped time t)) ≡ standing time (rowsOf t)
 dropped-standing time t = ap (standing time) (dropped-rows time t) ∙ standing-again time (rowsOf t)
@@ -39,7 +41,7 @@ pub dropped-within : (time : ℕ) (t : Table) → withinRule t ≡ true → with
 dropped-within time t e =
     let w = within t e in
     within-pad (t .own) (t .time) (t .forwarded) (t .origin) (t .sequence) (standing time (rowsOf t)) (w .unit) (w .pair)
-    (ascending-standing time (rowsOf t) (w .ascends)) (standing-rules (t .own) (t .time) (t .time) (in-order-self (t .time)) time (rowsOf t) (w .rules))
+    (standing-ascending time (rowsOf t) (w .ascends)) (standing-rules (t .own) (t .time) (t .time) (in-order-self (t .time)) time (rowsOf t) (w .rules))
 
 -- ---- one row looked up
 usable-stands : (time : ℕ) (r : Row) → stands time r ≡ false → usable time r ≡ false
@@ -72,8 +74,8 @@ alike-none time d h = rw (ne-eqb 0 d (λ z. h (sym z)))
 alike : (time d : ℕ) → (d ≡ 0 → ⊥) → (rs : List Row) → ascending rs ≡ true → Alike time d (standing time rs) rs
 alike time d h [] e = record { test = refl; row = λ f. refl }
 alike time d h (r ∷ rs) e =
-    go (eqb (r .destination) d) (stands time r) refl refl (alike time d h rs (ascending-tail r rs e))
-    (every-standing (λ s. ltb (r .destination) (s .destination)) time rs (ascending-above r rs e))
+    go (eqb (r .destination) d) (stands time r) refl refl (alike time d h rs (ascending-rest r rs e))
+    (standing-every (λ s. ltb (r .destination) (s .destination)) time rs (ascending-above r rs e))
   where
     go : (same stays : Bool) → eqb (r .destination) d ≡ same → stands time r ≡ stays → Alike time d (standing time rs) rs
         → every (λ s. ltb (r .destination) (s .destination)) (standing time rs) ≡ true

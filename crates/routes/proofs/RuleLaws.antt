@@ -10,14 +10,14 @@ use lib.Dec.{eqb, leb, ltb}
 use lib.ListN.{length}
 use Rattle.octets.specs.Lists.{every}
 use Rattle.moments.specs.Moments.{inOrder}
-use Rattle.moments.proofs.MomentLaws.{in-order-on}
+use Rattle.moments.proofs.MomentLaws.{in-order-self, in-order-on}
 use Rattle.shapes.specs.Rules.{address}
 use Rattle.routes.specs.declared.row.Row.{Row}
 use Rattle.routes.specs.declared.table.Table.{Table}
-use Rattle.routes.specs.Rows.{rowRule, ascending, inUse, pad}
+use Rattle.routes.specs.Rows.{rowRule, withdrawnAt, ascending, inUse, pad}
 use Rattle.routes.specs.Tables.{rowsOf, pairOk, withinRule, withRows}
 use Rattle.routes.proofs.StandingLaws.{used, in-use-pad, pad-zeros}
-use Rattle.routes.proofs.TableLaws.{Within, by-parts}
+use Rattle.routes.proofs.TableLaws.{by-parts}
 
 -- the parts of a row's rule
 pub record Ruled (own last : ℕ) (r : Row) : Type 0 where
@@ -46,9 +46,6 @@ module _ (own last : ℕ) (r : Row) where
       let k = parts (address (r .destination)) (not (eqb (r .destination) own)) (address (r .«next_hop»)) (not (eqb (r .«next_hop») own)) (leb 1 (r .hops) && leb (r .hops) 16) (leb 40 (r .quality)) (inOrder (r .time) last) e in
       record { destination = k .0; other = k .1; hop = k .2; otherHop = k .3; hops = k .4; quality = k .5; past = k .6 }
 
-  pub by-rules : Ruled own last r → rowRule own last r ≡ true
-  by-rules k = rw (k .destination, k .other, k .hop, k .otherHop, k .hops, k .quality, k .past)
-
 -- what holds of every row by what held of it before
 pub every-on : (test test′ : Row → Bool) → ((r : Row) → test r ≡ true → test′ r ≡ true) → (rs : List Row) → every test rs ≡ true → every test′ rs ≡ true
 unfolding every
@@ -57,23 +54,21 @@ every-on test test′ on (r ∷ rs) e =
     let (here, later) = and-eq-true-iff (test r) (every test rs) .0 e in
     rw (on r here) (every-on test test′ on rs later)
 
--- rows within rule are so at a later time, and in use
-pub rules-later : (own last time : ℕ) → inOrder last time ≡ true → (rs : List Row) → every (rowRule own last) rs ≡ true → every (rowRule own time) rs ≡ true
-rules-later own last time h =
-    every-on (rowRule own last) (rowRule own time)
-    (λ r e.
+-- a row within rule is so at a later time, and when it is withdrawn
+pub rule-later : (own last time : ℕ) → inOrder last time ≡ true → (r : Row) → rowRule own last r ≡ true → rowRule own time r ≡ true
+rule-later own last time h r e =
     let k = ruled own last r e in
-    by-rules own time r
-    (record {
-      destination = k .destination;
-      other = k .other;
-      hop = k .hop;
-      otherHop = k .otherHop;
-      hops = k .hops;
-      quality = k .quality;
-      past = in-order-on (r .time) last time (k .past) h;
-    }))
+    rw (k .destination, k .other, k .hop, k .otherHop, k .hops, k .quality, in-order-on (r .time) last time (k .past) h)
 
+pub rule-withdrawn : (own time : ℕ) (r : Row) → rowRule own time r ≡ true → rowRule own time (withdrawnAt time r) ≡ true
+rule-withdrawn own time r e =
+    let k = ruled own time r e in
+    rw (k .destination, k .other, k .hop, k .otherHop, k .hops, k .quality, in-order-self time)
+
+pub rules-later : (own last time : ℕ) → inOrder last time ≡ true → (rs : List Row) → every (rowRule own last) rs ≡ true → every (rowRule own time) rs ≡ true
+rules-later own last time h = every-on (rowRule own last) (rowRule own time) (rule-later own last time h)
+
+-- a row within rule is in use
 pub rules-used : (own last : ℕ) (rs : List Row) → every (rowRule own last) rs ≡ true → every used rs ≡ true
 rules-used own last =
     every-on (rowRule own last) used
@@ -85,9 +80,10 @@ rules-used own last =
 pub rows-of-pad : (own last : ℕ) (rs : List Row) → every (rowRule own last) rs ≡ true → inUse (pad rs) ≡ rs
 rows-of-pad own last rs e = in-use-pad rs (rules-used own last rs e)
 
--- and it is within rule
-pub rows-within : (t : Table) → address (t .own) ≡ true → pairOk (t .forwarded) (t .origin) (t .sequence) ≡ true → (rs : List Row) → t .rows ≡ pad rs → ascending rs ≡ true
-    → every (rowRule (t .own) (t .time)) rs ≡ true → withinRule t ≡ true
-rows-within t unit pair rs e ascends rules =
-    let same : rowsOf t ≡ rs = ap inUse e ∙ rows-of-pad (t .own) (t .time) rs rules in
-    by-parts t (record { unit = unit; pair = pair; ascends = rw same ascends; rules = rw same rules; zeros = rw (same, e) (pad-zeros rs) })
+-- a table that is made of rows within rule, in order, is within rule
+pub within-pad : (own time : ℕ) (forwarded : Bool) (origin sequence : ℕ) (rs : List Row) → address own ≡ true → pairOk forwarded origin sequence ≡ true → ascending rs ≡ true
+    → every (rowRule own time) rs ≡ true
+    → withinRule (record { own = own; time = time; forwarded = forwarded; origin = origin; sequence = sequence; rows = pad rs }) ≡ true
+within-pad own time forwarded origin sequence rs unit pair ascends rules =
+    let same = rows-of-pad own time rs rules in
+    by-parts _ (record { unit = unit; pair = pair; ascends = rw same ascends; rules = rw same rules; zeros = rw same (pad-zeros rs) })

@@ -71,11 +71,11 @@ standing-shorter time (r ∷ rs) = go (stands time r) (standing-shorter time rs)
     go false h = omega arith
 
 -- ascending rows without one of them ascend
-ascending-rest : (r : Row) (rs : List Row) → ascending (r ∷ rs) ≡ true → ascending rs ≡ true
+pub ascending-rest : (r : Row) (rs : List Row) → ascending (r ∷ rs) ≡ true → ascending rs ≡ true
 ascending-rest r [] e = refl
 ascending-rest r (s ∷ rs) e = and-eq-true-iff (ltb (r .destination) (s .destination)) (ascending (s ∷ rs)) .0 e .1
 
-ascending-without : (r s : Row) (rs : List Row) → ascending (r ∷ s ∷ rs) ≡ true → ascending (r ∷ rs) ≡ true
+pub ascending-without : (r s : Row) (rs : List Row) → ascending (r ∷ s ∷ rs) ≡ true → ascending (r ∷ rs) ≡ true
 ascending-without r s [] e = refl
 ascending-without r s (q ∷ rs) e =
     let (one, later) = and-eq-true-iff (ltb (r .destination) (s .destination)) (ascending (s ∷ q ∷ rs)) .0 e in

@@ -1,0 +1,14 @@
+-- `table_of`: the numbers of the head, and the rows.
+-- Assumes nothing.
+use Rattle.stores.specs.TableBytes.{tableIn}
+use borrow.Author.Needs.{needs}
+use Rattle.stores.proofs.tables.table_of.Statement.{statement}
+use Rattle.stores.proofs.tables.table_of.Tie as tie
+
+returns : tie.Need-returns
+unfolding tableIn
+returns c = cc
+
+pub table-of-spec : {M : Type 1} → statement M
+table-of-spec =
+    tie.close (tie.spec (λ c κs. search needs) (λ c κs. search needs) (λ c κs. search needs) (λ c κs. search needs) (λ c κs. search needs) (λ c κs. search needs) returns)

@@ -1,0 +1,144 @@
+// A table as 539 bytes, the lowest byte of a number first: a head of 11, then 48 rows of 11.
+ghost use mathlib.Core.Path.{_≡_};
+ghost use mathlib.Core.List.{_++_};
+ghost use lib.Dec.{eqb};
+ghost use lib.ListN.{length};
+ghost use lib.Seq.{sets};
+ghost use Prim.Native.Nat.{_+_, _*_};
+ghost use Rattle.octets.specs.Layouts.{bytes};
+ghost use Rattle.octets.specs.Lists.{tab};
+ghost use Rattle.octets.specs.Numbers.{num};
+ghost use Rattle.stores.specs.TableBytes.{flag, rowWidths, rowValues, headWidths, headValues, rowAt, rowsBytes, tableIn, tableBytes, flagsOk, isTable};
+use octets::layouts::put_layout;
+use octets::numbers::number8;
+use octets::numbers::number16;
+use octets::numbers::number32;
+use routes::row::Row;
+use routes::table::Table;
+
+fn flag(b: bool) -> u32
+    ensures { λ r. ⌜ r ≡ flag b ⌝ }
+{
+    if b { 1 } else { 0 }
+}
+
+// The row at a place, counted from 0.
+fn row_at(s: &[u8], place: u8) -> Row
+    ensures { λ r. ⌜ r ≡ rowAt (now (s .entry)) place ⌝ }
+{
+    let at = 11 + 11 * (place as usize);
+    Row {
+        destination: number16(s, at),
+        next_hop: number16(s, at + 2),
+        hops: number8(s, at + 4),
+        quality: number8(s, at + 5),
+        time: number32(s, at + 6),
+        withdrawn: number8(s, at + 10) == 1,
+    }
+}
+
+fn rows_of(s: &[u8]) -> [Row; 48]
+    ensures { λ r. ⌜ r ≡ tab 48 (rowAt (now (s .entry))) ⌝ }
+{
+    let mut rows = [Row {
+        destination: 0,
+        next_hop: 0,
+        hops: 0,
+        quality: 0,
+        time: 0,
+        withdrawn: false,
+    }; 48];
+    let mut place: u8 = 0;
+    while place < 48 {
+        rows[place as usize] = row_at(s, place);
+        place += 1;
+    }
+    rows
+}
+
+// The table that the bytes hold. A byte past the end is 0, and a flag that is not 1 is off.
+pub fn table_of(s: &[u8]) -> Table
+    ensures { λ r. ⌜ r ≡ tableIn (now (s .entry)) ⌝ }
+{
+    let rows = rows_of(s);
+    Table {
+        own: number16(s, 0),
+        time: number32(s, 2),
+        forwarded: number8(s, 6) == 1,
+        origin: number16(s, 7),
+        sequence: number16(s, 9),
+        rows,
+    }
+}
+
+// Whether the flag of every row is 0 or 1.
+fn flags_ok(s: &[u8]) -> bool
+    ensures { λ r. ⌜ r ≡ flagsOk 48 (now (s .entry)) ⌝ }
+{
+    let mut ok = true;
+    let mut place: u8 = 0;
+    while place < 48 {
+        ok = ok & (number8(s, 21 + 11 * (place as usize)) <= 1);
+        place += 1;
+    }
+    ok
+}
+
+// Whether these are the bytes of a table: as many as one has, each flag 0 or 1.
+pub fn is_table(s: &[u8]) -> bool
+    ensures { λ r. ⌜ r ≡ isTable (now (s .entry)) ⌝ }
+{
+    (s.len() == 539) & (number8(s, 6) <= 1) & flags_ok(s)
+}
+
+fn put_row(out: &mut [u8], place: u8, row: Row)
+    ensures { λ _. ⌜ now (out .exit) ≡ sets (now (out .entry)) (11 + 11 * place) (bytes rowWidths (rowValues row)) ⌝ }
+{
+    let values = [
+        row.destination as u32,
+        row.next_hop as u32,
+        row.hops as u32,
+        row.quality as u32,
+        row.time,
+        flag(row.withdrawn),
+    ];
+    put_layout(
+        out,
+        11 + 11 * (place as usize),
+        &[2, 2, 1, 1, 4, 1],
+        &values,
+    );
+}
+
+fn put_rows(out: &mut [u8], rows: [Row; 48])
+    ensures { λ _. ⌜ (now (out .exit) ≡ sets (now (out .entry)) 11 (rowsBytes rows)) × (length rows ≡ 48) ⌝ }
+{
+    let mut written: u8 = 0;
+    while written < 48 {
+        let row = rows[written as usize];
+        put_row(out, written, row);
+        written += 1;
+    }
+}
+
+fn put_head(out: &mut [u8], table: Table)
+    ensures { λ _. ⌜ now (out .exit) ≡ sets (now (out .entry)) 0 (bytes headWidths (headValues table)) ⌝ }
+{
+    let values = [
+        table.own as u32,
+        table.time,
+        flag(table.forwarded),
+        table.origin as u32,
+        table.sequence as u32,
+    ];
+    put_layout(out, 0, &[2, 4, 1, 2, 2], &values);
+}
+
+// The bytes of a table, as far as there is room.
+pub fn put_table(out: &mut [u8], table: Table)
+    ensures { λ _. ⌜ now (out .exit) ≡ sets (now (out .entry)) 0 (tableBytes table) ⌝ }
+{
+    let rows = table.rows;
+    put_head(out, table);
+    put_rows(out, rows);
+}

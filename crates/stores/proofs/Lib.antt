@@ -1,1 +1,2 @@
 pub mod TableByteLaws
+pub mod TableTripLaws

@@ -136,7 +136,7 @@ fn put_head(out: &mut [u8], table: Table)
 
 // The bytes of a table, as far as there is room.
 pub fn put_table(out: &mut [u8], table: Table)
-    ensures { λ _. ⌜ now (out .exit) ≡ sets (now (out .entry)) 0 (tableBytes table) ⌝ }
+    ensures { λ _. ⌜ (now (out .exit) ≡ sets (now (out .entry)) 0 (tableBytes table)) × (length (table .rows) ≡ 48) ⌝ }
 {
     let rows = table.rows;
     put_head(out, table);

@@ -1,7 +1,7 @@
 -- `flags_ok`'s loop: whether the flags passed are 0 or 1.
 -- Assumes nothing.
 use mathlib.Core.Path.{_≡_, refl}
-use Prim.Native.Nat.{ℕ, _+_, _*_, _≤_, _-_}
+use Prim.Native.Nat.{_+_, _*_, _≤_, _-_}
 use native.Mathlib.Omega.{arith}
 use Rattle.octets.specs.Lists.{every, tab}
 use Rattle.octets.specs.Numbers.{num}

@@ -11,7 +11,7 @@ returns c =
     let rows = c .before .before in
     let head = rows .before .before .before .before in
     let a = head .before .before .before .before .args in
-    rows .put-rows .ensures .0 ∙ rw (head .put-head .ensures) (head-first (a .out .now) (a .table))
+    (rows .put-rows .ensures .0 ∙ rw (head .put-head .ensures) (head-first (a .out .now) (a .table)), rows .put-rows .ensures .1)
 
 pub put-table-spec : {M : Type 1} → statement M
 put-table-spec = tie.close (tie.spec (λ c κs. search needs) (λ c κs. search needs) (λ c. search needs) returns)

@@ -1,1 +1,2 @@
 pub mod FrameCallLaws
+pub mod TableCallLaws

@@ -1,1 +1,2 @@
 pub mod FrameCalls
+pub mod TableCalls

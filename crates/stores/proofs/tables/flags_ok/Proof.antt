@@ -25,7 +25,7 @@ loop-again : tie.Need-loop-again Inv-loop μ-loop
 loop-again c =
     let l = c .before .before .loop in
     let s = c .before .before .before .before .args .s .now in
-    (search needs, rw (tab-snoc (l .place) (λ i. num 1 s (21 + 11 * i)), every-snoc) (cc))
+    (search needs, rw (tab-snoc (l .place) (λ i. num 1 s (21 + 11 * i)), every-snoc, l .inv .1, c .number8 .ensures))
 
 returns : tie.Need-returns Inv-loop μ-loop
 returns c =

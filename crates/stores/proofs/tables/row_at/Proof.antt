@@ -11,12 +11,24 @@ use Rattle.stores.proofs.tables.row_at.Tie as tie
 returns : tie.Need-returns
 unfolding rowAt
 returns c =
-    let p = 11 + 11 * c .before .before .before .before .before .before .before .args .place in
+    let hops = c .before .before .before in
+    let p = 11 + 11 * hops .before .before .before .before .args .place in
     let a : p + 2 + 2 ≡ p + 4 = omega arith in
     let b : p + 4 + 1 ≡ p + 5 = omega arith in
     let d : p + 5 + 1 ≡ p + 6 = omega arith in
     let e : p + 6 + 4 ≡ p + 10 = omega arith in
-    cc
+    rw (
+      a,
+      b,
+      d,
+      e,
+      hops .before .before .number16 .ensures,
+      hops .before .number162 .ensures,
+      hops .number8 .ensures,
+      c .before .before .number82 .ensures,
+      c .before .number32 .ensures,
+      c .number83 .ensures,
+    )
 
 pub row-at-spec : {M : Type 1} → statement M
 row-at-spec =

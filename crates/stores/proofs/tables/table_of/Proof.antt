@@ -7,7 +7,16 @@ use Rattle.stores.proofs.tables.table_of.Tie as tie
 
 returns : tie.Need-returns
 unfolding tableIn
-returns c = cc
+returns c =
+    let forwarded = c .before .before in
+    rw (
+      forwarded .before .before .number16 .ensures,
+      forwarded .before .number32 .ensures,
+      forwarded .number8 .ensures,
+      c .before .number162 .ensures,
+      c .number163 .ensures,
+      forwarded .before .before .before .rows-of .ensures,
+    )
 
 pub table-of-spec : {M : Type 1} → statement M
 table-of-spec =

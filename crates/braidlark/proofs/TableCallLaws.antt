@@ -54,7 +54,8 @@ module _ (s last : List ℕ) (said number status : ℕ) (new : Table) (w : Writt
   written-back true l e = (w .0 ∙ e, rw e at (all-stored (λ z. l refl)))
   written-back false l e = (w .0 ∙ e, w .1 ∙ rw e)
 
--- the table is read, a call is made of it, and what it gives is written back where nothing refuses it
+-- the table is read, a call is made of it, and what it gives is written back where nothing refuses it: `A` is the call's answer, and the facts are, in order,
+-- what `is_table`, `table_of`, the call, `refuse_if` and `write_back` ensure
 module _ {A : Type 0} (refusal : A → ℕ) (table : A → Table) (call : Table → A) (s last : List ℕ) where
   abbrev Left : ℕ → A → Type 0
   Left status a = (status ≡ storedTable s (refusal a)) × (last ≡ after (storedTable s (refusal a)) s (tableBytes (table a)))

@@ -1,13 +1,10 @@
 // A table as 539 bytes, the lowest byte of a number first: a head of 11, then 48 rows of 11.
 ghost use mathlib.Core.Path.{_≡_};
-ghost use mathlib.Core.List.{_++_};
-ghost use lib.Dec.{eqb};
 ghost use lib.ListN.{length};
 ghost use lib.Seq.{sets};
 ghost use Prim.Native.Nat.{_+_, _*_};
 ghost use Rattle.octets.specs.Layouts.{bytes};
 ghost use Rattle.octets.specs.Lists.{tab};
-ghost use Rattle.octets.specs.Numbers.{num};
 ghost use Rattle.stores.specs.TableBytes.{flag, rowWidths, rowValues, headWidths, headValues, rowAt, rowsBytes, tableIn, tableBytes, flagsOk, isTable};
 use octets::layouts::put_layout;
 use octets::numbers::number8;

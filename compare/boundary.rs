@@ -1,4 +1,5 @@
-//! The library's C interface, and a safe wrapper for each call. All the unsafe code of the calls is here.
+//! The library's C interface: what every call shares, and a safe wrapper for each call on frames. All their unsafe code
+//! is here; that of the calls on tables is in `routes_calls`.
 //!
 //! A call is a value that holds its arguments: it can be made and shown. Its answer is the status together with the
 //! whole exit contents of every buffer lent for output, so that what a call must leave alone is compared as well.
@@ -241,14 +242,14 @@ impl fmt::Display for Empty {
 }
 
 /// The longest buffer that is lent for output.
-const MOST_FILLER: usize = 4096;
+pub const MOST_FILLER: usize = 4096;
 
 /// How much filler stands on either side of a lent buffer. Odd, so that lent bytes are not aligned by luck.
 const GUARD: usize = 33;
 
 /// What stands in the places that nobody wrote to. It differs from place to place, so that no copied or constant run
 /// of values passes for it, and it is made before the program runs, because each call lays and checks much of it.
-trait Filler: Copy + PartialEq + fmt::LowerHex + 'static {
+pub trait Filler: Copy + PartialEq + fmt::LowerHex + 'static {
     const FILLER: &'static [Self; MOST_FILLER];
 }
 
@@ -258,6 +259,18 @@ impl Filler for u8 {
         let mut place = 0;
         while place < MOST_FILLER {
             filler[place] = (place as u8).wrapping_mul(0x3D) ^ 0xA5;
+            place += 1;
+        }
+        filler
+    };
+}
+
+impl Filler for u16 {
+    const FILLER: &'static [u16; MOST_FILLER] = &{
+        let mut filler = [0; MOST_FILLER];
+        let mut place = 0;
+        while place < MOST_FILLER {
+            filler[place] = (place as u16).wrapping_mul(0x9E3D) ^ 0xA5C3;
             place += 1;
         }
         filler
@@ -277,19 +290,19 @@ impl Filler for u32 {
 }
 
 /// The exit contents of a lent buffer of this length that was written to from its start.
-fn laid_over_filler<T: Filler>(written: &[T], length: usize) -> Vec<T> {
+pub fn laid_over_filler<T: Filler>(written: &[T], length: usize) -> Vec<T> {
     let mut contents = T::FILLER[..length].to_vec();
     contents[..written.len()].copy_from_slice(written);
     contents
 }
 
 /// A buffer lent to the library for one call, inside a larger one of filler.
-struct Lent<T> {
+pub struct Lent<T> {
     memory: Vec<T>,
 }
 
 impl<T: Filler> Lent<T> {
-    fn input(contents: &[T]) -> Lent<T> {
+    pub fn input(contents: &[T]) -> Lent<T> {
         let mut memory = Vec::with_capacity(GUARD + contents.len() + GUARD);
         memory.extend_from_slice(&T::FILLER[..GUARD]);
         memory.extend_from_slice(contents);
@@ -297,39 +310,39 @@ impl<T: Filler> Lent<T> {
         Lent { memory }
     }
 
-    fn output(length: usize) -> Lent<T> {
+    pub fn output(length: usize) -> Lent<T> {
         Lent::input(&T::FILLER[..length])
     }
 
     /// The address to lend. It is a mutable one of the whole memory, for inputs too, because the library is not
     /// trusted to write only where it should.
-    fn address(&mut self, empty: Empty) -> *mut T {
+    pub fn address(&mut self, empty: Empty) -> *mut T {
         match empty {
             Empty::Null if self.contents().is_empty() => std::ptr::null_mut(),
             _ => self.memory.as_mut_ptr().wrapping_add(GUARD),
         }
     }
 
-    fn contents(&self) -> &[T] {
+    pub fn contents(&self) -> &[T] {
         &self.memory[GUARD..self.memory.len() - GUARD]
     }
 
-    fn is_overrun(&self) -> bool {
+    pub fn is_overrun(&self) -> bool {
         let guard = &T::FILLER[..GUARD];
         !self.memory.starts_with(guard) || !self.memory.ends_with(guard)
     }
 
-    fn is_changed(&self, contents: &[T]) -> bool {
+    pub fn is_changed(&self, contents: &[T]) -> bool {
         self.contents() != contents || self.is_overrun()
     }
 }
 
 /// The names of what a call changed although it must not.
-fn names_of(tests: &[(&'static str, bool)]) -> Vec<&'static str> {
+pub fn names_of(tests: &[(&'static str, bool)]) -> Vec<&'static str> {
     tests.iter().filter(|(_, disturbed)| *disturbed).map(|(name, _)| *name).collect()
 }
 
-fn show_disturbed(text: &mut fmt::Formatter, disturbed: &[&str]) -> fmt::Result {
+pub fn show_disturbed(text: &mut fmt::Formatter, disturbed: &[&str]) -> fmt::Result {
     if disturbed.is_empty() {
         return Ok(());
     }
@@ -337,12 +350,12 @@ fn show_disturbed(text: &mut fmt::Formatter, disturbed: &[&str]) -> fmt::Result 
 }
 
 /// An input in hex, with its length.
-fn input_shown<T: fmt::LowerHex>(values: &[T]) -> String {
+pub fn input_shown<T: fmt::LowerHex>(values: &[T]) -> String {
     format!("{} length {}", hex(values), values.len())
 }
 
 /// An output in hex, up to the last place that does not hold its filler any more.
-fn buffer_shown<T: Filler>(values: &[T]) -> String {
+pub fn buffer_shown<T: Filler>(values: &[T]) -> String {
     let untouched = values.iter().zip(T::FILLER).rev().take_while(|(value, filler)| value == filler).count();
     let (touched, _) = values.split_at(values.len() - untouched);
     match untouched {
@@ -351,9 +364,9 @@ fn buffer_shown<T: Filler>(values: &[T]) -> String {
     }
 }
 
-/// A length or place that was given back.
-fn number_shown(value: u32) -> String {
-    match value == u32::FILLER[0] {
+/// A number that was given back.
+pub fn number_shown<T: Filler + fmt::Display>(value: T) -> String {
+    match value == T::FILLER[0] {
         true => "untouched".to_string(),
         false => value.to_string(),
     }

@@ -3,26 +3,37 @@
 
 #![deny(warnings)]
 
+mod bench;
 mod boundary;
 mod frames;
 mod frames_check;
 mod frames_drafts;
 mod random;
 mod refusal;
+mod relays;
 mod report;
+mod routes;
+mod routes_calls;
+mod routes_cases;
+mod routes_check;
+mod routes_drafts;
 
 use report::{Difference, Progress, Tally};
 use std::process::ExitCode;
 
 const USAGE: &str = "\
-usage: compare [--seed N] [--frames N] [--quiet] [--help]
+usage: compare [--seed N] [--frames N] [--routes N] [--quiet] [--help]
+       compare bench [CASE [TIMES]]
 
 Compares the library, call by call, with an independent implementation.
 
   --seed N    start of the random numbers, decimal or 0x and hex (1)
   --frames N  random frames to compare, each in several calls (300000)
+  --routes N  random calls on tables of routes to compare (2100000)
   --quiet     no progress on standard error
   --help      this text
+
+bench measures merges by the library and by the independent table.
 
 Prints one line for each subject. Exits with 0 if every call agrees, 1 at the
 first difference (seed, call and both answers on standard error), 2 if used wrongly.";
@@ -35,6 +46,7 @@ const USED_WRONGLY: u8 = 2;
 pub struct Options {
     pub seed: u64,
     pub frames: u64,
+    pub routes: u64,
     pub quiet: bool,
     pub help: bool,
 }
@@ -45,30 +57,39 @@ struct Subject {
     check: fn(&Options, &mut Progress) -> Result<Tally, Difference>,
 }
 
-const SUBJECTS: [Subject; 1] = [Subject { name: "frames", check: frames_check::check }];
+const SUBJECTS: [Subject; 2] =
+    [Subject { name: "frames", check: frames_check::check }, Subject { name: "routes", check: routes_check::check }];
 
 fn main() -> ExitCode {
-    let arguments = std::env::args_os().skip(1).map(|argument| argument.to_string_lossy().into_owned());
-    let status = match parse(arguments) {
-        Ok(options) if options.help => {
+    let arguments: Vec<String> =
+        std::env::args_os().skip(1).map(|argument| argument.to_string_lossy().into_owned()).collect();
+    let result = match arguments.split_first() {
+        Some((first, rest)) if first == "bench" => bench::run(rest).map(|()| AGREED),
+        _ => parse(arguments.into_iter()).map(|options| obey(&options)),
+    };
+    ExitCode::from(result.unwrap_or_else(|message| {
+        eprintln!("compare: {}; see compare --help", message);
+        USED_WRONGLY
+    }))
+}
+
+fn obey(options: &Options) -> u8 {
+    match options.help {
+        true => {
             println!("{}", USAGE);
             AGREED
         }
-        Ok(options) => compare(&options),
-        Err(message) => {
-            eprintln!("compare: {}; see compare --help", message);
-            USED_WRONGLY
-        }
-    };
-    ExitCode::from(status)
+        false => compare(options),
+    }
 }
 
 fn parse(mut arguments: impl Iterator<Item = String>) -> Result<Options, String> {
-    let mut options = Options { seed: 1, frames: 300_000, quiet: false, help: false };
+    let mut options = Options { seed: 1, frames: 300_000, routes: 2_100_000, quiet: false, help: false };
     while let Some(argument) = arguments.next() {
         match argument.as_str() {
             "--seed" => options.seed = number(&argument, arguments.next())?,
             "--frames" => options.frames = number(&argument, arguments.next())?,
+            "--routes" => options.routes = number(&argument, arguments.next())?,
             "--quiet" => options.quiet = true,
             "--help" => options.help = true,
             _ => return Err(format!("unknown argument '{}'", argument)),

@@ -5,14 +5,30 @@
 pub enum Refusal {
     /// The frame is empty, over 255 bytes, or not as long as its type and count give.
     Length = 1,
-    /// The type is unknown.
+    /// The type is unknown, or not one that the call wants.
     Type = 2,
     /// The last byte is not the XOR of all before it.
     Checksum = 3,
-    /// A field rule is broken.
+    /// A field rule is broken, or a beacon's delay sum is too large.
     Field = 4,
     /// The output buffer is shorter than what would be written.
     Room = 5,
+    /// The frame's sender, or the unit to forget, is this unit.
+    Own = 6,
+    /// The time is earlier than the last accepted one.
+    Early = 8,
+    /// The link quality is under 40.
+    Quality = 9,
+    /// The ttl is used up, and the frame is not for this unit.
+    Ttl = 10,
+    /// There is no usable route.
+    NoRoute = 11,
+    /// A page, or a table handed in, is out of rule.
+    OutOfRule = 14,
+    /// The network is not the caller's.
+    Network = 15,
+    /// The beacon is not this unit's to forward.
+    NotOurs = 16,
 }
 
 impl Refusal {

@@ -18,14 +18,31 @@ impl Display for Difference {
     }
 }
 
-/// How many calls agree, by their status.
+/// How many calls agree, by their status; where a subject tells kinds of calls apart, also of each kind.
 pub struct Tally {
     agreed: [u64; 256],
+    kinds: Vec<(&'static str, Tally)>,
 }
 
 impl Tally {
     pub fn new() -> Tally {
-        Tally { agreed: [0; 256] }
+        Tally { agreed: [0; 256], kinds: Vec::new() }
+    }
+
+    /// The tally of all calls of these kinds.
+    pub fn of_kinds(kinds: Vec<(&'static str, Tally)>) -> Tally {
+        let mut agreed = [0; 256];
+        for (_, kind) in &kinds {
+            for (sum, times) in agreed.iter_mut().zip(kind.agreed) {
+                *sum += times;
+            }
+        }
+        Tally { agreed, kinds }
+    }
+
+    /// How many calls were answered with this status.
+    pub fn times(&self, status: u8) -> u64 {
+        self.agreed[usize::from(status)]
     }
 
     /// Makes the call and counts it if it is answered as expected.
@@ -52,7 +69,11 @@ impl Display for Tally {
             let lead = if order == 0 { "refused " } else { "" };
             write!(text, ", {}{}: {}", lead, number, times)?;
         }
-        text.write_str(")")
+        text.write_str(")")?;
+        for (name, kind) in &self.kinds {
+            write!(text, "\n  {}: {}", name, kind)?;
+        }
+        Ok(())
     }
 }
 

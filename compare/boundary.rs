@@ -242,7 +242,7 @@ impl fmt::Display for Empty {
 }
 
 /// The longest buffer that is lent for output.
-pub const MOST_FILLER: usize = 4096;
+const MOST_FILLER: usize = 4096;
 
 /// How much filler stands on either side of a lent buffer. Odd, so that lent bytes are not aligned by luck.
 const GUARD: usize = 33;

@@ -33,10 +33,12 @@ Compares the library, call by call, with an independent implementation.
   --quiet     no progress on standard error
   --help      this text
 
-bench measures merges by the library and by the independent table.
+Prints the counts of each subject. Exits with 0 if every call agrees, 1 at the
+first difference (seed, call and both answers on standard error), 2 if used wrongly.
 
-Prints one line for each subject. Exits with 0 if every call agrees, 1 at the
-first difference (seed, call and both answers on standard error), 2 if used wrongly.";
+bench merges updates TIMES times (200000) by the library and by the independent
+table. CASE is library-24, bytes-24, memory-24, library-0, bytes-0 or memory-0;
+without one it is all of them.";
 
 const AGREED: u8 = 0;
 const DIFFERED: u8 = 1;

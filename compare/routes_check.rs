@@ -9,7 +9,7 @@ use crate::report::{Difference, Progress, Tally};
 use crate::routes::Table;
 use crate::routes_calls::{Ask, TableAnswer, TableCall, CALLS};
 use crate::routes_cases;
-use crate::routes_drafts::{Drawing, Scene};
+use crate::routes_drafts::{random_start, Drawing, Scene};
 use crate::Options;
 
 pub type Agreement = Result<(), Difference>;
@@ -52,7 +52,7 @@ impl Check {
     /// A fresh table, or at times one that is made up, and then so many calls less one.
     fn history(&mut self, calls: u64) -> Agreement {
         let scene = Scene::new(&mut self.random);
-        let time = self.random.within(0, 0xFFFF_FFFF);
+        let time = random_start(&mut self.random);
         let answer = self.put(&[0; Table::LENGTH], &Ask::Fresh { own: scene.own, time })?;
         let mut bytes = answer.table;
         if self.random.below(4) == 0 {

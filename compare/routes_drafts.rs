@@ -78,7 +78,7 @@ impl Scene {
         let mut units = self.units[1..].to_vec();
         units.sort_unstable();
         units.truncate(random.one_of(&[MOST_ROWS, MOST_ROWS, MOST_ROWS - 1, 3]));
-        let time = random.within(0, 0xFFFF_FFFF);
+        let time = random_start(random);
         let mut rows = [Row::UNUSED; MOST_ROWS];
         for (row, destination) in rows.iter_mut().zip(units) {
             let next_hop = random.one_of(&self.units[1..]);
@@ -92,6 +92,12 @@ impl Scene {
         let pair = random.one_of(&[None, Some(pair)]);
         Table { own: self.own, time, pair, rows }
     }
+}
+
+/// When a table's time starts: anywhere, or where ages reach back to 0 or times end.
+pub fn random_start(random: &mut Random) -> u32 {
+    let (anywhere, before_the_end) = (random.draw() as u32, 0xFFFF_FFFF - random.below(2_000_000) as u32);
+    random.one_of(&[0, 1, anywhere, anywhere, before_the_end, before_the_end, 0xFFFF_FFFF])
 }
 
 /// An age at a limit, or one less or more.
@@ -112,7 +118,7 @@ pub struct Drawing<'a> {
 impl Drawing<'_> {
     pub fn ask(&mut self) -> Ask {
         match self.random.below(32) {
-            0 => Ask::Fresh { own: self.unit(), time: self.random.within(0, 0xFFFF_FFFF) },
+            0 => Ask::Fresh { own: self.unit(), time: random_start(self.random) },
             1..=5 => Ask::Lookup { destination: self.unit(), time: self.reading_time() },
             6 | 7 => Ask::Forget { unit: self.unit(), time: self.changing_time() },
             8..=17 => self.merge(),

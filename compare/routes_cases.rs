@@ -101,7 +101,7 @@ struct Story<'a> {
 }
 
 impl Story<'_> {
-    fn begin(check: &mut Check) -> Result<Story, Difference> {
+    fn begin(check: &mut Check) -> Result<Story<'_>, Difference> {
         let mut story = Story { check, table: vec![0xFF; Table::LENGTH] };
         story.change(Ask::Fresh { own: OWN, time: START })?;
         Ok(story)

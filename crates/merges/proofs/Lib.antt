@@ -1,4 +1,5 @@
 pub mod CandidateLaws
+pub mod KeepLaws
 pub mod LearnLaws
 pub mod LoopLaws
 pub mod MergeLaws

@@ -70,14 +70,18 @@ mergeable t s quality time e =
       heard = ltb-false quality 40 (others .1 .1 .0);
     }
 
+pub some-origin : (t : Table) (s : List ℕ) (quality time : ℕ) → Mergeable t s quality time → 0 < updateIn s .origin
+some-origin t s quality time m =
+    let origin = updateIn s .origin in
+    let h = leb-true 1 origin (and-eq-true-iff (leb 1 origin) (leb origin 0xFFFE) .0 (m .origin) .0) in
+    omega (arith, h)
+
 module _ (t : Table) (s : List ℕ) (quality time : ℕ) (long : length (t .rows) ≡ 48) (m : Mergeable t s quality time) where
   abbrev u : UpdateHeader
   u = updateIn s
 
-  pub some-origin : 0 < u .origin
-  some-origin =
-      let h = leb-true 1 (u .origin) (and-eq-true-iff (leb 1 (u .origin)) (leb (u .origin) 0xFFFE) .0 (m .origin) .0) in
-      omega (arith, h)
+  some : 0 < u .origin
+  some = some-origin t s quality time m
 
   standing-used : every used (standing time (rowsOf t)) ≡ true
   standing-used = standing-every used time (rowsOf t) (in-use-used (t .rows))
@@ -97,19 +101,19 @@ module _ (t : Table) (s : List ℕ) (quality time : ℕ) (long : length (t .rows
     stand-ascends = rw stand-rows (standing-ascending time (rowsOf t) (within t (m .rule) .ascends))
 
     walk-fair : every fair (walked (t .own) (u .origin) quality (u .count) (partIn update s)) ≡ true
-    walk-fair = walked-fair (t .own) (u .origin) quality (u .count) (partIn update s) some-origin (m .entries)
+    walk-fair = walked-fair (t .own) (u .origin) quality (u .count) (partIn update s) some (m .entries)
 
     merged-same : learnAll (u .origin) time (walked (t .own) (u .origin) quality (u .count) (partIn update s)) (learned (inUse places) 0) ≡ mergedRows t s quality time
     unfolding mergedRows
     merged-same =
-        rw stand-rows (walked-same (t .own) (u .origin) quality (u .count) (partIn update s) time (learned (standing time (rowsOf t)) 0) some-origin (m .entries) standing-used)
+        rw stand-rows (walked-same (t .own) (u .origin) quality (u .count) (partIn update s) time (learned (standing time (rowsOf t)) 0) some (m .entries) standing-used)
 
     -- the same, of the header and the entries that were read
     module _ (h : UpdateHeader) (part : List ℕ) (eh : h ≡ updateIn s) (ep : part ≡ partIn update s) where
       pub learnable :
           (places ≡ pad (inUse places)) × (ascending (inUse places) ≡ true) × (h .count ≤ 24) × (0 < h .origin)
           × (every fair (walked (t .own) (h .origin) quality (h .count) part) ≡ true)
-      learnable = rw (eh, ep) (stand-held, stand-ascends, m .few, some-origin, walk-fair)
+      learnable = rw (eh, ep) (stand-held, stand-ascends, m .few, some, walk-fair)
 
       pub merged-by : learnAll (h .origin) time (walked (t .own) (h .origin) quality (h .count) part) (learned (inUse places) 0) ≡ mergedRows t s quality time
       merged-by = rw (eh, ep) merged-same

@@ -1,0 +1,130 @@
+-- A merge that is accepted gives a table within rule, and it does so whether or not the rows that are gone were there.
+-- Assumes nothing.
+use mathlib.Core.Path.{_≡_, refl, sym, ap, _∙_}
+use mathlib.Core.Bool.{Bool, true, false, not, _&&_, _||_, cond, and-eq-true-iff, false≢true}
+use mathlib.Core.List.{List, [], _∷_}
+use Prim.Native.Nat.{ℕ, _≤_}
+use native.Mathlib.Omega.{arith}
+use borrow.Author.Tests.{eq-eqb, le-leb}
+use lib.Dec.{eqb}
+use Rattle.octets.specs.Lists.{every}
+use Rattle.moments.proofs.MomentLaws.{in-order-self}
+use Rattle.shapes.specs.Rules.{address}
+use Rattle.shapes.specs.Shape.{partIn}
+use Rattle.traffic.specs.declared.entry.Entry.{Entry}
+use Rattle.traffic.specs.Traffic.{entryRule, update, entriesOf}
+use Rattle.routes.specs.declared.table.Table.{Table}
+use Rattle.routes.specs.Rows.{rowRule, ascending, standing}
+use Rattle.routes.specs.Tables.{rowsOf, withinRule, withRows, dropped}
+use Rattle.routes.proofs.DroppedLaws.{dropped-within, dropped-standing}
+use Rattle.routes.proofs.KeepLaws.{standing-rules}
+use Rattle.routes.proofs.RuleLaws.{rule-withdrawn, within-pad}
+use Rattle.routes.proofs.StandingLaws.{standing-ascending}
+use Rattle.routes.proofs.TableLaws.{within}
+use Rattle.merges.specs.declared.candidate.Candidate.{Candidate}
+use Rattle.merges.specs.Candidates.{neighbour, offered, passedOver, offers, candidates}
+use Rattle.merges.specs.Learning.{learned}
+use Rattle.merges.specs.Merges.{updateIn, mergeRefusal, mergedRows, mergeOf}
+use Rattle.merges.proofs.CandidateLaws.{good-hops, good-quality}
+use Rattle.merges.proofs.LearnLaws.{Kept, Kepts, learn-all-every, learn-all-ascending}
+use Rattle.merges.proofs.MergeLaws.{Mergeable, mergeable, some-origin}
+
+-- ---- a candidate's row is within rule
+module _ (own via time : ℕ) (a : address via ≡ true) (o : not (eqb via own) ≡ true) where
+  candidate-kept : (c : Candidate) → address (c .destination) ≡ true → not (eqb (c .destination) own) ≡ true → 1 ≤ c .hops → Kept (rowRule own time) via time c
+  candidate-kept c d n h =
+      record {
+        new =
+            λ b.
+            rw (
+              d,
+              n,
+              a,
+              o,
+              le-leb 1 (c .hops) h,
+              le-leb (c .hops) 16 (good-hops c b),
+              le-leb 40 (c .quality) (good-quality c b),
+              in-order-self time,
+            );
+        back = rule-withdrawn own time;
+      }
+
+  offers-kept : (quality : ℕ) (es : List Entry) → every entryRule es ≡ true → Kepts (rowRule own time) via time (offers own via quality es)
+  unfolding every
+  offers-kept quality [] r = tt
+  offers-kept quality (e ∷ es) r =
+      let (here, later) = and-eq-true-iff (entryRule e) (every entryRule es) .0 r in
+      go (passedOver own via e) refl here (offers-kept quality es later)
+    where
+      first : (d n h : Bool) → (d && n && h) ≡ true → d ≡ true
+      first true n h e = refl
+      first false n h e = absurd (false≢true e)
+
+      unlike : (x y z : Bool) → (x || y || z) ≡ false → not x ≡ true
+      unlike true y z e = absurd (false≢true (sym e))
+      unlike false y z e = refl
+
+      go : (b : Bool) → passedOver own via e ≡ b → entryRule e ≡ true → Kepts (rowRule own time) via time (offers own via quality es)
+          → Kepts (rowRule own time) via time (cond b (offers own via quality es) (offered quality e ∷ offers own via quality es))
+      go true q here later = later
+      go false q here later = (
+        candidate-kept (offered quality e)
+            (first (address (e .destination)) (address (e .«next_hop»)) _ here)
+            (unlike (eqb (e .destination) own) (eqb (e .destination) via) (eqb (e .«next_hop») own) q)
+            (omega arith),
+        later,
+      )
+
+-- ---- the table
+module _ (t : Table) (s : List ℕ) (quality time : ℕ) (z : mergeOf t s quality time .refused ≡ 0) where
+  pub merged-able : Mergeable t s quality time
+  unfolding mergeOf
+  merged-able = mergeable t s quality time z
+
+  abbrev u : ℕ
+  u = updateIn s .origin
+
+  pub merge-rules : every (rowRule (t .own) time) (mergedRows t s quality time .rows) ≡ true
+  unfolding mergedRows
+  merge-rules =
+      let m = merged-able in
+      let o : not (eqb u (t .own)) ≡ true = rw (m .other) in
+      learn-all-every (rowRule (t .own) time) u time (some-origin t s quality time m) (candidates (t .own) u quality (entriesOf (updateIn s .count) (partIn update s))) (
+        candidate-kept (t .own) u time (m .origin) o (neighbour u quality) (m .origin) o (omega arith),
+        offers-kept (t .own) u time (m .origin) o quality (entriesOf (updateIn s .count) (partIn update s)) (m .entries),
+      )
+      (learned (standing time (rowsOf t)) 0)
+      (standing-rules (t .own) (t .time) time (m .timely) time (rowsOf t) (within t (m .rule) .rules))
+
+  merge-ascends : ascending (mergedRows t s quality time .rows) ≡ true
+  unfolding mergedRows
+  merge-ascends =
+      learn-all-ascending u time (candidates (t .own) u quality (entriesOf (updateIn s .count) (partIn update s))) (learned (standing time (rowsOf t)) 0)
+      (standing-ascending time (rowsOf t) (within t (merged-able .rule) .ascends))
+
+  pub merge-gives : mergeOf t s quality time .table ≡ withRows t time (mergedRows t s quality time .rows)
+  unfolding mergeOf
+  merge-gives = rw (eq-eqb (mergeRefusal t s quality time) 0 z)
+
+  pub merge-within : withinRule (mergeOf t s quality time .table) ≡ true
+  merge-within =
+      let w = within t (merged-able .rule) in
+      rw merge-gives (within-pad (t .own) time (t .forwarded) (t .origin) (t .sequence) (mergedRows t s quality time .rows) (w .unit) (w .pair) merge-ascends merge-rules)
+
+-- ---- without the rows that are gone
+module _ (t : Table) (s : List ℕ) (quality time : ℕ) (e : withinRule t ≡ true) where
+  same-refusal : mergeRefusal (dropped time t) s quality time ≡ mergeRefusal t s quality time
+  unfolding mergeRefusal
+  same-refusal = rw (dropped-within time t e, e)
+
+  same-rows : mergedRows (dropped time t) s quality time ≡ mergedRows t s quality time
+  unfolding mergedRows
+  same-rows = rw (dropped-standing time t)
+
+  pub dropped-merge : (mergeOf (dropped time t) s quality time .refused ≡ mergeOf t s quality time .refused) × (mergeOf (dropped time t) s quality time .skipped ≡ mergeOf t s quality time .skipped)
+  unfolding mergeOf
+  dropped-merge = (same-refusal, rw (same-refusal, same-rows))
+
+  pub dropped-merges : mergeOf t s quality time .refused ≡ 0 → mergeOf (dropped time t) s quality time .table ≡ mergeOf t s quality time .table
+  dropped-merges z =
+      merge-gives (dropped time t) s quality time (dropped-merge .0 ∙ z) ∙ (ap (λ l. withRows t time (l .rows)) same-rows ∙ sym (merge-gives t s quality time z))

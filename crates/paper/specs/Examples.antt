@@ -2,9 +2,10 @@
 -- Assumes nothing.
 use mathlib.Core.Path.{_≡_, refl}
 use mathlib.Core.Bool.{Bool, true, false, _&&_}
-use mathlib.Core.List.{List, [], _∷_}
-use Prim.Native.Nat.{ℕ}
+use mathlib.Core.List.{List, [], _∷_, _++_}
+use Prim.Native.Nat.{ℕ, suc}
 use lib.Dec.{eqb}
+use lib.IntN.{ℤ, pos, negsuc}
 use Rattle.octets.specs.Answers.{Said}
 use Rattle.octets.specs.Numbers.{num, digits}
 use Rattle.octets.specs.Sums.{xors}
@@ -12,6 +13,7 @@ use Rattle.requests.specs.Requests.{joinRequest, joinRequestValues}
 use Rattle.shapes.specs.Reading.{isSealed, readRefusal}
 use Rattle.frames.specs.Frames.{readFrame}
 use Rattle.shapes.specs.Shape.{sealed, frameOf}
+use Rattle.clock.specs.Clock.{drift, half, correction, corrected, stepOf}
 
 pub record Example : Type 0 where
   pub computed : List ℕ
@@ -25,6 +27,17 @@ listed said = said .refusal ∷ said .values
 abbrev pub joinBytes : List ℕ
 joinBytes = 0x21 ∷ 0x01 ∷ 0x02 ∷ 0x00 ∷ 0x01 ∷ 0x00 ∷ 0x04 ∷ 0x27 ∷ []
 
+-- ---- what a drift leaves
+-- a number with its sign as a list: 1 below zero and else 0, then the magnitude
+abbrev pub signed : ℤ → List ℕ
+signed (pos n) = 0 ∷ n ∷ []
+signed (negsuc n) = 1 ∷ suc n ∷ []
+
+-- the drift of a unit with no offset, then the drift with the offset that its step gives
+abbrev pub leaves : ℕ → ℕ → List ℕ
+leaves local original =
+    signed (drift local (pos 0) original 0) ++ signed (drift local (stepOf (pos 0) local original 0 .offset) original 0)
+
 unfoldable pub examples : List Example
 examples =
     record { computed = listed (readFrame joinBytes); paper = 0 ∷ 0x21 ∷ 0x0201 ∷ 0 ∷ 1 ∷ 4 ∷ [] } ∷
@@ -32,6 +45,9 @@ examples =
       computed = frameOf joinRequest (joinRequestValues (record { node = 0x0201; capabilities = 0; network = 1; slots = 4 })) [];
       paper = joinBytes;
     } ∷
+    record { computed = leaves 100 0; paper = 0 ∷ 100 ∷ 0 ∷ 50 ∷ [] } ∷
+    record { computed = leaves 0 51; paper = 1 ∷ 51 ∷ 1 ∷ 26 ∷ [] } ∷
+    record { computed = leaves 101 0; paper = 0 ∷ 101 ∷ 0 ∷ 0 ∷ [] } ∷
     []
 
 -- two lists of numbers are the same
@@ -47,5 +63,5 @@ allSame (e ∷ es) = same (e .computed) (e .paper) && allSame es
 
 -- the definitions give every example
 pub as-in-the-paper : allSame examples ≡ true
-unfolding examples readFrame readRefusal isSealed sealed num digits xors
+unfolding examples readFrame readRefusal isSealed sealed num digits xors drift half correction corrected stepOf
 as-in-the-paper = refl

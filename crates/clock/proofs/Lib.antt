@@ -1,0 +1,5 @@
+pub mod ClockLaws
+pub mod CorrectionLaws
+pub mod IntegerLaws
+pub mod MachineLaws
+pub mod StepLaws

@@ -1,3 +1,4 @@
+pub mod HistoryLaws
 pub mod LifeLaws
 pub mod StepLaws
 pub mod TableLaws

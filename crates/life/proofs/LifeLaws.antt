@@ -1,16 +1,13 @@
--- What holds of every life: the statements of specs/Laws, proved.
+-- What holds of every call: the statements of specs/Laws on one call, proved.
 -- Assumes nothing.
-use mathlib.Core.Path.{_≡_, refl}
-use mathlib.Core.Bool.{true, false}
-use mathlib.Core.List.{[], _∷_}
-use Prim.Native.Nat.{zero, suc}
-use native.Mathlib.Omega.{arith}
-use borrow.Author.Tests.{lt-ltb, le-ltb, eq-eqb}
+use mathlib.Core.Path.{_≡_}
+use mathlib.Core.Bool.{false}
+use borrow.Author.Tests.{eq-eqb}
 use lib.Dec.{eqb}
-use Rattle.life.specs.States.{Stopped, ready, beacon, accepted, roleChange, recovered, leadsTo, tickTo}
+use Rattle.life.specs.States.{Stopped, leadsTo, tickTo}
 use Rattle.life.specs.declared.state.State.{State}
 use Rattle.life.specs.Calls.{onEvent, onTick, gone}
-use Rattle.life.specs.Laws.{KeepsRule, StaysStopped, NoOtherTrap, NoticesSilence, StartsAnew}
+use Rattle.life.specs.Laws.{KeepsRule, StaysStopped, StartsAnew}
 use Rattle.moments.proofs.MomentLaws.{in-order-self}
 use Rattle.life.proofs.TableLaws.{leads-known, tick-known, stays-normal, of-choice}
 use Rattle.life.proofs.StepLaws.{passed, allowed, keeps, refused-anyhow, records}
@@ -37,22 +34,6 @@ stays-stopped s time stopped = (
       rw refused stopped,
   λ ms. of-choice (λ (x : State). x .kind ≡ Stopped) (eqb (onTick s ms time .refused) 0) (rw stopped) stopped,
 )
-
-pub no-other-trap : NoOtherTrap
-unfolding leadsTo
-no-other-trap zero h = (ready ∷ beacon ∷ accepted ∷ [], refl)
-no-other-trap (suc zero) h = (beacon ∷ accepted ∷ [], refl)
-no-other-trap (suc (suc zero)) h = (accepted ∷ [], refl)
-no-other-trap (suc (suc (suc zero))) h = ([], refl)
-no-other-trap (suc (suc (suc (suc zero)))) h = (roleChange ∷ [], refl)
-no-other-trap (suc (suc (suc (suc (suc zero))))) h = (recovered ∷ beacon ∷ accepted ∷ [], refl)
-no-other-trap (suc (suc (suc (suc (suc (suc k)))))) h = absurd (omega arith)
-
-pub notices-silence : NoticesSilence
-unfolding onTick tickTo gone
-notices-silence s ms time normal e =
-    let accepted : eqb (onTick s ms time .refused) 0 ≡ true = eq-eqb (onTick s ms time .refused) 0 e in
-    (λ silent. rw (accepted, normal, lt-ltb _ _ silent), λ heard. rw (accepted, normal, le-ltb _ _ heard))
 
 pub starts-anew : StartsAnew
 unfolding onEvent

@@ -31,24 +31,24 @@ gone s to heard time =
 
 -- the first refusal with the state as it was, or the next state
 abbrev pub lived : List Reason → State → State → Lived
-lived reasons s next = record { refused = first reasons; state = cond (eqb (first reasons) 0) next s }
+lived rs s next = record { refused = first rs; state = cond (eqb (first rs) 0) next s }
+
+-- why a call is refused: a state out of rule is 14, a time before the last accepted one 8; then the call's own reason
+abbrev pub reasons : State → ℕ → Reason → List Reason
+reasons s time own = reason (not (withinRule s)) 14 ∷ reason (not (inOrder (s .last) time)) 8 ∷ own ∷ []
+
+-- the answer of a call that has its own reason and else goes to a kind
+abbrev pub stepped : State → ℕ → Reason → ℕ → Bool → Lived
+stepped s time own to heard = lived (reasons s time own) s (gone s to heard time)
 
 -- an event at a time: 14, 8, 7
 unfoldable pub onEvent : State → ℕ → ℕ → Lived
 onEvent s event time =
-    lived
-    (reason (not (withinRule s)) 14 ∷
-    reason (not (inOrder (s .last) time)) 8 ∷
-    reason (eqb (leadsTo (s .kind) event) Nowhere) 7 ∷
-    [])
-    s (gone s (leadsTo (s .kind) event) (eqb event beacon) time)
+    let to = leadsTo (s .kind) event in
+    stepped s time (reason (eqb to Nowhere) 7) to (eqb event beacon)
 
 -- a tick at a time, which names the superframe's ms: 14, 8, 14. It is never 7 and makes one change at most
 unfoldable pub onTick : State → ℕ → ℕ → Lived
 onTick s ms time =
-    lived
-    (reason (not (withinRule s)) 14 ∷
-    reason (not (inOrder (s .last) time)) 8 ∷
-    reason (not (leb 1 ms && leb ms 6553500)) 14 ∷
-    [])
-    s (gone s (tickTo (s .kind) (ageAt time (s .entered)) (ageAt time (s .beacon)) ms) Bool.false time)
+    let to = tickTo (s .kind) (ageAt time (s .entered)) (ageAt time (s .beacon)) ms in
+    stepped s time (reason (not (leb 1 ms && leb ms 6553500)) 14) to Bool.false

@@ -2,11 +2,12 @@
 -- Assumes nothing.
 use mathlib.Core.Path.{_≡_}
 use mathlib.Core.Bool.{true}
-use mathlib.Core.List.{List, [], _∷_}
+use mathlib.Core.List.{List}
 use Prim.Native.Nat.{ℕ, _*_, _<_, _≤_}
-use Rattle.moments.specs.Moments.{ageAt}
+use Rattle.moments.specs.Moments.{ageAt, inOrder}
 use Rattle.life.specs.declared.state.State.{State}
 use Rattle.life.specs.Calls.{withinRule, freshState, onEvent, onTick}
+use Rattle.life.specs.Histories.{Call, eventsAt, run, quiet}
 use Rattle.life.specs.States.{Normal, Recovery, Stopped, leadsTo}
 
 -- a fresh state is within rule, and every accepted call gives one that is
@@ -24,21 +25,19 @@ StaysStopped =
     → ((event : ℕ) → onEvent s event time .state .kind ≡ Stopped)
     × ((ms : ℕ) → onTick s ms time .state .kind ≡ Stopped)
 
--- where a list of events leads from a kind, by the table alone; an event that is not listed leads Nowhere, and from there none leads on
-abbrev pub follow : ℕ → List ℕ → ℕ
-follow kind [] = kind
-follow kind (e ∷ es) = follow (leadsTo kind e) es
-
--- from every kind but Stopped the table has a list of events to Normal: it has no other trap
+-- every state within rule that is not Stopped has, at every time in order, a list of events to Normal: there is no other trap
 abbrev pub NoOtherTrap : Type 0
-NoOtherTrap = (kind : ℕ) → kind < Stopped → (es : List ℕ) × (follow kind es ≡ Normal)
+NoOtherTrap =
+    (s : State) (time : ℕ) → withinRule s ≡ true → s .kind < Stopped → inOrder (s .last) time ≡ true
+    → (es : List ℕ) × (eventsAt s es time .kind ≡ Normal)
 
--- an accepted tick in Normal leads to Recovery if it comes more than three superframes after the last beacon, and else stays in Normal
+-- a unit in Normal that then hears no beacon: an accepted tick leads to Recovery if it comes more than three superframes after the last
+-- beacon, and else stays in Normal
 abbrev pub NoticesSilence : Type 0
 NoticesSilence =
-    (s : State) (ms time : ℕ) → s .kind ≡ Normal → onTick s ms time .refused ≡ 0
-    → (3 * ms < ageAt time (s .beacon) → onTick s ms time .state .kind ≡ Recovery)
-    × (ageAt time (s .beacon) ≤ 3 * ms → onTick s ms time .state .kind ≡ Normal)
+    (s : State) (cs : List Call) (ms time : ℕ) → s .kind ≡ Normal → quiet (s .beacon) s cs ≡ true → onTick (run s cs) ms time .refused ≡ 0
+    → (3 * ms < ageAt time (s .beacon) → onTick (run s cs) ms time .state .kind ≡ Recovery)
+    × (ageAt time (s .beacon) ≤ 3 * ms → onTick (run s cs) ms time .state .kind ≡ Normal)
 
 -- entering Normal records a beacon, so that three superframes begin again
 abbrev pub StartsAnew : Type 0

@@ -1,4 +1,4 @@
 pub mod Calls
+pub mod Histories
 pub mod Laws
 pub mod States
-pub mod Steps

@@ -1,8 +1,7 @@
 // A unit's state: how it begins, when it is within rule, and how a call that is accepted takes it on.
 ghost use mathlib.Core.Path.{_≡_};
 ghost use Rattle.octets.specs.Answers.{reason, first};
-ghost use Rattle.life.specs.Calls.{withinRule, freshState, gone};
-ghost use Rattle.life.specs.Steps.{reasons, stepped};
+ghost use Rattle.life.specs.Calls.{withinRule, freshState, gone, reasons, stepped};
 use crate::choices::either;
 use crate::choices::either_time;
 use moments::in_order;

@@ -1,0 +1,98 @@
+-- What holds of calls one after the other: the statements of specs/Laws on lists of calls, proved.
+-- Assumes nothing.
+use mathlib.Core.Path.{_≡_, refl}
+use mathlib.Core.Bool.{Bool, true, false, not, _||_, false≢true, and-eq-true-iff}
+use mathlib.Core.List.{List, [], _∷_}
+use Prim.Native.Nat.{ℕ, zero, suc, _*_, _<_, _≤_}
+use native.Mathlib.Omega.{arith}
+use borrow.Author.Tests.{lt-ltb, le-ltb, eq-eqb, leb-true}
+use lib.Dec.{eqb, ltb}
+use Rattle.moments.specs.Moments.{ageAt, inOrder}
+use Rattle.life.specs.States.{Normal, Recovery, Stopped, Nowhere, ready, beacon, accepted, roleChange, recovered, leadsTo, tickTo}
+use Rattle.life.specs.declared.state.State.{State}
+use Rattle.life.specs.Calls.{withinRule, onEvent, onTick, gone}
+use Rattle.life.specs.Histories.{Call, event, tick, eventsAt, answer, run, early, quiet}
+use Rattle.life.specs.Laws.{NoOtherTrap, NoticesSilence}
+use Rattle.moments.proofs.MomentLaws.{in-order-self}
+use Rattle.life.proofs.TableLaws.{of-choice}
+use Rattle.life.proofs.LifeLaws.{keeps-rule}
+
+-- ---- a way to Normal
+-- what an event needs to be accepted: a state of this kind within rule, and a time in order
+record Ready (s : State) (time kind : ℕ) : Type 0 where
+  pub within : withinRule s ≡ true
+  pub ordered : inOrder (s .last) time ≡ true
+  pub here : s .kind ≡ kind
+
+-- an event that the table lists leads a ready state to one that is ready at the same time
+led : {s : State} {time kind : ℕ} (number to : ℕ) → leadsTo kind number ≡ to → eqb to Nowhere ≡ false → Ready s time kind → Ready (onEvent s number time .state) time to
+unfolding onEvent gone
+led {s} {time} {kind} number to e known r =
+    let leads : leadsTo (s .kind) number ≡ to = rw (r .here) e in
+    let allowed : onEvent s number time .refused ≡ 0 = rw (r .within, r .ordered, leads, known) in
+    let taken : eqb (onEvent s number time .refused) 0 ≡ true = eq-eqb (onEvent s number time .refused) 0 allowed in
+    record {
+      within = keeps-rule .1 s time .0 number allowed;
+      ordered = rw taken (in-order-self time);
+      here = rw taken leads;
+    }
+
+pub no-other-trap : NoOtherTrap
+unfolding leadsTo
+no-other-trap s time within known ordered = go (s .kind) (record { within = within; ordered = ordered; here = refl }) known
+  where
+    go : (kind : ℕ) → Ready s time kind → kind < Stopped → (es : List ℕ) × (eventsAt s es time .kind ≡ Normal)
+    go zero r h = (ready ∷ beacon ∷ accepted ∷ [], led accepted 3 refl refl (led beacon 2 refl refl (led ready 1 refl refl r)) .here)
+    go (suc zero) r h = (beacon ∷ accepted ∷ [], led accepted 3 refl refl (led beacon 2 refl refl r) .here)
+    go (suc (suc zero)) r h = (accepted ∷ [], led accepted 3 refl refl r .here)
+    go (suc (suc (suc zero))) r h = ([], r .here)
+    go (suc (suc (suc (suc zero)))) r h = (roleChange ∷ [], led roleChange 3 refl refl r .here)
+    go (suc (suc (suc (suc (suc zero))))) r h =
+        (recovered ∷ beacon ∷ accepted ∷ [], led accepted 3 refl refl (led beacon 2 refl refl (led recovered 1 refl refl r)) .here)
+    go (suc (suc (suc (suc (suc (suc k)))))) r h = absurd (omega arith)
+
+-- ---- silence
+-- what one accepted tick in Normal does
+one-tick : (s : State) (ms time : ℕ) → s .kind ≡ Normal → onTick s ms time .refused ≡ 0
+    → (3 * ms < ageAt time (s .beacon) → onTick s ms time .state .kind ≡ Recovery)
+    × (ageAt time (s .beacon) ≤ 3 * ms → onTick s ms time .state .kind ≡ Normal)
+unfolding onTick tickTo gone
+one-tick s ms time normal e =
+    let taken : eqb (onTick s ms time .refused) 0 ≡ true = eq-eqb (onTick s ms time .refused) 0 e in
+    (λ silent. rw (taken, normal, lt-ltb _ _ silent), λ heard. rw (taken, normal, le-ltb _ _ heard))
+
+-- a unit in Normal whose last beacon was at a time
+record Hearing (heard : ℕ) (s : State) : Type 0 where
+  pub normal : s .kind ≡ Normal
+  pub last : s .beacon ≡ heard
+
+-- a refused call leaves it so, and so does a tick no more than three superframes after that beacon
+refused-stays : {heard : ℕ} {s : State} (c : Call) → Hearing heard s → eqb (answer s c .refused) 0 ≡ false → Hearing heard (answer s c .state)
+unfolding onEvent onTick
+refused-stays (event number time) h e = rw e h
+refused-stays (tick ms time) h e = rw e h
+
+early-stays : {heard : ℕ} {s : State} (c : Call) → Hearing heard s → early heard c ≡ true → Hearing heard (answer s c .state)
+unfolding onTick tickTo gone
+early-stays (event number time) h e = absurd (false≢true e)
+early-stays {heard} {s} (tick ms time) h e =
+    let in-time : ltb (3 * ms) (ageAt time (s .beacon)) ≡ false = le-ltb (3 * ms) (ageAt time (s .beacon)) (rw (h .last) (leb-true _ _ e)) in
+    of-choice (Hearing heard) (eqb (onTick s ms time .refused) 0) (record { normal = rw (h .normal, in-time); last = rw (h .normal, in-time) (h .last) }) h
+
+stays : {heard : ℕ} {s : State} (c : Call) → Hearing heard s → (not (eqb (answer s c .refused) 0) || early heard c) ≡ true → Hearing heard (answer s c .state)
+stays {heard} {s} c h e = go (eqb (answer s c .refused) 0) refl e
+  where
+    go : (b : Bool) → eqb (answer s c .refused) 0 ≡ b → (not b || early heard c) ≡ true → Hearing heard (answer s c .state)
+    go true q e = early-stays c h e
+    go false q e = refused-stays c h q
+
+stays-all : {heard : ℕ} (s : State) (cs : List Call) → Hearing heard s → quiet heard s cs ≡ true → Hearing heard (run s cs)
+stays-all s [] h q = h
+stays-all {heard} s (c ∷ cs) h q =
+    let (here, later) = and-eq-true-iff (not (eqb (answer s c .refused) 0) || early heard c) (quiet heard (answer s c .state) cs) .0 q in
+    stays-all (answer s c .state) cs (stays c h here) later
+
+pub notices-silence : NoticesSilence
+notices-silence s cs ms time normal q e =
+    let h : Hearing (s .beacon) (run s cs) = stays-all s cs (record { normal = normal; last = refl }) q in
+    rw (h .last) at (one-tick (run s cs) ms time (h .normal) e)

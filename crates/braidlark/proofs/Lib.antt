@@ -1,2 +1,4 @@
+pub mod ClockCallLaws
 pub mod FrameCallLaws
+pub mod StateCallLaws
 pub mod TableCallLaws

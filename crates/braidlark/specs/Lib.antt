@@ -1,2 +1,4 @@
+pub mod ClockCalls
 pub mod FrameCalls
+pub mod StateCalls
 pub mod TableCalls

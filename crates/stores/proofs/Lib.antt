@@ -1,2 +1,3 @@
+pub mod StoreLaws
 pub mod TableByteLaws
 pub mod TableTripLaws

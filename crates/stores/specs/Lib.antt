@@ -1,2 +1,4 @@
+pub mod Laws
+pub mod States
 pub mod TableBytes
 pub mod TableTrips

@@ -1,2 +1,3 @@
-// Stores: what a caller keeps for us between calls, as bytes of a fixed length.
+// Stores: what a C caller keeps for us between two calls, as bytes of a fixed length.
+pub mod states;
 pub mod tables;

@@ -28,6 +28,20 @@ extern "C" {
         out_length: usize,
         written: *mut u32,
     ) -> u8;
+
+    fn braidlark_state_fresh(state: *mut u8, state_length: usize, time: u32) -> u8;
+
+    fn braidlark_state_event(state: *mut u8, state_length: usize, event: u8, time: u32) -> u8;
+
+    fn braidlark_state_tick(state: *mut u8, state_length: usize, superframe_ms: u32, time: u32) -> u8;
+
+    fn braidlark_clock_step(
+        offset: *mut i64,
+        local_time: u32,
+        network: u16,
+        frame: *const u8,
+        frame_length: usize,
+    ) -> u8;
 }
 
 /// A call of the library with its arguments.
@@ -232,6 +246,157 @@ impl fmt::Display for WriteAnswer {
     }
 }
 
+/// What a unit is asked: to begin, an event by its number, or a tick that names the superframe's ms.
+#[derive(Clone, Copy, Debug)]
+pub enum Asked {
+    Fresh,
+    Event(u8),
+    Tick(u32),
+}
+
+/// `braidlark_state_fresh`, `_event` or `_tick` over this buffer.
+pub struct StateCall<'a> {
+    pub state: &'a [u8],
+    pub asked: Asked,
+    pub time: u32,
+    pub empty: Empty,
+}
+
+#[derive(PartialEq, Eq)]
+pub struct StateAnswer {
+    status: u8,
+    state: Vec<u8>,
+    disturbed: Vec<&'static str>,
+}
+
+impl StateAnswer {
+    pub fn accepted(state: &[u8]) -> StateAnswer {
+        StateAnswer { status: 0, state: state.to_vec(), disturbed: Vec::new() }
+    }
+
+    /// The answer with this refusal: the buffer stays as it was.
+    pub fn refused(refusal: Refusal, state: &[u8]) -> StateAnswer {
+        StateAnswer { status: refusal.number(), state: state.to_vec(), disturbed: Vec::new() }
+    }
+}
+
+impl Call for StateCall<'_> {
+    type Answer = StateAnswer;
+
+    fn make(&self) -> StateAnswer {
+        let mut state = Lent::input(self.state);
+        let (address, length) = (state.address(self.empty), self.state.len());
+        // SAFETY: the address is that of a live buffer of the length given with it, or NULL with length 0.
+        let status = unsafe {
+            match self.asked {
+                Asked::Fresh => braidlark_state_fresh(address, length, self.time),
+                Asked::Event(number) => braidlark_state_event(address, length, number, self.time),
+                Asked::Tick(superframe_ms) => braidlark_state_tick(address, length, superframe_ms, self.time),
+            }
+        };
+        StateAnswer {
+            status,
+            disturbed: names_of(&[("around state", state.is_overrun())]),
+            state: state.contents().to_vec(),
+        }
+    }
+}
+
+impl fmt::Display for StateCall<'_> {
+    fn fmt(&self, text: &mut fmt::Formatter) -> fmt::Result {
+        match self.asked {
+            Asked::Fresh => write!(text, "braidlark_state_fresh(")?,
+            Asked::Event(number) => write!(text, "braidlark_state_event(event: {}; ", number)?,
+            Asked::Tick(superframe_ms) => write!(text, "braidlark_state_tick(superframe_ms: {}; ", superframe_ms)?,
+        }
+        write!(text, "time: {}; state: {}; {})", self.time, input_shown(self.state), self.empty)
+    }
+}
+
+impl Answer for StateAnswer {
+    fn status(&self) -> u8 {
+        self.status
+    }
+}
+
+impl fmt::Display for StateAnswer {
+    fn fmt(&self, text: &mut fmt::Formatter) -> fmt::Result {
+        write!(text, "status {}; state: {}", self.status, hex(&self.state))?;
+        show_disturbed(text, &self.disturbed)
+    }
+}
+
+/// `braidlark_clock_step` with this offset.
+pub struct ClockCall<'a> {
+    pub offset: i64,
+    pub local_time: u32,
+    pub network: u16,
+    pub frame: &'a [u8],
+    pub empty: Empty,
+}
+
+#[derive(PartialEq, Eq)]
+pub struct ClockAnswer {
+    status: u8,
+    offset: i64,
+    disturbed: Vec<&'static str>,
+}
+
+impl ClockAnswer {
+    pub fn accepted(offset: i64) -> ClockAnswer {
+        ClockAnswer { status: 0, offset, disturbed: Vec::new() }
+    }
+
+    /// The answer with this refusal: the offset stays as it was.
+    pub fn refused(refusal: Refusal, offset: i64) -> ClockAnswer {
+        ClockAnswer { status: refusal.number(), offset, disturbed: Vec::new() }
+    }
+}
+
+impl Call for ClockCall<'_> {
+    type Answer = ClockAnswer;
+
+    fn make(&self) -> ClockAnswer {
+        let mut offset = Lent::input(&[self.offset]);
+        let mut frame = Lent::input(self.frame);
+        // SAFETY: each address is that of a live buffer of the length given with it, or NULL with length 0.
+        let status = unsafe {
+            braidlark_clock_step(
+                offset.address(self.empty),
+                self.local_time,
+                self.network,
+                frame.address(self.empty),
+                self.frame.len(),
+            )
+        };
+        ClockAnswer {
+            status,
+            disturbed: names_of(&[("around offset", offset.is_overrun()), ("frame", frame.is_changed(self.frame))]),
+            offset: offset.contents()[0],
+        }
+    }
+}
+
+impl fmt::Display for ClockCall<'_> {
+    fn fmt(&self, text: &mut fmt::Formatter) -> fmt::Result {
+        write!(text, "braidlark_clock_step(offset: {}; local_time: {}", self.offset, self.local_time)?;
+        write!(text, "; network: {}; frame: {}; {})", self.network, input_shown(self.frame), self.empty)
+    }
+}
+
+impl Answer for ClockAnswer {
+    fn status(&self) -> u8 {
+        self.status
+    }
+}
+
+impl fmt::Display for ClockAnswer {
+    fn fmt(&self, text: &mut fmt::Formatter) -> fmt::Result {
+        write!(text, "status {}; offset: {}", self.status, self.offset)?;
+        show_disturbed(text, &self.disturbed)
+    }
+}
+
 impl fmt::Display for Empty {
     fn fmt(&self, text: &mut fmt::Formatter) -> fmt::Result {
         text.write_str(match self {
@@ -283,6 +448,18 @@ impl Filler for u32 {
         let mut place = 0;
         while place < MOST_FILLER {
             filler[place] = (place as u32).wrapping_mul(0x9E37_79B1) ^ 0xA5C3_96E1;
+            place += 1;
+        }
+        filler
+    };
+}
+
+impl Filler for i64 {
+    const FILLER: &'static [i64; MOST_FILLER] = &{
+        let mut filler = [0; MOST_FILLER];
+        let mut place = 0;
+        while place < MOST_FILLER {
+            filler[place] = (place as i64).wrapping_mul(0x1E37_79B9_7F4A_7C15) ^ 0x25C3_96E1_5A3C_691E;
             place += 1;
         }
         filler

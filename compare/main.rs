@@ -5,9 +5,13 @@
 
 mod bench;
 mod boundary;
+mod clock;
+mod clock_check;
 mod frames;
 mod frames_check;
 mod frames_drafts;
+mod life;
+mod life_check;
 mod random;
 mod refusal;
 mod relays;
@@ -22,7 +26,7 @@ use report::{Difference, Progress, Tally};
 use std::process::ExitCode;
 
 const USAGE: &str = "\
-usage: compare [--seed N] [--frames N] [--routes N] [--quiet] [--help]
+usage: compare [--seed N] [--frames N] [--routes N] [--steps N] [--quiet] [--help]
        compare bench [CASE [TIMES]]
 
 Compares the library, call by call, with an independent implementation.
@@ -30,6 +34,7 @@ Compares the library, call by call, with an independent implementation.
   --seed N    start of the random numbers, decimal or 0x and hex (1)
   --frames N  random frames to compare, each in several calls (300000)
   --routes N  random calls on tables of routes to compare (2100000)
+  --steps N   random steps of a unit's state, and as many of its clock (1000000)
   --quiet     no progress on standard error
   --help      this text
 
@@ -49,6 +54,7 @@ pub struct Options {
     pub seed: u64,
     pub frames: u64,
     pub routes: u64,
+    pub steps: u64,
     pub quiet: bool,
     pub help: bool,
 }
@@ -59,8 +65,12 @@ struct Subject {
     check: fn(&Options, &mut Progress) -> Result<Tally, Difference>,
 }
 
-const SUBJECTS: [Subject; 2] =
-    [Subject { name: "frames", check: frames_check::check }, Subject { name: "routes", check: routes_check::check }];
+const SUBJECTS: [Subject; 4] = [
+    Subject { name: "frames", check: frames_check::check },
+    Subject { name: "routes", check: routes_check::check },
+    Subject { name: "life", check: life_check::check },
+    Subject { name: "clock", check: clock_check::check },
+];
 
 fn main() -> ExitCode {
     let arguments: Vec<String> =
@@ -86,12 +96,14 @@ fn obey(options: &Options) -> u8 {
 }
 
 fn parse(mut arguments: impl Iterator<Item = String>) -> Result<Options, String> {
-    let mut options = Options { seed: 1, frames: 300_000, routes: 2_100_000, quiet: false, help: false };
+    let mut options =
+        Options { seed: 1, frames: 300_000, routes: 2_100_000, steps: 1_000_000, quiet: false, help: false };
     while let Some(argument) = arguments.next() {
         match argument.as_str() {
             "--seed" => options.seed = number(&argument, arguments.next())?,
             "--frames" => options.frames = number(&argument, arguments.next())?,
             "--routes" => options.routes = number(&argument, arguments.next())?,
+            "--steps" => options.steps = number(&argument, arguments.next())?,
             "--quiet" => options.quiet = true,
             "--help" => options.help = true,
             _ => return Err(format!("unknown argument '{}'", argument)),

@@ -15,6 +15,8 @@ pub enum Refusal {
     Room = 5,
     /// The frame's sender, or the unit to forget, is this unit.
     Own = 6,
+    /// The event is not allowed in this state.
+    Event = 7,
     /// The time is earlier than the last accepted one.
     Early = 8,
     /// The link quality is under 40.
@@ -23,7 +25,7 @@ pub enum Refusal {
     Ttl = 10,
     /// There is no usable route.
     NoRoute = 11,
-    /// A page, or a table handed in, is out of rule.
+    /// A page, a superframe's length, a clock's offset, or a table or state handed in, is out of rule.
     OutOfRule = 14,
     /// The network is not the caller's.
     Network = 15,

@@ -3,8 +3,8 @@
 
 use crate::boundary::{ClockAnswer, ClockCall, Empty};
 use crate::clock::{self, LARGEST_OFFSET};
-use crate::frames::{checksum, kind_of, Kind, BEACON, KINDS, LONGEST_FRAME};
-use crate::frames_drafts::Draft;
+use crate::frames::{kind_of, Kind, BEACON, KINDS, LONGEST_FRAME};
+use crate::frames_drafts::{mended, Draft};
 use crate::random::Random;
 use crate::report::{Difference, Progress, Tally};
 use crate::Options;
@@ -158,10 +158,7 @@ impl Check {
 
     /// Bytes as they are and with their checksum mended, for the network that stands in them, none and another.
     fn damaged(&mut self, frame: &[u8]) -> Agreement {
-        let mut mended = frame.to_vec();
-        if let Some((last, before)) = mended.split_last_mut() {
-            *last = checksum(before);
-        }
+        let mended = mended(frame);
         let own = frame.get(6..8).map_or(1, |bytes| u16::from_le_bytes([bytes[0], bytes[1]]));
         for bytes in [frame, &mended] {
             for network in [own, 0, own ^ 0x101] {
@@ -195,7 +192,10 @@ impl Check {
             0 => {
                 let place = self.random.below(frame.len());
                 frame[place] ^= 1 + self.random.below(0xFF) as u8;
-                self.damaged(&frame)
+                if self.random.below(2) == 0 {
+                    frame = mended(&frame);
+                }
+                self.step(offset, local_time, network, &frame)
             }
             1 => {
                 let other = self.random_network(network);

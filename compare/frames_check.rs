@@ -3,7 +3,7 @@
 
 use crate::boundary::{Empty, ReadAnswer, ReadCall, WriteAnswer, WriteCall};
 use crate::frames::{self, *};
-use crate::frames_drafts::{Draft, LIMITS};
+use crate::frames_drafts::{mended, Draft, LIMITS};
 use crate::random::Random;
 use crate::report::{Difference, Progress, Tally};
 use crate::Options;
@@ -107,14 +107,6 @@ impl Check {
     fn empty(&mut self) -> Empty {
         self.random.one_of(&[Empty::Null, Empty::Address])
     }
-}
-
-fn mended(frame: &[u8]) -> Vec<u8> {
-    let mut frame = frame.to_vec();
-    if let Some((last, before)) = frame.split_last_mut() {
-        *last = checksum(before);
-    }
-    frame
 }
 
 /// Every limit in turn.

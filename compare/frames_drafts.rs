@@ -49,6 +49,15 @@ impl Draft {
     }
 }
 
+/// Damaged bytes with their checksum mended.
+pub fn mended(frame: &[u8]) -> Vec<u8> {
+    let mut frame = frame.to_vec();
+    if let Some((last, before)) = frame.split_last_mut() {
+        *last = checksum(before);
+    }
+    frame
+}
+
 fn numbers(kind: &Kind, count: u32, random: &mut Random) -> Vec<u32> {
     let code = u32::from(kind.code);
     match kind.code {

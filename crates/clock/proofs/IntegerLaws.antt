@@ -44,7 +44,7 @@ pub half-mag : (a : ℤ) → mag (quotZ a (pos 2)) ≤ mag a
 half-mag (pos n) = omega arith
 half-mag (negsuc n) = minus-mag (suc n / 2) n (omega arith)
 
--- what is one less than the magnitude of a number below zero
+-- -1 less a number below zero is one less than its magnitude
 pub below-zero : (a : ℤ) → ltZ a (pos 0) ≡ true → (negsuc 0 -ℤ a ≡ pos (mag a)) × (natAbs a ≡ mag a + 1)
 below-zero (pos n) e = absurd (omega (arith, ltb-true n 0 e))
 below-zero (negsuc n) e =

@@ -7,8 +7,8 @@ use Prim.Native.Nat.{ℕ}
 use native.Mathlib.Omega.{arith}
 use borrow.Author.Tests.{eqb-false, ne-eqb}
 use lib.Dec.{eqb}
-use Rattle.octets.specs.Answers.{Reason, reason, first}
 use lib.IntN.{ℤ}
+use Rattle.octets.specs.Answers.{Reason, reason, first}
 use Rattle.shapes.specs.Shape.{valuesIn}
 use Rattle.shapes.specs.Reading.{refusalAs}
 use Rattle.beacons.specs.Beacons.{beacon, beaconValues, beaconFrom}

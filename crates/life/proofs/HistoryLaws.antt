@@ -8,7 +8,7 @@ use native.Mathlib.Omega.{arith}
 use borrow.Author.Tests.{lt-ltb, le-ltb, eq-eqb, leb-true}
 use lib.Dec.{eqb, ltb}
 use Rattle.moments.specs.Moments.{ageAt, inOrder}
-use Rattle.life.specs.States.{Normal, Recovery, Stopped, Nowhere, ready, beacon, accepted, roleChange, recovered, leadsTo, tickTo}
+use Rattle.life.specs.States.{Discovery, Joining, Normal, Recovery, Stopped, Nowhere, ready, beacon, accepted, roleChange, recovered, leadsTo, tickTo}
 use Rattle.life.specs.declared.state.State.{State}
 use Rattle.life.specs.Calls.{withinRule, onEvent, onTick, gone}
 use Rattle.life.specs.Histories.{Call, event, tick, eventsAt, answer, run, early, quiet}
@@ -42,13 +42,13 @@ unfolding leadsTo
 no-other-trap s time within known ordered = go (s .kind) (record { within = within; ordered = ordered; here = refl }) known
   where
     go : (kind : ℕ) → Ready s time kind → kind < Stopped → (es : List ℕ) × (eventsAt s es time .kind ≡ Normal)
-    go zero r h = (ready ∷ beacon ∷ accepted ∷ [], led accepted 3 refl refl (led beacon 2 refl refl (led ready 1 refl refl r)) .here)
-    go (suc zero) r h = (beacon ∷ accepted ∷ [], led accepted 3 refl refl (led beacon 2 refl refl r) .here)
-    go (suc (suc zero)) r h = (accepted ∷ [], led accepted 3 refl refl r .here)
+    go zero r h = (ready ∷ beacon ∷ accepted ∷ [], led accepted Normal refl refl (led beacon Joining refl refl (led ready Discovery refl refl r)) .here)
+    go (suc zero) r h = (beacon ∷ accepted ∷ [], led accepted Normal refl refl (led beacon Joining refl refl r) .here)
+    go (suc (suc zero)) r h = (accepted ∷ [], led accepted Normal refl refl r .here)
     go (suc (suc (suc zero))) r h = ([], r .here)
-    go (suc (suc (suc (suc zero)))) r h = (roleChange ∷ [], led roleChange 3 refl refl r .here)
+    go (suc (suc (suc (suc zero)))) r h = (roleChange ∷ [], led roleChange Normal refl refl r .here)
     go (suc (suc (suc (suc (suc zero))))) r h =
-        (recovered ∷ beacon ∷ accepted ∷ [], led accepted 3 refl refl (led beacon 2 refl refl (led recovered 1 refl refl r)) .here)
+        (recovered ∷ beacon ∷ accepted ∷ [], led accepted Normal refl refl (led beacon Joining refl refl (led recovered Discovery refl refl r)) .here)
     go (suc (suc (suc (suc (suc (suc k)))))) r h = absurd (omega arith)
 
 -- ---- silence

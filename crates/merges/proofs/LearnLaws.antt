@@ -18,7 +18,7 @@ use Rattle.merges.specs.Learning.{put, rowBy, givesWay, takenBack, Learn
 use Rattle.merges.proofs.PutLaws.{put-every, put-ascending}
 
 -- what holds of every row holds of the one that is looked up, if there is one
-row-for-every : (test : Row → Bool) (d : ℕ) (rs : List Row) → every test rs ≡ true → (test (rowFor d rs) ≡ true) ⊎ (rowFor d rs ≡ none)
+pub row-for-every : (test : Row → Bool) (d : ℕ) (rs : List Row) → every test rs ≡ true → (test (rowFor d rs) ≡ true) ⊎ (rowFor d rs ≡ none)
 unfolding every
 row-for-every test d [] e = inr refl
 row-for-every test d (r ∷ rs) e =

@@ -24,7 +24,7 @@ use Rattle.routes.proofs.StandingLaws.{ascending-without, standing-ever
 use Rattle.routes.proofs.TableLaws.{within}
 
 -- ---- what a test of rows says of some of them
-every-map : (test test′ : Row → Bool) (f : Row → Row) → ((r : Row) → test r ≡ true → test′ (f r) ≡ true) → (rs : List Row)
+pub every-map : (test test′ : Row → Bool) (f : Row → Row) → ((r : Row) → test r ≡ true → test′ (f r) ≡ true) → (rs : List Row)
     → every test rs ≡ true → every test′ (map f rs) ≡ true
 unfolding every
 every-map test test′ f h [] e = refl

@@ -1,3 +1,3 @@
-pub mod StoreLaws
+pub mod StateTripLaws
 pub mod TableByteLaws
 pub mod TableTripLaws

@@ -1,4 +1,4 @@
-pub mod Laws
-pub mod States
+pub mod StateBytes
+pub mod StateTrips
 pub mod TableBytes
 pub mod TableTrips

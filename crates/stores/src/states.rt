@@ -1,6 +1,6 @@
 // A unit's state as 13 bytes.
 ghost use mathlib.Core.Path.{_≡_};
-ghost use Rattle.stores.specs.States.{stateIn, stateOver};
+ghost use Rattle.stores.specs.StateBytes.{stateIn, stateOver};
 use life::state::State;
 use octets::layouts::put_layout;
 use octets::numbers::number8;

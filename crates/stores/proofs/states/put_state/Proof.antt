@@ -1,7 +1,7 @@
 -- `put_state`: its numbers, laid out.
 -- Assumes nothing.
 use borrow.Author.Needs.{needs}
-use Rattle.stores.specs.States.{stateOver}
+use Rattle.stores.specs.StateBytes.{stateOver}
 use Rattle.stores.proofs.states.put_state.Statement.{statement}
 use Rattle.stores.proofs.states.put_state.Tie as tie
 

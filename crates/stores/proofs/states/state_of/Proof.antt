@@ -1,7 +1,7 @@
 -- `state_of`: each number stands where the layout says.
 -- Assumes nothing.
 use borrow.Author.Needs.{needs}
-use Rattle.stores.specs.States.{stateIn}
+use Rattle.stores.specs.StateBytes.{stateIn}
 use Rattle.stores.proofs.states.state_of.Statement.{statement}
 use Rattle.stores.proofs.states.state_of.Tie as tie
 

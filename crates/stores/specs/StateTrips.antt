@@ -6,7 +6,7 @@ use Prim.Native.Nat.{ℕ}
 use lib.ListN.{length}
 use Rattle.octets.specs.Layouts.{Fit, Bytes}
 use Rattle.life.specs.declared.state.State.{State}
-use Rattle.stores.specs.States.{stateWidths, stateSize, stateValues, stateIn, stateOver}
+use Rattle.stores.specs.StateBytes.{stateWidths, stateSize, stateValues, stateIn, stateOver}
 
 -- a state whose numbers fit is read back from a buffer of its size
 abbrev pub StateReadBack : Type 0

@@ -9,8 +9,8 @@ use lib.Seq.{sets, sets-eq, take-all}
 use Rattle.octets.specs.Layouts.{fields, bytes, Bytes}
 use Rattle.octets.proofs.LayoutLaws.{length-bytes, fields-bytes, bytes-fields}
 use Rattle.life.specs.declared.state.State.{State}
-use Rattle.stores.specs.States.{stateWidths, stateSize, stateValues, stateFrom, stateIn, stateOver}
-use Rattle.stores.specs.Laws.{StateReadBack, StateSaidOnce}
+use Rattle.stores.specs.StateBytes.{stateWidths, stateSize, stateValues, stateFrom, stateIn, stateOver}
+use Rattle.stores.specs.StateTrips.{StateReadBack, StateSaidOnce}
 
 pub state-read-back : StateReadBack
 unfolding stateIn stateOver

@@ -1,4 +1,5 @@
 pub mod CopyLaws
 pub mod ForwardLaws
+pub mod PageLaws
 pub mod ReasonLaws
 pub mod RelayLaws

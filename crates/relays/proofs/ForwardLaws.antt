@@ -24,8 +24,9 @@ use Rattle.frames.specs.Told.{wrote}
 use Rattle.writers.proofs.WritingLaws.{frame-length}
 use Rattle.routes.specs.declared.row.Row.{Row}
 use Rattle.routes.specs.declared.table.Table.{Table}
-use Rattle.routes.specs.Rows.{standingPlaces}
-use Rattle.routes.specs.Tables.{withinRule}
+use Rattle.routes.specs.Rows.{standing, standingPlaces}
+use Rattle.routes.specs.Tables.{rowsOf, withinRule}
+use Rattle.routes.proofs.KeepLaws.{ascending-standing, within-pad, standing-rules}
 use Rattle.routes.proofs.StandingLaws.{standing-places}
 use Rattle.routes.proofs.TableLaws.{within, held}
 use Rattle.relays.specs.declared.passing.Passing.{Passing}
@@ -163,3 +164,14 @@ pub forwarded-off : (t : Table) (network : ℕ) (s : List ℕ) (delay time : ℕ
     → (n ≡ 0 → ⊥) → forwards.passed (record { refused = n; written = 0; table = t }) out ≡ forwardOf t network s delay time out
 unfolding forwardOf
 forwarded-off t network s delay time out n e z = rw (← e, ne-eqb n 0 z)
+
+-- an accepted forward leaves a table within rule
+pub forward-within : (t : Table) (network : ℕ) (s : List ℕ) (delay time : ℕ) (out : List ℕ) → forwardOf t network s delay time out .answer .refused ≡ 0
+    → withinRule (forwardOf t network s delay time out .answer .table) ≡ true
+unfolding forwardOf
+forward-within t network s delay time out e =
+    let o = onward t network s delay time (length out) e in
+    let w = within t (o .right) in
+    let rs = rowsOf t in
+    rw e (within-pad (t .own) time true (beaconIn s .«original_source») (beaconIn s .sequence) (standing time rs) (w .unit) (read-ruled s (o .unread) .origin)
+    (ascending-standing time rs (w .ascends)) (standing-rules (t .own) (t .time) time (o .ordered) time rs (w .rules)))

@@ -31,7 +31,7 @@ use Rattle.routes.proofs.StandingLaws.{standing-places}
 use Rattle.routes.proofs.TableLaws.{within, held}
 use Rattle.relays.specs.declared.passing.Passing.{Passing}
 use Rattle.relays.specs.Forwards as forwards
-use Rattle.relays.specs.Forwards.{passingOf, toForward, passingReasons, beaconIn, passedBy, copyOf, forwardRefusal, forwardOf}
+use Rattle.relays.specs.Forwards.{passingOf, toForward, passingReasons, beaconIn, passedBy, copyOf, recorded, forwardRefusal, forwardOf}
 use Rattle.relays.proofs.CopyLaws.{written-whole}
 use Rattle.relays.proofs.ReasonLaws.{first-append}
 
@@ -145,25 +145,27 @@ module _ (t : Table) (network : ℕ) (s : List ℕ) (delay time : ℕ) (out : Li
       written-whole 34 (beaconRule copy) (copyOf t delay s) out (copy-length t delay s) (omega (arith, copy-length t delay s))
       (r .passes (t .own) delay (within t (o .right) .unit) (o .below)) (o .fits)
 
-  pub forwarded-on : (sent : Beacon) (w : Written) (kept part : List ℕ) (rows : List Row) → n ≡ 0 → beaconValues b ≡ valuesIn beacon s → sent ≡ passedBy (t .own) delay b
-      → part ≡ [] → wrote w kept ≡ writeAs beacon (beaconValues sent) part out → rows ≡ standingPlaces time (t .rows) → length (t .rows) ≡ 48
-      → forwards.passed
-      (record { refused = n; written = 34; table = record { own = t .own; time = time; forwarded = true; origin = b .«original_source»; sequence = b .sequence; rows = rows } })
-      kept
-      ≡ forwardOf t network s delay time out
+  pub forwarded-on : (sent : Beacon) (w : Written) (kept part : List ℕ) (q : Passing) (new : Table) → n ≡ 0 → beaconValues b ≡ valuesIn beacon s
+      → sent ≡ passedBy (t .own) delay b → part ≡ [] → wrote w kept ≡ writeAs beacon (beaconValues sent) part out → q ≡ passingOf b
+      → (withinRule t ≡ true → new ≡ recorded t q time)
+      → forwards.passed (record { refused = n; written = 34; table = new }) kept ≡ forwardOf t network s delay time out
   unfolding forwardOf
-  forwarded-on sent w kept part rows z v c y q m l =
+  forwarded-on sent w kept part q new z v c y d m r =
       let g = beacon-in b s v in
       let o = onward t network s delay time (length out) (sym e ∙ z) in
-      let whole : wrote w kept ≡ record { said = accepted (length (copyOf t delay s) ∷ []); held = sets out 0 (copyOf t delay s) } = q ∙ rw (c, g, y) (copied z) in
+      let whole : wrote w kept ≡ record { said = accepted (length (copyOf t delay s) ∷ []); held = sets out 0 (copyOf t delay s) } = d ∙ rw (c, g, y) (copied z) in
       let held-now : kept ≡ sets out 0 (copyOf t delay s) = ap (λ (x : Wrote). x .held) whole in
-      let stand = m ∙ standing-places time (t .rows) (held t l (o .right)) in
-      rw (← e, z, held-now, stand, g, copy-length t delay s)
+      rw (r (o .right), m, g, ← e, z, held-now, copy-length t delay s)
 
 pub forwarded-off : (t : Table) (network : ℕ) (s : List ℕ) (delay time : ℕ) (out : List ℕ) (n : ℕ) → n ≡ forwardRefusal t network s delay time (length out)
     → (n ≡ 0 → ⊥) → forwards.passed (record { refused = n; written = 0; table = t }) out ≡ forwardOf t network s delay time out
 unfolding forwardOf
 forwarded-off t network s delay time out n e z = rw (← e, ne-eqb n 0 z)
+
+-- the table as the code builds it is the one that is recorded
+pub records : (t : Table) (q : Passing) (time : ℕ) (rows : List Row) → rows ≡ standingPlaces time (t .rows) → length (t .rows) ≡ 48 → withinRule t ≡ true
+    → record { own = t .own; time = time; forwarded = true; origin = q .«original_source»; sequence = q .sequence; rows = rows } ≡ recorded t q time
+records t q time rows m l e = rw (m ∙ standing-places time (t .rows) (held t l e))
 
 -- an accepted forward leaves a table within rule
 pub forward-within : (t : Table) (network : ℕ) (s : List ℕ) (delay time : ℕ) (out : List ℕ) → forwardOf t network s delay time out .answer .refused ≡ 0

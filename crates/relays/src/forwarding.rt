@@ -3,13 +3,13 @@ ghost use mathlib.Core.Path.{_≡_};
 ghost use Prim.Native.Nat.{_+_, _≤_};
 ghost use Rattle.relays.specs.Forwards.{passingOf, passedBy, forwardRefusal, passed, forwardOf};
 use crate::passing::Passing;
+use crate::passing::recorded;
 use crate::passing::why_not_passed;
 use beacons::beacon::Beacon;
 use frames::answers::Frame;
 use octets::answers::refuse_if;
 use octets::parts::part;
 use readers::refusals;
-use routes::standing::standing_places;
 use routes::table::Table;
 use writers::writing::write;
 
@@ -93,18 +93,9 @@ pub fn forward(
     let beacon = Beacon::of(frame);
     let copy = passed_by(table.own, delay, beacon);
     write(Frame::Beacon(copy), part(frame, 0, 0), out);
-    let rows = table.rows;
-    let next = Table {
-        own: table.own,
-        time,
-        forwarded: true,
-        origin: beacon.original_source,
-        sequence: beacon.sequence,
-        rows: standing_places(rows, time),
-    };
     Forwarded {
         refused,
         written: 34,
-        table: next,
+        table: recorded(table, passing_of(beacon), time),
     }
 }

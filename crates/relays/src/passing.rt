@@ -1,11 +1,14 @@
-// What a forwarder needs of a beacon, apart from any layout, and why it does not pass it on.
+// What a forwarder needs of a beacon, apart from any layout: why it does not pass it on, and what it records when it does.
 ghost use mathlib.Core.Path.{_≡_};
+ghost use mathlib.Core.Bool.{true};
 ghost use Rattle.octets.specs.Answers.{first};
-ghost use Rattle.relays.specs.Forwards.{again, passingReasons};
+ghost use Rattle.routes.specs.Tables.{withinRule};
+ghost use Rattle.relays.specs.Forwards.{again, passingReasons, recorded};
 use crate::lookups::hops;
 use crate::lookups::number;
 use moments::in_order;
 use octets::answers::refuse_if;
+use routes::standing::standing_places;
 use routes::table::Table;
 
 pub struct Passing {
@@ -47,4 +50,19 @@ pub(crate) fn why_not_passed(
     let refused = refuse_if(!in_order(table.time, time), 8, refused);
     let refused = refuse_if(!(passing.network == network), 15, refused);
     refuse_if(passing.source == table.own, 6, refused)
+}
+
+// The table, which is within rule, when a beacon was passed on: its pair and the time, without the rows that are gone.
+pub(crate) fn recorded(table: Table, passing: Passing, time: u32) -> Table
+    ensures { λ r. ⌜ (withinRule table ≡ true → r ≡ recorded table passing time) ⌝ }
+{
+    let rows = table.rows;
+    Table {
+        own: table.own,
+        time,
+        forwarded: true,
+        origin: passing.original_source,
+        sequence: passing.sequence,
+        rows: standing_places(rows, time),
+    }
 }

@@ -18,8 +18,8 @@ passed-by-requires c κs =
 returns-2 : tie.Need-returns-2
 returns-2 c =
     let a = c .before .before .before .before .before .before .before .before .before .before .before .before .before .args in
-    forwarded-on (a .table) (a .network) (a .frame .now) (a .delay) (a .time) (a .out .now) (c .before .before .before .before .before .before .before .before .of .result) (c .before .before .before .before .before .before .before .before .before .before .refusal .result) (c .before .before .before .before .before .before .before .before .before .before .refusal .ensures) (c .before .before .before .before .before .before .before .passed-by .result) (c .before .before .before .before .write .result) _ (c .before .before .before .before .before .before .part .result .now) _ (c .before .before .before .before .before .before .before .before .before .if1 .left) (c .before .before .before .before .before .before .before .before .of .ensures) (c .before .before .before .before .before .before .before .passed-by .ensures) (c .before .before .before .before .before .before .part .ensures) (c .before .before .before .before .write .ensures) (c .standing-places .ensures .0) (c .standing-places .ensures .1)
+    forwarded-on (a .table) (a .network) (a .frame .now) (a .delay) (a .time) (a .out .now) (c .before .before .before .before .before .before .before .before .of .result) (c .before .before .before .before .before .before .before .before .before .before .refusal .result) (c .before .before .before .before .before .before .before .before .before .before .refusal .ensures) (c .before .before .before .before .before .before .before .passed-by .result) (c .before .before .before .before .write .result) _ (c .before .before .before .before .before .before .part .result .now) (c .before .passing-of .result) (c .recorded .result) (c .before .before .before .before .before .before .before .before .before .if1 .left) (c .before .before .before .before .before .before .before .before .of .ensures) (c .before .before .before .before .before .before .before .passed-by .ensures) (c .before .before .before .before .before .before .part .ensures) (c .before .before .before .before .write .ensures) (c .before .passing-of .ensures) (c .recorded .ensures)
 
 pub forward-spec : {M : Type 1} → statement M
 forward-spec =
-    tie.close (tie.spec (λ c κs. search needs) returns (λ c κs. search needs) passed-by-requires (λ c κs. search needs) (λ c κs. search needs) (λ c κs. search needs) (λ c. search needs) returns-2)
+    tie.close (tie.spec (λ c κs. search needs) returns (λ c κs. search needs) passed-by-requires (λ c κs. search needs) (λ c κs. search needs) (λ c κs. search needs) (λ c κs. search needs) (λ c. search needs) returns-2)

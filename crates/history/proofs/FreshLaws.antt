@@ -2,24 +2,23 @@
 -- Assumes nothing.
 use mathlib.Core.Path.{_≡_, refl, sym, ap, _∙_}
 use mathlib.Core.Bool.{Bool, true, false, not, _&&_, _||_, cond, and-eq-true-iff, false≢true}
-use mathlib.Core.List.{List, [], _∷_, map}
-use mathlib.Core.Logic.{_⊎_, inl, inr, ⊎-elim}
+use mathlib.Core.List.{List, [], _∷_}
+use mathlib.Core.Logic.{⊎-elim}
 use Prim.Native.Nat.{ℕ, _≤_}
-use native.Mathlib.Decide.{ℕ-discrete}
 use native.Mathlib.Omega.{arith}
-use borrow.Author.Tests.{eq-eqb, ne-eqb, eqb-true, leb-true, not-true}
+use borrow.Author.Tests.{eq-eqb, leb-true, not-true}
 use lib.Dec.{eqb, leb}
 use Rattle.octets.specs.Lists.{every}
 use Rattle.moments.specs.Moments.{ageAt, inOrder}
 use Rattle.moments.proofs.MomentLaws.{in-order-self, in-order-on, younger}
 use Rattle.routes.specs.declared.row.Row.{Row}
 use Rattle.routes.specs.declared.table.Table.{Table}
-use Rattle.routes.specs.Rows.{none, usable, rowRule, withdrawnAt, forgotten, standing}
-use Rattle.routes.specs.Tables.{rowsOf, withinRule}
+use Rattle.routes.specs.Rows.{usable, withdrawnAt, forgotten}
+use Rattle.routes.specs.Tables.{rowsOf}
 use Rattle.routes.proofs.TableLaws.{address-some}
 use Rattle.merges.specs.declared.candidate.Candidate.{Candidate}
 use Rattle.merges.specs.Learning.{rowBy}
-use Rattle.merges.proofs.LearnLaws.{Kept, Kepts, row-for-every}
+use Rattle.merges.proofs.LearnLaws.{Kept, row-for-every}
 use Rattle.history.specs.TableCalls.{Update, timesFrom}
 use Rattle.history.specs.TableLaws.{Heard}
 use Rattle.history.proofs.LookupLaws.{answering, Found}

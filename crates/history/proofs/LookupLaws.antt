@@ -1,14 +1,14 @@
 -- What a lookup that is accepted rests on, and a relay that passes a frame on.
 -- Assumes nothing.
-use mathlib.Core.Path.{_≡_, refl, sym, ap, _∙_}
-use mathlib.Core.Bool.{Bool, true, false, not, _&&_, cond, and-eq-true-iff, false≢true}
+use mathlib.Core.Path.{_≡_, sym, ap, _∙_}
+use mathlib.Core.Bool.{true, not, _&&_, and-eq-true-iff}
 use mathlib.Core.List.{List, [], _∷_}
 use Prim.Native.Nat.{ℕ}
 use native.Mathlib.Decide.{ℕ-discrete}
 use native.Mathlib.Omega.{arith}
-use borrow.Author.Tests.{eqb-true, eq-eqb, not-false}
+use borrow.Author.Tests.{eqb-true, not-false}
 use lib.Dec.{eqb}
-use lib.ListN.{length, getD}
+use lib.ListN.{length}
 use Rattle.octets.specs.Answers.{Said, accepted, reason, first, unless}
 use Rattle.octets.proofs.AnswerLaws.{unless-none, unless-some, unless-number, numbered, none-holds}
 use Rattle.moments.specs.Moments.{inOrder}

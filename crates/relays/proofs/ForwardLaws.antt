@@ -26,8 +26,9 @@ use Rattle.routes.specs.declared.row.Row.{Row}
 use Rattle.routes.specs.declared.table.Table.{Table}
 use Rattle.routes.specs.Rows.{standing, standingPlaces}
 use Rattle.routes.specs.Tables.{rowsOf, withinRule}
-use Rattle.routes.proofs.KeepLaws.{ascending-standing, within-pad, standing-rules}
-use Rattle.routes.proofs.StandingLaws.{standing-places}
+use Rattle.routes.proofs.KeepLaws.{standing-rules}
+use Rattle.routes.proofs.RuleLaws.{within-pad}
+use Rattle.routes.proofs.StandingLaws.{standing-ascending, standing-places}
 use Rattle.routes.proofs.TableLaws.{within, held}
 use Rattle.relays.specs.declared.passing.Passing.{Passing}
 use Rattle.relays.specs.Forwards as forwards
@@ -176,4 +177,4 @@ forward-within t network s delay time out e =
     let w = within t (o .right) in
     let rs = rowsOf t in
     rw e (within-pad (t .own) time true (beaconIn s .«original_source») (beaconIn s .sequence) (standing time rs) (w .unit) (read-ruled s (o .unread) .origin)
-    (ascending-standing time rs (w .ascends)) (standing-rules (t .own) (t .time) time (o .ordered) time rs (w .rules)))
+    (standing-ascending time rs (w .ascends)) (standing-rules (t .own) (t .time) time (o .ordered) time rs (w .rules)))

@@ -30,9 +30,8 @@ use Rattle.routes.specs.declared.row.Row.{Row}
 use Rattle.routes.specs.declared.table.Table.{Table}
 use Rattle.routes.specs.Rows.{none, stands, inUse, pad, standing, standingPlaces}
 use Rattle.routes.specs.Tables.{rowsOf, withinRule}
-use Rattle.routes.proofs.KeepLaws.{some, every-standing, in-use-some, in-use-pad}
+use Rattle.routes.proofs.StandingLaws.{used, standing-all, standing-every, in-use-used, in-use-pad}
 use Rattle.routes.proofs.RowLaws.{in-use-end, in-use-turn}
-use Rattle.routes.proofs.StandingLaws.{standing-all}
 use Rattle.relays.specs.Pages.{entryFor, entriesBytes, onPage, pageThere, pageFrame, pageOf}
 
 -- ---- counting the places in use
@@ -105,7 +104,7 @@ standing-in-use time places = go (every (stands time) (inUse places)) refl
   where
     go : (b : Bool) → every (stands time) (inUse places) ≡ b → inUse (cond b places (pad (standing time (inUse places)))) ≡ standing time (inUse places)
     go true q = sym (standing-all time (inUse places) q)
-    go false q = in-use-pad (standing time (inUse places)) (every-standing some time (inUse places) (in-use-some places))
+    go false q = in-use-pad (standing time (inUse places)) (standing-every used time (inUse places) (in-use-used places))
 
 drop-take : (n m : ℕ) (l : List Row) → drop n (take (n + m) l) ≡ take m (drop n l)
 drop-take n m l = rw (take-add n m l) (go (decLe n (length l)))

@@ -1,24 +1,21 @@
 -- Tables that are within rule: one whose places are filled from rows that are, a fresh one, and that of an accepted forget.
 -- Assumes nothing.
 use mathlib.Core.Path.{_≡_, refl, _∙_}
-use mathlib.Core.Bool.{Bool, true, false, not, _&&_, _||_, cond, and-eq-true-iff, false≢true}
-use mathlib.Core.List.{List, [], _∷_, _++_, map}
-use Prim.Native.Nat.{ℕ, zero, suc, _-_}
+use mathlib.Core.Bool.{Bool, true, false, not, _&&_, _||_, cond, and-eq-true-iff}
+use mathlib.Core.List.{List, [], _∷_, map}
+use Prim.Native.Nat.{ℕ}
 use native.Mathlib.Omega.{arith}
-use borrow.Author.Tests.{ne-eqb, ltb-true, lt-ltb, not-true, not-false}
-use lib.Dec.{eqb, leb, ltb}
-use lib.ListN.{length, drop, replicate}
-use lib.Seq.{drop-append-seam}
+use borrow.Author.Tests.{not-false}
+use lib.Dec.{eqb, ltb}
 use Rattle.octets.specs.Answers.{reason}
 use Rattle.octets.specs.Lists.{every}
 use Rattle.octets.proofs.AnswerLaws.{numbered, none-holds}
 use Rattle.moments.specs.Moments.{inOrder}
-use Rattle.moments.proofs.MomentLaws.{in-order-self, in-order-on}
 use Rattle.shapes.specs.Rules.{address}
 use Rattle.routes.specs.declared.row.Row.{Row}
 use Rattle.routes.specs.declared.table.Table.{Table}
-use Rattle.routes.specs.Rows.{none, usable, stands, rowRule, isNone, withdrawnAt, forgotten, ascending, inUse, pad, standing}
-use Rattle.routes.specs.Tables.{rowsOf, pairOk, withinRule, freshOf, forgetOf}
+use Rattle.routes.specs.Rows.{none, usable, rowRule, withdrawnAt, forgotten, ascending, pad, standing}
+use Rattle.routes.specs.Tables.{rowsOf, withinRule, freshOf, forgetOf}
 use Rattle.routes.proofs.RuleLaws.{rule-later, rule-withdrawn, rules-later, within-pad}
 use Rattle.routes.proofs.StandingLaws.{ascending-without, standing-every, standing-ascending}
 use Rattle.routes.proofs.TableLaws.{within}
@@ -56,7 +53,7 @@ module _ (own last at : ℕ) (o : inOrder last at ≡ true) where
   pub standing-rules : (time : ℕ) (rs : List Row) → every (rowRule own last) rs ≡ true → every (rowRule own at) (standing time rs) ≡ true
   standing-rules time rs e = standing-every (rowRule own at) time rs (rules-later own last at o rs e)
 
-  forgotten-rules : (unit time : ℕ) (rs : List Row) → every (rowRule own last) rs ≡ true → every (rowRule own at) (map (forgotten unit at) (standing time rs)) ≡ true
+  pub forgotten-rules : (unit time : ℕ) (rs : List Row) → every (rowRule own last) rs ≡ true → every (rowRule own at) (map (forgotten unit at) (standing time rs)) ≡ true
   forgotten-rules unit time rs e =
       every-map (rowRule own last) (rowRule own at) (forgotten unit at) (rule-forgotten unit) (standing time rs) (standing-every (rowRule own last) time rs e)
 

@@ -1,21 +1,19 @@
 -- Rows within rule, and the table that is made of them.
 -- Assumes nothing.
-use mathlib.Core.Path.{_≡_, refl, sym, ap, _∙_}
-use mathlib.Core.Bool.{Bool, true, false, not, _&&_, cond, and-eq-true-iff, false≢true}
+use mathlib.Core.Path.{_≡_, refl}
+use mathlib.Core.Bool.{Bool, true, false, not, _&&_, and-eq-true-iff, false≢true}
 use mathlib.Core.List.{List, [], _∷_}
 use Prim.Native.Nat.{ℕ}
 use native.Mathlib.Omega.{arith}
 use borrow.Author.Tests.{leb-true, lt-ltb}
-use lib.Dec.{eqb, leb, ltb}
-use lib.ListN.{length}
+use lib.Dec.{eqb, leb}
 use Rattle.octets.specs.Lists.{every}
 use Rattle.moments.specs.Moments.{inOrder}
 use Rattle.moments.proofs.MomentLaws.{in-order-self, in-order-on}
 use Rattle.shapes.specs.Rules.{address}
 use Rattle.routes.specs.declared.row.Row.{Row}
-use Rattle.routes.specs.declared.table.Table.{Table}
 use Rattle.routes.specs.Rows.{rowRule, withdrawnAt, ascending, inUse, pad}
-use Rattle.routes.specs.Tables.{rowsOf, pairOk, withinRule, withRows}
+use Rattle.routes.specs.Tables.{pairOk, withinRule}
 use Rattle.routes.proofs.StandingLaws.{used, in-use-pad, pad-zeros}
 use Rattle.routes.proofs.TableLaws.{by-parts}
 

@@ -30,7 +30,7 @@ fn either(test: bool, first: Row, second: Row) -> Row
 
 impl Row {
     // A place that is not in use.
-    pub fn none() -> Row
+    pub(crate) fn none() -> Row
         ensures { λ r. ⌜ r ≡ none ⌝ }
     {
         Row {

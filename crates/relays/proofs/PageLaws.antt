@@ -115,22 +115,37 @@ drop-take n m l = rw (take-add n m l) (go (decLe n (length l)))
         let z : drop n l ≡ [] = drop-of-length-le l {i = n} (omega arith) in
         rw (z, take-nil {A = Row} m, append-nil (take n l)) (drop-of-length-le (take n l) {i = n} (omega (arith, length-take n l)))
 
-module _ (t : Table) (p time : ℕ) (out : List ℕ) (stand : List Row) (total from to size : ℕ) (s : stand ≡ standingPlaces time (t .rows))
-    (n : total ≡ length (inUse stand)) (f : from ≡ 24 * p) (u : to ≡ min (from + 24) total) (z : size ≡ 9 + 10 * (to - from)) where
+-- what the code has when it decides on page p
+pub record Paged (t : Table) (p time : ℕ) (out : List ℕ) (stand : List Row) (total from to size refused : ℕ) : Type 0 where
+  pub stood : stand ≡ standingPlaces time (t .rows)
+  pub counted : total ≡ length (inUse stand)
+  pub few : total ≤ 48
+  pub begins : from ≡ 24 * p
+  pub ends : to ≡ min (from + 24) total
+  pub sized : size ≡ 9 + 10 * (to - from)
+  pub why :
+      refused ≡ first
+      (reason (not (withinRule t)) 14 ∷
+      reason (not (inOrder (t .time) time)) 8 ∷
+      reason (not (eqb p 0 || ltb from total)) 14 ∷
+      reason (ltb (length out) size) 5 ∷
+      [])
+
+module _ {t : Table} {p time : ℕ} {out : List ℕ} {stand : List Row} {total from to size refused : ℕ} (k : Paged t p time out stand total from to size refused) where
   abbrev rs : List Row
   rs = standing time (rowsOf t)
 
   rows-are : inUse stand ≡ rs
-  rows-are = ap inUse s ∙ standing-in-use time (t .rows)
+  rows-are = ap inUse (k .stood) ∙ standing-in-use time (t .rows)
 
   total-is : total ≡ length rs
-  total-is = n ∙ ap length rows-are
+  total-is = k .counted ∙ ap length rows-are
 
-  pub page-rows : drop from (take to stand) ≡ onPage rs p
+  page-rows : drop from (take to stand) ≡ onPage rs p
   page-rows =
-      let a : take to stand ≡ take to rs = sym (take-take to total stand (omega arith)) ∙ ap (take to) (ap (λ (k : ℕ). take k stand) n ∙ (in-use-take stand ∙ rows-are)) in
-      let b : take to rs ≡ take (from + 24) rs = ap (λ (k : ℕ). take k rs) (u ∙ ap (min (from + 24)) total-is) ∙ take-min (from + 24) rs in
-      rw (a, b, drop-take from 24 rs, f)
+      let a : take to stand ≡ take to rs = sym (take-take to total stand (omega arith)) ∙ ap (take to) (ap (λ (n : ℕ). take n stand) (k .counted) ∙ (in-use-take stand ∙ rows-are)) in
+      let b : take to rs ≡ take (from + 24) rs = ap (λ (n : ℕ). take n rs) (k .ends ∙ ap (min (from + 24)) total-is) ∙ take-min (from + 24) rs in
+      rw (a, b, drop-take from 24 rs, k .begins)
 
   page-count : length (onPage rs p) ≡ to - from
   page-count = length-take 24 (drop (24 * p) rs) ∙ omega (arith, length-drop (24 * p) rs, total-is)
@@ -140,45 +155,37 @@ module _ (t : Table) (p time : ℕ) (out : List ℕ) (stand : List Row) (total f
       frame-length (1 ∷ update .widths) (update .code ∷ t .own ∷ length (onPage rs p) ∷ time ∷ []) (entriesOf time (onPage rs p)) [] 8 refl refl
       ∙ omega (arith, length-entries (map (entryFor time) (onPage rs p)), length-map (onPage rs p) (entryFor time), page-count)
 
-  -- the reasons, as the code sees them
-  module _ (refused : ℕ)
-      (e : refused ≡ first
+  same : refused ≡ first
+      (reason (not (withinRule t)) 14 ∷
+      reason (not (inOrder (t .time) time)) 8 ∷
+      reason (not (pageThere rs p)) 14 ∷
+      reason (ltb (length out) (length (pageFrame t p time))) 5 ∷
+      [])
+  same = k .why ∙ rw (k .begins, total-is, ← frame-size)
+
+  pub page-unwritten : (refused ≡ 0 → ⊥) → wrote (Written.Refused (record { number = refused })) out ≡ pageOf t p time out
+  unfolding pageOf
+  page-unwritten h = rw (← same, ne-eqb refused 0 h)
+
+  pub page-written : (held : List ℕ) → refused ≡ 0 → held ≡ sets out 0 (frameOf update (t .own ∷ (to - from) ∷ time ∷ []) (entriesOf time (drop from (take to stand))))
+      → wrote (Written.Done size) held ≡ pageOf t p time out
+  unfolding pageOf
+  page-written held h e = rw (← same, h, e, page-rows, ← page-count, ← frame-size)
+
+  -- there is such a page, and room for it
+  pub page-fits : refused ≡ 0 → (from ≤ to) × (to ≤ 48) × (9 + 10 * (to - from) ≤ length out)
+  page-fits h =
+      let none = none-holds
       (reason (not (withinRule t)) 14 ∷
       reason (not (inOrder (t .time) time)) 8 ∷
       reason (not (eqb p 0 || ltb from total)) 14 ∷
       reason (ltb (length out) size) 5 ∷
-      [])) where
-    same : refused ≡ first
-        (reason (not (withinRule t)) 14 ∷
-        reason (not (inOrder (t .time) time)) 8 ∷
-        reason (not (pageThere rs p)) 14 ∷
-        reason (ltb (length out) (length (pageFrame t p time))) 5 ∷
-        [])
-    same = e ∙ rw (f, total-is, ← frame-size)
-
-    pub page-unwritten : (refused ≡ 0 → ⊥) → wrote (Written.Refused (record { number = refused })) out ≡ pageOf t p time out
-    unfolding pageOf
-    page-unwritten h = rw (← same, ne-eqb refused 0 h)
-
-    pub page-written : (held : List ℕ) → refused ≡ 0 → held ≡ sets out 0 (frameOf update (t .own ∷ (to - from) ∷ time ∷ []) (entriesOf time (drop from (take to stand))))
-        → wrote (Written.Done size) held ≡ pageOf t p time out
-    unfolding pageOf
-    page-written held h k = rw (← same, h, k, page-rows, ← page-count, ← frame-size)
-
-    -- there is such a page, and room for it
-    pub page-fits : total ≤ 48 → refused ≡ 0 → (from ≤ to) × (to ≤ 48) × (9 + 10 * (to - from) ≤ length out)
-    page-fits h k =
-        let none = none-holds
-        (reason (not (withinRule t)) 14 ∷
-        reason (not (inOrder (t .time) time)) 8 ∷
-        reason (not (eqb p 0 || ltb from total)) 14 ∷
-        reason (ltb (length out) size) 5 ∷
-        [])
-        (numbered _ 14 (λ y. omega arith), (numbered _ 8 (λ y. omega arith), (numbered _ 14 (λ y. omega arith), (numbered _ 5 (λ y. omega arith), tt))))
-        (sym e ∙ k) in
-        let room = ltb-false (length out) size (none .1 .1 .1 .0) in
-        (begins (eqb p 0) refl (not-false (eqb p 0 || ltb from total) (none .1 .1 .0)), omega arith, omega arith)
-      where
-        begins : (b : Bool) → eqb p 0 ≡ b → (b || ltb from total) ≡ true → from ≤ to
-        begins true q y = omega (arith, eqb-true p 0 q)
-        begins false q y = omega (arith, ltb-true from total y)
+      [])
+      (numbered _ 14 (λ y. omega arith), (numbered _ 8 (λ y. omega arith), (numbered _ 14 (λ y. omega arith), (numbered _ 5 (λ y. omega arith), tt))))
+      (sym (k .why) ∙ h) in
+      let room = ltb-false (length out) size (none .1 .1 .1 .0) in
+      (starts (eqb p 0) refl (not-false (eqb p 0 || ltb from total) (none .1 .1 .0)), omega arith, omega arith)
+    where
+      starts : (b : Bool) → eqb p 0 ≡ b → (b || ltb from total) ≡ true → from ≤ to
+      starts true q y = omega (arith, eqb-true p 0 q)
+      starts false q y = omega (arith, ltb-true from total y)

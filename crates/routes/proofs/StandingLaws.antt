@@ -41,6 +41,16 @@ standing-all time (r ∷ rs) e =
     let (here, later) = and-eq-true-iff (stands time r) (every (stands time) rs) .0 e in
     rw (here, standing-all time rs later)
 
+-- places of which every row stands are as they were, others are gathered
+module _ (time : ℕ) (places : List Row) where
+  pub places-same : every (stands time) (inUse places) ≡ true → places ≡ standingPlaces time places
+  unfolding standingPlaces
+  places-same e = rw e
+
+  pub places-gathered : every (stands time) (inUse places) ≡ false → pad (standing time (inUse places)) ≡ standingPlaces time places
+  unfolding standingPlaces
+  places-gathered e = rw e
+
 -- the places of a list of rows, without those that are gone
 pub standing-places : (time : ℕ) (places : List Row) → places ≡ pad (inUse places) → standingPlaces time places ≡ pad (standing time (inUse places))
 unfolding standingPlaces

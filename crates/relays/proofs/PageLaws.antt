@@ -56,6 +56,18 @@ length-entries : (es : List Entry) → length (entriesBytes es) ≡ 10 * length 
 length-entries [] = refl
 length-entries (e ∷ es) = omega (arith, length-append (bytes entryWidths (entryValues e)) (entriesBytes es), length-entry e, length-entries es)
 
+-- a page has at most 24 entries
+pub page-short : (t : Table) (p time : ℕ) → length (pageFrame t p time) ≤ 249
+page-short t p time =
+    let rs = onPage (standing time (rowsOf t)) p in
+    omega (
+      arith,
+      frame-length (1 ∷ update .widths) (update .code ∷ t .own ∷ length rs ∷ time ∷ []) (entriesOf time rs) [] 8 refl refl,
+      length-entries (map (entryFor time) rs),
+      length-map rs (entryFor time),
+      length-take 24 (drop (24 * p) (standing time (rowsOf t))),
+    )
+
 module _ (time : ℕ) (rows : List Row) (to i : ℕ) (out : List ℕ) (place : ℕ) (l : to ≤ length rows) where
   pub entry-turn : i < to → sets out place (entriesOf time (drop i (take to rows)))
       ≡ sets (sets out place (bytes entryWidths (entryValues (entryFor time (getD rows i none))))) (place + 10) (entriesOf time (drop (i + 1) (take to rows)))

@@ -3,7 +3,7 @@
 use mathlib.Core.Path.{_≡_, refl, sym, ap, _∙_}
 use mathlib.Core.Bool.{Bool, true, false, not, _&&_, cond, and-eq-true-iff, false≢true}
 use mathlib.Core.List.{List, [], _∷_}
-use Prim.Native.Nat.{ℕ, _+_}
+use Prim.Native.Nat.{ℕ, _+_, _≤_}
 use native.Mathlib.Omega.{arith}
 use borrow.Author.Tests.{eqb-true, not-true, not-false}
 use lib.Dec.{eqb, leb, ltb}
@@ -83,12 +83,15 @@ module _ (t : Table) (s : List ℕ) (time : ℕ) (out : List ℕ) (e : relayRefu
   part-length =
       length-take (dataIn s .count) (drop 9 s) ∙ omega (arith, length-drop 9 s, known .sized)
 
+  pub copy-short : length (copyOf s) ≤ 255
+  copy-short = omega (arith, copy-length s, part-length, known .sized, known .short)
+
   pub copied : writeAs dataKind (dataValues (passedOn (dataIn s))) (partIn dataKind s) out
       ≡ record { said = accepted (length (copyOf s) ∷ []); held = sets out 0 (copyOf s) }
   copied =
       written-whole _ _ (copyOf s) out
       (omega (arith, copy-length s, part-length))
-      (omega (arith, copy-length s, part-length, known .sized, known .short))
+      copy-short
       (known .kept) (onward t s time (length out) e o .fits)
 
   onto : (w : Written) (held : List ℕ) (next size : ℕ)

@@ -48,15 +48,19 @@ pageFrame t p time =
     let rs = onPage (standing time (rowsOf t)) p in
     frameOf update (t .own ∷ length rs ∷ time ∷ []) (entriesBytes (map (entryFor time) rs))
 
--- page: 14 8 14 5, else the page's bytes from the buffer's start
-unfoldable pub pageOf : Table → ℕ → ℕ → List ℕ → Wrote
-pageOf t p time out =
-    let frame = pageFrame t p time in
-    let refusal =
+-- page: 14 8 14 5, ..
+abbrev pub pageRefusal : Table → ℕ → ℕ → ℕ → ℕ
+pageRefusal t p time room =
     first
     (reason (not (withinRule t)) 14 ∷
     reason (not (inOrder (t .time) time)) 8 ∷
     reason (not (pageThere (standing time (rowsOf t)) p)) 14 ∷
-    reason (ltb (length out) (length frame)) 5 ∷
-    []) in
+    reason (ltb room (length (pageFrame t p time))) 5 ∷
+    [])
+
+-- .. else the page's bytes from the buffer's start
+unfoldable pub pageOf : Table → ℕ → ℕ → List ℕ → Wrote
+pageOf t p time out =
+    let frame = pageFrame t p time in
+    let refusal = pageRefusal t p time (length out) in
     record { said = unless refusal (accepted (length frame ∷ [])); held = after refusal out (sets out 0 frame) }

@@ -50,18 +50,22 @@ emptyTable own time = record { own = own; time = time; forwarded = false; origin
 unfoldable pub freshOf : ℕ → ℕ → Changed
 freshOf own time = settled (first (reason (not (address own)) 4 ∷ [])) (emptyTable 0 0) (emptyTable own time)
 
--- lookup: 14 4 8 11, else the next hop and the hops of the usable row
-unfoldable pub lookupOf : Table → ℕ → ℕ → Said
-lookupOf t d time =
+-- lookup: 14 4 8 11, ..
+abbrev pub lookupRefusal : Table → ℕ → ℕ → ℕ
+lookupRefusal t d time =
     let r = rowFor d (rowsOf t) in
-    unless
-    (first
+    first
     (reason (not (withinRule t)) 14 ∷
     reason (not (address d)) 4 ∷
     reason (not (inOrder (t .time) time)) 8 ∷
     reason (not (eqb (r .destination) d && usable time r)) 11 ∷
-    []))
-    (accepted (r .«next_hop» ∷ r .hops ∷ []))
+    [])
+
+-- .. else the next hop and the hops of the usable row
+unfoldable pub lookupOf : Table → ℕ → ℕ → Said
+lookupOf t d time =
+    let r = rowFor d (rowsOf t) in
+    unless (lookupRefusal t d time) (accepted (r .«next_hop» ∷ r .hops ∷ []))
 
 -- forget: 14 4 6 8
 unfoldable pub forgetOf : Table → ℕ → ℕ → Changed

@@ -1,4 +1,7 @@
+pub mod AnsweredLaws
 pub mod ClockCallLaws
 pub mod FrameCallLaws
+pub mod RelayCallLaws
 pub mod StateCallLaws
 pub mod TableCallLaws
+pub mod UpdateCallLaws

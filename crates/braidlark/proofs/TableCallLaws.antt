@@ -5,28 +5,24 @@ use mathlib.Core.Bool.{Bool, true, false, not, _&&_, cond, and-eq-true-iff}
 use mathlib.Core.List.{List, [], _∷_}
 use Prim.Native.Nat.{ℕ}
 use native.Mathlib.Decide.{ℕ-discrete}
-use native.Mathlib.Omega.{arith}
 use borrow.Author.Tests.{eqb-true}
 use lib.Dec.{eqb, leb}
 use lib.ListN.{length}
 use lib.Seq.{sets}
-use Rattle.octets.specs.Answers.{Said, accepted, refused, reason, first, unless}
 use Rattle.octets.specs.Calls.{after}
 use Rattle.octets.specs.Numbers.{num}
-use Rattle.octets.proofs.AnswerLaws.{unless-none, unless-some}
 use Rattle.octets.proofs.CallLaws.{after-refused}
 use Rattle.routes.specs.declared.table.Table.{Table}
 use Rattle.routes.specs.declared.table.Found.{Found}
 use Rattle.routes.specs.declared.table.Hop.{Hop}
 use Rattle.frames.specs.declared.answers.Refusal.{Refusal}
-use Rattle.moments.specs.Moments.{inOrder}
-use Rattle.shapes.specs.Rules.{address}
-use Rattle.routes.specs.Rows.{usable, rowFor}
-use Rattle.routes.specs.Tables.{rowsOf, withinRule, lookupOf}
+use Rattle.routes.specs.Rows.{rowFor}
+use Rattle.routes.specs.Tables.{rowsOf, lookupRefusal, lookupOf}
 use Rattle.routes.specs.Told.{toldFound}
 use Rattle.stores.specs.TableBytes.{tableIn, tableBytes, flagsOk, isTable}
 use Rattle.stores.proofs.TableByteLaws.{stored-whole}
 use Rattle.braidlark.specs.TableCalls.{storedTable, lookupLeft, lookupCall}
+use Rattle.braidlark.proofs.AnsweredLaws.{Valued, valued, valued-unless, refused-by-some}
 
 table-length : (s : List ℕ) → isTable s ≡ true → length s ≡ 539
 unfolding isTable
@@ -36,7 +32,7 @@ table-length s h =
 
 -- ---- calls that change a table
 -- what `write_back` leaves of the bytes s
-abbrev WrittenBack : List ℕ → List ℕ → ℕ → ℕ → Table → Type 0
+abbrev pub WrittenBack : List ℕ → List ℕ → ℕ → ℕ → Table → Type 0
 WrittenBack s last status number new =
     (status ≡ number) × (last ≡ after number s (sets s 0 (tableBytes new))) × (number ≡ 0 → length (new .rows) ≡ 48)
 
@@ -57,7 +53,7 @@ module _ (s last : List ℕ) (said number status : ℕ) (new : Table) (w : Writt
 -- the table is read, a call is made of it, and what it gives is written back where nothing refuses it: `A` is the call's answer, and the facts are, in order,
 -- what `is_table`, `table_of`, the call, `refuse_if` and `write_back` ensure
 module _ {A : Type 0} (refusal : A → ℕ) (table : A → Table) (call : Table → A) (s last : List ℕ) where
-  abbrev Left : ℕ → A → Type 0
+  abbrev pub Left : ℕ → A → Type 0
   Left status a = (status ≡ storedTable s (refusal a)) × (last ≡ after (storedTable s (refusal a)) s (tableBytes (table a)))
 
   pub changed : (known : Bool) (t : Table) (a : A) (number status : ℕ) → known ≡ isTable s → t ≡ tableIn s → a ≡ call t
@@ -66,33 +62,16 @@ module _ {A : Type 0} (refusal : A → ℕ) (table : A → Table) (call : Table 
       rw (← r, ← e) (written-back s last (refusal a) number status (table a) w (isTable s) (table-length s) (rw k at n))
 
 -- ---- looking up
--- what is refused unless a number is 0, and else has values, is refused with no 0
-some-number : (n m v : ℕ) (vs : List ℕ) → refused n ≡ unless m (accepted (v ∷ vs)) → n ≡ 0 → ⊥
-some-number n m v vs e z = go (ℕ-discrete m 0)
-  where
-    go : Dec (m ≡ 0) → ⊥
-    go (yes q) =
-        let l : _≡_ {A = ℕ} 0 (length (v ∷ vs)) = ap (λ (x : Said). length (x .values)) (e ∙ unless-none m (accepted (v ∷ vs)) q) in
-        omega arith
-    go (no q) = q (sym (ap (λ (x : Said). x .refusal) (e ∙ unless-some m (accepted (v ∷ vs)) q)) ∙ z)
+lookup-valued : (t : Table) (destination time : ℕ) → Valued (lookupOf t destination time)
+unfolding lookupOf
+lookup-valued t destination time =
+    let r = rowFor destination (rowsOf t) in
+    valued-unless (lookupRefusal t destination time) _ (valued (r .«next_hop») (r .hops ∷ []))
 
 module _ (s : List ℕ) (destination time nextHop hops : ℕ) where
   pub no-table : isTable s ≡ false → lookupLeft 14 nextHop hops ≡ lookupCall s destination time nextHop hops
   unfolding lookupCall
   no-table e = rw e
-
-  refused-by-some : (n : ℕ) → refused n ≡ lookupOf (tableIn s) destination time → n ≡ 0 → ⊥
-  unfolding lookupOf
-  refused-by-some n e =
-      let t = tableIn s in
-      let r = rowFor destination (rowsOf t) in
-      let reasons =
-      reason (not (withinRule t)) 14 ∷
-      reason (not (address destination)) 4 ∷
-      reason (not (inOrder (t .time) time)) 8 ∷
-      reason (not (eqb (r .destination) destination && usable time r)) 11 ∷
-      [] in
-      some-number n (first reasons) (r .«next_hop») (r .hops ∷ []) e
 
   module _ (known : isTable s ≡ true) (found : Found) (e : toldFound found ≡ lookupOf (tableIn s) destination time) where
     pub hop-found : (h : Hop) → found ≡ Found.Hop h → lookupLeft 0 (h .«next_hop») (h .hops) ≡ lookupCall s destination time nextHop hops
@@ -102,5 +81,5 @@ module _ (s : List ℕ) (destination time nextHop hops : ℕ) where
     pub none-found : (r : Refusal) → found ≡ Found.Refused r → lookupLeft (r .number) nextHop hops ≡ lookupCall s destination time nextHop hops
     unfolding lookupCall
     none-found r q =
-        let z = refused-by-some (r .number) (sym (ap toldFound q) ∙ e) in
+        let z = refused-by-some (r .number) _ (lookup-valued (tableIn s) destination time) (sym (ap toldFound q) ∙ e) in
         rw (known, ← e, q, after-refused (r .number) nextHop 0 z, after-refused (r .number) hops 0 z)

@@ -13,7 +13,7 @@ use stores::tables::put_table;
 use stores::tables::table_of;
 
 // The end of every call that changes a table: the new one is written where nothing refuses it.
-fn write_back(table: &mut [u8], refused: u8, next: Table) -> u8
+pub(crate) fn write_back(table: &mut [u8], refused: u8, next: Table) -> u8
     ensures { λ r. ⌜ (r ≡ refused) × (now (table .exit) ≡ after refused (now (table .entry)) (sets (now (table .entry)) 0 (tableBytes next))) × (refused ≡ 0 → length (next .rows) ≡ 48) ⌝ }
 {
     if refused != 0 {

@@ -11,7 +11,7 @@ use borrow.Author.Tests.{ne-eqb, eqb-true, ltb-true, ltb-false, not-false}
 use lib.Dec.{eqb, ltb}
 use lib.ListN.{length, getD, take, drop, set, length-append, length-take, length-drop, length-map, drop-of-length-le}
 use lib.Seq.{sets, drop-cons, getD-take, length-take-le, take-take, take-add, take-nil, drop-at}
-use Rattle.octets.specs.Answers.{reason, first}
+use Rattle.octets.specs.Answers.{Reason, reason, first}
 use Rattle.octets.specs.Layouts.{bytes}
 use Rattle.octets.specs.Lists.{every}
 use Rattle.octets.specs.Sums.{xors}
@@ -32,7 +32,7 @@ use Rattle.routes.specs.Rows.{none, stands, inUse, pad, standing, standingPlace
 use Rattle.routes.specs.Tables.{rowsOf, withinRule}
 use Rattle.routes.proofs.StandingLaws.{used, standing-all, standing-every, in-use-used, in-use-pad}
 use Rattle.routes.proofs.RowLaws.{in-use-end, in-use-turn}
-use Rattle.relays.specs.Pages.{entryFor, entriesBytes, onPage, pageThere, pageFrame, pageOf}
+use Rattle.relays.specs.Pages.{entryFor, entriesBytes, onPage, pageFrame, pageOf}
 
 -- ---- counting the places in use
 module _ (rows : List Row) (i : ℕ) (l : length rows ≡ 48) (e : i + length (inUse (drop i rows)) ≡ length (inUse rows)) where
@@ -127,6 +127,15 @@ drop-take n m l = rw (take-add n m l) (go (decLe n (length l)))
         let z : drop n l ≡ [] = drop-of-length-le l {i = n} (omega arith) in
         rw (z, take-nil {A = Row} m, append-nil (take n l)) (drop-of-length-le (take n l) {i = n} (omega (arith, length-take n l)))
 
+-- the reasons, as the code sees them
+abbrev pub reasons : Table → ℕ → ℕ → ℕ → ℕ → ℕ → ℕ → List Reason
+reasons t p time room total from size =
+    reason (not (withinRule t)) 14 ∷
+    reason (not (inOrder (t .time) time)) 8 ∷
+    reason (not (eqb p 0 || ltb from total)) 14 ∷
+    reason (ltb room size) 5 ∷
+    []
+
 -- what the code has when it decides on page p
 pub record Paged (t : Table) (p time : ℕ) (out : List ℕ) (stand : List Row) (total from to size refused : ℕ) : Type 0 where
   pub stood : stand ≡ standingPlaces time (t .rows)
@@ -135,13 +144,7 @@ pub record Paged (t : Table) (p time : ℕ) (out : List ℕ) (stand : List Row) 
   pub begins : from ≡ 24 * p
   pub ends : to ≡ min (from + 24) total
   pub sized : size ≡ 9 + 10 * (to - from)
-  pub why :
-      refused ≡ first
-      (reason (not (withinRule t)) 14 ∷
-      reason (not (inOrder (t .time) time)) 8 ∷
-      reason (not (eqb p 0 || ltb from total)) 14 ∷
-      reason (ltb (length out) size) 5 ∷
-      [])
+  pub why : refused ≡ first (reasons t p time (length out) total from size)
 
 module _ {t : Table} {p time : ℕ} {out : List ℕ} {stand : List Row} {total from to size refused : ℕ} (k : Paged t p time out stand total from to size refused) where
   abbrev rs : List Row
@@ -167,12 +170,7 @@ module _ {t : Table} {p time : ℕ} {out : List ℕ} {stand : List Row} {total f
       frame-length (1 ∷ update .widths) (update .code ∷ t .own ∷ length (onPage rs p) ∷ time ∷ []) (entriesOf time (onPage rs p)) [] 8 refl refl
       ∙ omega (arith, length-entries (map (entryFor time) (onPage rs p)), length-map (onPage rs p) (entryFor time), page-count)
 
-  same : refused ≡ first
-      (reason (not (withinRule t)) 14 ∷
-      reason (not (inOrder (t .time) time)) 8 ∷
-      reason (not (pageThere rs p)) 14 ∷
-      reason (ltb (length out) (length (pageFrame t p time))) 5 ∷
-      [])
+  same : refused ≡ first (reasons t p time (length out) (length rs) (24 * p) (length (pageFrame t p time)))
   same = k .why ∙ rw (k .begins, total-is, ← frame-size)
 
   pub page-unwritten : (refused ≡ 0 → ⊥) → wrote (Written.Refused (record { number = refused })) out ≡ pageOf t p time out
@@ -187,12 +185,7 @@ module _ {t : Table} {p time : ℕ} {out : List ℕ} {stand : List Row} {total f
   -- there is such a page, and room for it
   pub page-fits : refused ≡ 0 → (from ≤ to) × (to ≤ 48) × (9 + 10 * (to - from) ≤ length out)
   page-fits h =
-      let none = none-holds
-      (reason (not (withinRule t)) 14 ∷
-      reason (not (inOrder (t .time) time)) 8 ∷
-      reason (not (eqb p 0 || ltb from total)) 14 ∷
-      reason (ltb (length out) size) 5 ∷
-      [])
+      let none = none-holds (reasons t p time (length out) total from size)
       (numbered _ 14 (λ y. omega arith), (numbered _ 8 (λ y. omega arith), (numbered _ 14 (λ y. omega arith), (numbered _ 5 (λ y. omega arith), tt))))
       (sym (k .why) ∙ h) in
       let room = ltb-false (length out) size (none .1 .1 .1 .0) in

@@ -1,7 +1,7 @@
 //! What the routes check asks: who takes part in a history, and random calls at and around every limit, some of them
 //! with damaged tables and frames.
 
-use crate::frames::{checksum, kind_of, BEACON, DATA, ENTRY, ENTRY_LENGTH, KINDS, ROUTING_UPDATE};
+use crate::frames::{checksum, kind_of, BEACON, DATA, ENTRY, ENTRY_LENGTH, KINDS, MOST_SLOTS, ROUTING_UPDATE};
 use crate::frames_drafts::{Draft, LIMITS};
 use crate::random::Random;
 use crate::relays::seal;
@@ -206,7 +206,7 @@ impl Drawing<'_> {
             false => self.random.one_of(&[0, most, most / 2]),
         };
         let source = if self.slip() { self.scene.own } else { self.random.one_of(&self.scene.units[1..]) };
-        let fields = [
+        let mut fields = vec![
             ("source", u32::from(source)),
             ("network", u32::from(self.scene.network)),
             ("original source", u32::from(origin)),
@@ -215,7 +215,17 @@ impl Drawing<'_> {
             ("sequence", self.random.below(3) as u32),
             ("delay", delay),
         ];
+        if self.slip() {
+            fields.extend(self.one_slot_too_many());
+        }
         beacon(&fields, self.random)
+    }
+
+    /// In a superframe that is as long as its slots, so that nothing else is wrong with it.
+    fn one_slot_too_many(&mut self) -> [(&'static str, u32); 3] {
+        let slots = MOST_SLOTS + 1;
+        let slot_ms = self.random.within(1, 0xFFFF / slots);
+        [("total slots", slots), ("slot ms", slot_ms), ("superframe ms", slots * slot_ms)]
     }
 }
 

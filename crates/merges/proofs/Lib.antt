@@ -7,5 +7,6 @@ pub mod MoveLaws
 pub mod OfferLaws
 pub mod PadLaws
 pub mod PutLaws
+pub mod RankLaws
 pub mod SearchLaws
 pub mod StepLaws

@@ -1,14 +1,36 @@
 // What is done with a candidate, on its own and on the row where its search stopped. None of these takes the array: a call that does copies it.
 ghost use mathlib.Core.Path.{_≡_};
+ghost use mathlib.Core.Bool.{cond};
+ghost use Prim.Native.Nat.{_-_};
+ghost use lib.Dec.{eqb};
 ghost use Rattle.merges.specs.Searching.{goesOn, changes, stores, skips, made};
 use crate::candidate::Candidate;
 use routes::row::Row;
 
-// Whether the search goes on from a place: not past the last one, so that `at` is always a place.
+// One less than a destination, so that no destination, 0, is the highest of all.
+fn rank(destination: u16) -> u16
+    ensures { λ r. ⌜ r ≡ cond (eqb destination 0) 65535 (destination - 1) ⌝ }
+{
+    if destination == 0 {
+        65535
+    } else {
+        destination - 1
+    }
+}
+
+// The rank below which rows are lower than a destination: none is lower than 0.
+fn limit(destination: u16) -> u16
+    ensures { λ r. ⌜ r ≡ destination - 1 ⌝ }
+{
+    if destination == 0 { 0 } else { destination - 1 }
+}
+
+// Whether the search goes on from a place: not past the last one, so that `at` is always a place. By its rank one test tells a row that is lower both
+// from a higher one and from a place that is not in use; it is made for every row that a merge passes.
 pub(crate) fn goes_on(at: usize, destination: u16, row: Row) -> bool
     ensures { λ r. ⌜ r ≡ goesOn at destination row ⌝ }
 {
-    (at < 47) & (0 < row.destination) & (row.destination < destination)
+    (at < 47) & (rank(row.destination) < limit(destination))
 }
 
 // Whether a candidate changes the row for its destination.

@@ -1,0 +1,1 @@
+// Slots: sets of data slots, as the masks that a member's row keeps.

@@ -1,0 +1,6 @@
+pub mod SetLaws
+pub mod CountLaws
+pub mod LowestLaws
+pub mod BitLaws
+pub mod MaskLaws
+pub mod TurnLaws

@@ -1,0 +1,17 @@
+-- `holds`: the bit at i, and none past the mask.
+-- Assumes nothing.
+use borrow.Author.Needs.{needs}
+use mathlib.Core.Path.{sym}
+use Rattle.slots.specs.Sets.{slotsOf}
+use Rattle.slots.proofs.MaskLaws.{mask-has, has-past}
+use Rattle.slots.proofs.masks.holds.Statement.{statement}
+use Rattle.slots.proofs.masks.holds.Tie as tie
+
+returns : tie.Need-returns
+returns c = mask-has (c .before .args .m) (c .before .args .i) (c .if1 .taken)
+
+returns-2 : tie.Need-returns-2
+returns-2 c = sym (has-past (slotsOf (c .before .args .m)) (c .before .args .i) (c .if1 .left))
+
+pub holds-spec : {M : Type 1} → statement M
+holds-spec = tie.close (tie.spec (λ c. search needs) returns returns-2)

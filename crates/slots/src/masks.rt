@@ -60,7 +60,7 @@ pub fn lowest(m: u64, k: u32) -> u64
 {
     let mut left = m;
     let mut dropped: u32 = 0;
-    while (dropped < k) & (left != 0) {
+    while (left != 0) & (dropped < k) {
         left = left & (left - 1);
         dropped += 1;
     }

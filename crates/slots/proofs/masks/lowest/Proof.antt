@@ -21,7 +21,7 @@ unfolding withoutLowest
 loop-holds c = record { few = omega arith; rest = refl }
 
 sub-left : tie.Need-sub-left Inv-loop μ-loop
-sub-left c = omega (arith, there (c .before .before .args .k) (c .before .loop .left) (c .before .loop .dropped) (c .loop-test .taken))
+sub-left c = there (c .before .loop .left) _ (c .loop-test .taken)
 
 add-dropped : tie.Need-add-dropped Inv-loop μ-loop
 add-dropped c = omega (arith, wanted (c .before .before .args .k) (c .before .loop .left) (c .before .loop .dropped) (c .loop-test .taken))

@@ -14,7 +14,7 @@ use lib.Count.{ones, ones-step}
 use Rattle.slots.specs.Sets.{Slots, [], _∷_, has, count, fill, slotwise, noSlots, union, meet, minus, lowest, bits}
 use Rattle.slots.specs.Laws.{BitsOneToOne}
 use Rattle.slots.proofs.SetLaws.{cons}
-use Rattle.slots.proofs.LowestLaws.{withoutLowest}
+use Rattle.slots.proofs.DropLaws.{withoutLowest}
 
 two : zero < 2
 two = zero-lt-suc 1

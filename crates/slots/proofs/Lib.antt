@@ -1,6 +1,7 @@
 pub mod SetLaws
 pub mod CountLaws
 pub mod LowestLaws
+pub mod DropLaws
 pub mod BitLaws
 pub mod MaskLaws
 pub mod TurnLaws

@@ -6,7 +6,7 @@ use Prim.Native.Nat.{ℕ, zero, suc, _-_, _≤_, min}
 use native.Mathlib.Omega.{arith}
 use borrow.Author.Tests.{leb-true, leb-false}
 use lib.Dec.{leb}
-use Rattle.slots.specs.Sets.{Slots, [], _∷_, has, count, isEmpty, Subset, fill, slotwise, noSlots, allSlots, minus, lowest, withoutHighest, firsts}
+use Rattle.slots.specs.Sets.{Slots, [], _∷_, has, count, Subset, fill, noSlots, allSlots, lowest, withoutHighest, firsts}
 use Rattle.slots.specs.Laws.{CountOfFirsts, Lowest, LowestIs, LowestIsOne, ReleasingKeeps, WithoutHighestInside, CountOfWithoutHighest}
 use Rattle.slots.proofs.SetLaws.{cons, same-slots, nothing-has, none-lowest}
 
@@ -132,40 +132,3 @@ count-all (suc n) = ap suc (count-all n)
 pub count-of-firsts : CountOfFirsts
 unfolding firsts allSlots
 count-of-firsts d = count-lowest d (fill 64 true) ∙ ap (min d) (count-all 64)
-
--- ---- without the lowest
--- s without its k lowest slots, which is what k turns leave
-unfoldable pub withoutLowest : {n : ℕ} → ℕ → Slots n → Slots n
-withoutLowest zero s = s
-withoutLowest (suc k) [] = []
-withoutLowest (suc k) (true ∷ s) = false ∷ withoutLowest k s
-withoutLowest (suc k) (false ∷ s) = false ∷ withoutLowest (suc k) s
-
-pub one-more : {n : ℕ} (k : ℕ) (s : Slots n) → withoutLowest 1 (withoutLowest k s) ≡ withoutLowest (suc k) s
-unfolding withoutLowest
-one-more zero s = refl
-one-more (suc k) [] = refl
-one-more (suc k) (true ∷ s) = cons refl (one-more k s)
-one-more (suc k) (false ∷ s) = cons refl (one-more (suc k) s)
-
--- where none are left, none are left later
-pub none-left : {n : ℕ} (j k : ℕ) (s : Slots n) → j ≤ k → isEmpty (withoutLowest j s) ≡ true → withoutLowest j s ≡ withoutLowest k s
-unfolding withoutLowest isEmpty
-none-left zero zero s l e = refl
-none-left zero (suc k) [] l e = refl
-none-left zero (suc k) (true ∷ s) l e = absurd (false≢true e)
-none-left zero (suc k) (false ∷ s) l e = cons refl (none-left zero (suc k) s l e)
-none-left (suc j) zero s l e = absurd (omega arith)
-none-left (suc j) (suc k) [] l e = refl
-none-left (suc j) (suc k) (true ∷ s) l e = cons refl (none-left j k s (omega arith) e)
-none-left (suc j) (suc k) (false ∷ s) l e = cons refl (none-left (suc j) (suc k) s l e)
-
--- what is not left are the lowest
-pub minus-left : {n : ℕ} (k : ℕ) (s : Slots n) → minus s (withoutLowest k s) ≡ lowest k s
-unfolding minus slotwise withoutLowest lowest
-minus-left zero [] = refl
-minus-left (suc k) [] = refl
-minus-left zero (true ∷ s) = cons refl (minus-left zero s)
-minus-left zero (false ∷ s) = cons refl (minus-left zero s)
-minus-left (suc k) (true ∷ s) = cons refl (minus-left k s)
-minus-left (suc k) (false ∷ s) = cons refl (minus-left (suc k) s)

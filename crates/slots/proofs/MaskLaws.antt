@@ -13,7 +13,8 @@ use lib.Count.{ones}
 use Rattle.slots.specs.Sets.{Slots, [], _∷_, has, count, isEmpty, fill, noSlots, allSlots, union, minus, disjoint, slotsOf, firsts}
 use Rattle.slots.specs.Laws.{MasksOneToOne}
 use Rattle.slots.proofs.SetLaws.{empty-is-nothing}
-use Rattle.slots.proofs.LowestLaws.{withoutLowest, lowest-all, count-all}
+use Rattle.slots.proofs.LowestLaws.{lowest-all, count-all}
+use Rattle.slots.proofs.DropLaws.{withoutLowest}
 use Rattle.slots.proofs.BitLaws.{bits-and, bits-or, bits-and-not, bits-count, bits-has, bits-one-to-one, bits-nothing, bits-below, bits-drop}
 
 pub masks-one-to-one : MasksOneToOne

@@ -10,7 +10,7 @@ use lib.Bits.{bitAnd}
 use lib.Dec.{eqb, ltb}
 use Rattle.slots.specs.Sets.{isEmpty, slotsOf}
 use Rattle.slots.proofs.SetLaws.{empty-is-nothing}
-use Rattle.slots.proofs.LowestLaws.{withoutLowest, one-more, none-left}
+use Rattle.slots.proofs.DropLaws.{withoutLowest, one-more, none-left}
 use Rattle.slots.proofs.MaskLaws.{mask-nothing, mask-drop}
 
 -- what is left of m after so many turns of at most k

@@ -5,7 +5,7 @@ use mathlib.Core.Path.{refl, ap, _∙_}
 use Prim.Native.Nat.{_-_}
 use native.Mathlib.Omega.{arith}
 use Rattle.slots.specs.Sets.{slotsOf, minus}
-use Rattle.slots.proofs.LowestLaws.{withoutLowest, minus-left}
+use Rattle.slots.proofs.DropLaws.{withoutLowest, minus-left}
 use Rattle.slots.proofs.TurnLaws.{Left, wanted, there, turned, ended}
 use Rattle.slots.proofs.masks.lowest.Statement.{statement}
 use Rattle.slots.proofs.masks.lowest.Tie as tie

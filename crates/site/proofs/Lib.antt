@@ -1,0 +1,4 @@
+pub mod PlanLaws
+pub mod RegionLaws
+pub mod SendingLaws
+pub mod ToldLaws

@@ -1,0 +1,70 @@
+-- The numbers of a plan, and what its rule makes of them.
+-- Assumes nothing.
+use mathlib.Core.Path.{_≡_}
+use mathlib.Core.Bool.{true, _&&_, and-eq-true-iff}
+use Prim.Native.Nat.{ℕ, _*_, _≤_, _<_, _^_}
+use native.Mathlib.Omega.{arith}
+use native.Mathlib.Nat.{mul-le-mul}
+use borrow.Author.Tests.{leb-true}
+use lib.Dec.{leb}
+use Rattle.shapes.specs.Rules.{address, network}
+use Rattle.site.specs.declared.plan.Plan.{Plan}
+use Rattle.site.specs.Plans.{planRule, active, slotsIn, superframeMs}
+use Rattle.site.specs.Laws.{RuleBounds}
+
+-- ---- the time of a superframe
+-- no superframe is longer than 100 slots
+few-slots : (active : ℕ) → slotsIn active ≤ 100
+unfolding slotsIn
+few-slots active = omega arith
+
+-- so its time fits into 32 bits
+pub superframe-fits : (active slots ms : ℕ) → slots ≡ slotsIn active → ms < 2 ^ 16 → slots * ms < 2 ^ 32
+superframe-fits active slots ms e h =
+    let few : slots ≤ 100 = omega (arith, e, few-slots active) in
+    let short : ms ≤ 65535 = omega (arith, h) in
+    omega (arith, mul-le-mul few short)
+
+-- ---- the rule
+-- what its bounds rest on
+record Kept (p : Plan) : Type 0 where
+  pub hops : 1 ≤ p .«max_hops»
+  pub rows : 2 ≤ p .rows
+  pub data-slots : p .rows ≤ p .«data_slots»
+  pub few : active p ≤ 50
+
+kept : (p : Plan) → planRule p ≡ true → Kept p
+kept p e =
+    let hops = leb 1 (p .«max_hops») && leb (p .«max_hops») 10 in
+    let rows = leb 2 (p .rows) in
+    let data-slots = leb (p .rows) (p .«data_slots») in
+    let few = leb (active p) 50 in
+    let first-two = network (p .network) && address (p .manager) in
+    let (e₇, _) = and-eq-true-iff (first-two && hops && rows && data-slots && few && leb 1 (p .«slot_ms»)) (leb (superframeMs p) 65535) .0 e in
+    let (e₆, _) = and-eq-true-iff (first-two && hops && rows && data-slots && few) (leb 1 (p .«slot_ms»)) .0 e₇ in
+    let (e₅, few-true) = and-eq-true-iff (first-two && hops && rows && data-slots) few .0 e₆ in
+    let (e₄, data-true) = and-eq-true-iff (first-two && hops && rows) data-slots .0 e₅ in
+    let (e₃, rows-true) = and-eq-true-iff (first-two && hops) rows .0 e₄ in
+    let (_, hops-true) = and-eq-true-iff first-two hops .0 e₃ in
+    let (least, _) = and-eq-true-iff (leb 1 (p .«max_hops»)) (leb (p .«max_hops») 10) .0 hops-true in
+    record {
+      hops = leb-true _ _ least;
+      rows = leb-true _ _ rows-true;
+      data-slots = leb-true _ _ data-true;
+      few = leb-true _ _ few-true;
+    }
+
+-- up to 50 active slots there is room for all of them
+room : (active : ℕ) → active ≤ 50 → active ≤ slotsIn active
+unfolding slotsIn
+room active h = omega (arith, h)
+
+pub rule-bounds : RuleBounds
+rule-bounds p e =
+    let k = kept p e in
+    record {
+      few-rows = omega (arith, k .hops, k .rows, k .data-slots, k .few);
+      few-data-slots = omega (arith, k .hops, k .rows, k .data-slots, k .few);
+      few-slots = few-slots (active p);
+      inside = room (active p) (k .few);
+    }

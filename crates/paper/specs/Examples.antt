@@ -13,6 +13,8 @@ use Rattle.requests.specs.Requests.{joinRequest, joinRequestValues}
 use Rattle.shapes.specs.Reading.{isSealed, readRefusal}
 use Rattle.frames.specs.Frames.{readFrame}
 use Rattle.shapes.specs.Shape.{sealed, frameOf}
+use Rattle.site.specs.declared.plan.Plan.{Plan}
+use Rattle.site.specs.Plans.{active, slotsIn, slots, planOf}
 use Rattle.clock.specs.Clock.{drift, half, correction, corrected, stepOf}
 
 pub record Example : Type 0 where
@@ -26,6 +28,16 @@ listed said = said .refusal ∷ said .values
 -- ---- join request of 0x0201, network 1, 4 slots
 abbrev pub joinBytes : List ℕ
 joinBytes = 0x21 ∷ 0x01 ∷ 0x02 ∷ 0x00 ∷ 0x01 ∷ 0x00 ∷ 0x04 ∷ 0x27 ∷ []
+
+-- ---- the plans of network 1 with manager 0x0100 and h 3, by M, D and slot ms; where the paper names no slot ms, 655 fits 100 slots
+abbrev pub plan : ℕ → ℕ → ℕ → Said
+plan rows dataSlots ms = planOf 1 0x0100 3 rows dataSlots ms
+
+-- A and S
+abbrev pub lengths : ℕ → ℕ → ℕ → List ℕ
+lengths rows dataSlots ms =
+    let p : Plan = record { network = 1; manager = 0x0100; «max_hops» = 3; rows = rows; «data_slots» = dataSlots; «slot_ms» = ms } in
+    active p ∷ slots p ∷ []
 
 -- ---- what a drift leaves
 -- a number with its sign as a list: 1 below zero and else 0, then the magnitude
@@ -45,6 +57,12 @@ examples =
       computed = frameOf joinRequest (joinRequestValues (record { node = 0x0201; capabilities = 0; network = 1; slots = 4 })) [];
       paper = joinBytes;
     } ∷
+    record { computed = lengths 4 6 1213; paper = 16 ∷ 54 ∷ [] } ∷
+    record { computed = listed (plan 4 6 1213); paper = 0 ∷ 1 ∷ 0x0100 ∷ 3 ∷ 4 ∷ 6 ∷ 1213 ∷ [] } ∷
+    record { computed = listed (plan 4 6 1214); paper = 14 ∷ [] } ∷
+    record { computed = lengths 20 21 655; paper = 50 ∷ 100 ∷ [] } ∷
+    record { computed = listed (plan 20 21 655); paper = 0 ∷ 1 ∷ 0x0100 ∷ 3 ∷ 20 ∷ 21 ∷ 655 ∷ [] } ∷
+    record { computed = listed (plan 20 22 655); paper = 14 ∷ [] } ∷
     record { computed = leaves 100 0; paper = 0 ∷ 100 ∷ 0 ∷ 50 ∷ [] } ∷
     record { computed = leaves 0 51; paper = 1 ∷ 51 ∷ 1 ∷ 26 ∷ [] } ∷
     record { computed = leaves 101 0; paper = 0 ∷ 101 ∷ 0 ∷ 0 ∷ [] } ∷
@@ -63,5 +81,5 @@ allSame (e ∷ es) = same (e .computed) (e .paper) && allSame es
 
 -- the definitions give every example
 pub as-in-the-paper : allSame examples ≡ true
-unfolding examples readFrame readRefusal isSealed sealed num digits xors drift half correction corrected stepOf
+unfolding examples readFrame readRefusal isSealed sealed num digits xors planOf slotsIn drift half correction corrected stepOf
 as-in-the-paper = refl

@@ -1,0 +1,69 @@
+-- A schedule in a buffer.
+-- Assumes nothing.
+use mathlib.Core.Path.{_≡_, sym, _∙_}
+use mathlib.Core.Bool.{Bool, true, not}
+use mathlib.Core.List.{List, [], _∷_, _++_}
+use Prim.Native.Nat.{ℕ, _≤_}
+use native.Mathlib.Omega.{arith}
+use native.Mathlib.Nat.{zero-add}
+use borrow.Author.Tests.{ne-eqb, ltb-false, not-false}
+use lib.Dec.{ltb}
+use lib.ListN.{length, getD, drop}
+use lib.Seq.{sets, sets-eq}
+use Rattle.octets.specs.Answers.{reason}
+use Rattle.octets.specs.Lists.{tab}
+use Rattle.octets.proofs.AnswerLaws.{numbered, none-holds}
+use Rattle.moments.specs.Moments.{inOrder}
+use Rattle.shapes.specs.Rules.{address}
+use Rattle.frames.specs.declared.answers.Written.{Written}
+use Rattle.frames.specs.Told.{wrote}
+use Rattle.slots.specs.Sets.{Slots}
+use Rattle.site.specs.declared.plan.Plan.{Plan}
+use Rattle.site.specs.Plans.{slotsIn, slots}
+use Rattle.site.specs.Schedules.{kindOf}
+use Rattle.members.specs.Members.{emptyRow, rowFor}
+use Rattle.book.specs.Books.{Stated, withinRule, rowsAt, liveAt}
+use Rattle.book.specs.Schedules.{hopRule, scheduleRefusal, scheduleOf}
+use Rattle.octets.proofs.ListLaws.{length-tab}
+
+-- so many bytes from the start on, and what was held behind them
+pub all-put : (count slot : ℕ) (f : ℕ → ℕ) (held out : List ℕ) → slot ≡ count → count ≤ length held → out ≡ tab slot f ++ drop slot held → out ≡ sets held 0 (tab count f)
+all-put count slot f held out e h q =
+    let n = length-tab count f in
+    q ∙ (rw e (sym (sets-eq (tab count f) held 0 (omega (arith, n)) ∙ rw (n, zero-add))))
+
+-- a superframe has at most 100 slots
+pub few-slots : (p : Plan) → slots p ≤ 100
+unfolding slotsIn
+few-slots p = omega arith
+
+-- what holds where there is a schedule
+pub record Schedulable (b : Stated) (unit hop time : ℕ) (live : Bool) (room : ℕ) : Type 0 where
+  pub member : live ≡ true
+  pub fits : slots (b .plan) ≤ room
+
+pub schedulable : (b : Stated) (unit hop time : ℕ) (live : Bool) (room : ℕ) → scheduleRefusal b unit hop time live room ≡ 0 → Schedulable b unit hop time live room
+schedulable b unit hop time live room e =
+    let none =
+    none-holds
+    (reason (not (withinRule b)) 14 ∷
+    reason (not (address unit)) 4 ∷
+    reason (not (inOrder (b .time) time)) 8 ∷
+    reason (not (hopRule (b .plan) unit hop)) 14 ∷
+    reason (not live) 13 ∷
+    reason (ltb room (slots (b .plan))) 5 ∷
+    []) (
+      numbered _ 14 (λ z. omega arith),
+      (numbered _ 4 (λ z. omega arith), (numbered _ 8 (λ z. omega arith), (numbered _ 14 (λ z. omega arith), (numbered _ 13 (λ z. omega arith), (numbered _ 5 (λ z. omega arith), tt))))),
+    ) e in
+    record { member = not-false live (none .1 .1 .1 .1 .0); fits = ltb-false room (slots (b .plan)) (none .1 .1 .1 .1 .1 .0) }
+
+module _ (b : Stated) (unit hop time n : ℕ) (out : List ℕ) (e : n ≡ scheduleRefusal b unit hop time (liveAt b unit time) (length out)) where
+  pub unscheduled : (n ≡ 0 → ⊥) → wrote (Written.Refused (record { number = n })) out ≡ scheduleOf b unit hop time out
+  unfolding scheduleOf
+  unscheduled z = rw (← e, ne-eqb n 0 z)
+
+  pub scheduled : (count at : ℕ) (own : Slots 64) (held : List ℕ) → n ≡ 0 → count ≡ slots (b .plan) → at ≡ rowFor unit (rowsAt b time) → own ≡ getD (rowsAt b time) at emptyRow .slots
+      → held ≡ sets out 0 (tab count (kindOf (b .plan) at hop own)) → wrote (Written.Done count) held ≡ scheduleOf b unit hop time out
+  unfolding scheduleOf
+  scheduled count at own held z c a o h = rw (← e, z, h, c, o, a)

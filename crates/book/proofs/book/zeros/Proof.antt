@@ -1,0 +1,14 @@
+-- `zeros`: no plan, and no row in use.
+-- Assumes nothing.
+use Rattle.slots.proofs.MaskLaws.{mask-nothing}
+use Rattle.members.specs.Members.{rowsOf}
+use borrow.Author.Needs.{needs}
+use Rattle.book.proofs.book.zeros.Statement.{statement}
+use Rattle.book.proofs.book.zeros.Tie as tie
+
+returns : tie.Need-returns
+unfolding rowsOf
+returns c = rw mask-nothing
+
+pub zeros-spec : {M : Type 1} → statement M
+zeros-spec = tie.close (tie.spec returns)

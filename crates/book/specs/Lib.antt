@@ -1,0 +1,4 @@
+pub mod Books
+pub mod Joins
+pub mod Responses
+pub mod Schedules

@@ -1,0 +1,78 @@
+// The schedule of a member: what it does in each slot, one byte a slot.
+ghost use mathlib.Core.Path.{_≡_};
+ghost use Prim.Native.Nat.{_≤_};
+ghost use lib.ListN.{length};
+ghost use lib.Seq.{sets};
+ghost use Rattle.octets.specs.Lists.{tab};
+ghost use Rattle.slots.specs.Sets.{slotsOf};
+ghost use Rattle.site.specs.Schedules.{kindOf};
+ghost use Rattle.frames.specs.Told.{wrote};
+ghost use Rattle.book.specs.Books.{stated};
+ghost use Rattle.book.specs.Schedules.{hopRule, scheduleRefusal, scheduleOf};
+use crate::book::Book;
+use frames::answers::Refusal;
+use frames::answers::Written;
+use members::rows::current;
+use members::rows::in_use;
+use members::rows::row_for;
+use members::rows::slots_at;
+use moments::in_order;
+use octets::answers::refuse_if;
+use site::plan::Plan;
+use site::schedules::kind_at;
+
+// Whether a unit may be at a hop: the manager at 0, and no other there.
+fn hop_within_rule(plan: Plan, unit: u16, hop: u8) -> bool
+    ensures { λ r. ⌜ r ≡ hopRule plan unit hop ⌝ }
+{
+    if unit == plan.manager {
+        return hop == 0;
+    }
+    (1 <= hop) & (hop <= plan.max_hops)
+}
+
+// The kinds of the first slots, from the buffer's start on.
+fn put_kinds(out: &mut [u8], plan: Plan, row: u8, hop: u8, own: u64, count: u8)
+    requires { ⌜ count ≤ length (now out) ⌝ }
+    ensures { λ _. ⌜ now (out .exit) ≡ sets (now (out .entry)) 0 (tab count (kindOf plan row hop (slotsOf own))) ⌝ }
+{
+    let mut slot: u8 = 0;
+    while slot < count {
+        out[slot as usize] = kind_at(plan, row, hop, own, slot);
+        slot += 1;
+    }
+}
+
+// Why there is no schedule for a unit that is a live member or not; 0 where there is one.
+fn refusal(book: Book, unit: u16, hop: u8, time: u32, live: bool, room: usize) -> u8
+    ensures { λ r. ⌜ r ≡ scheduleRefusal (stated book) unit hop time live room ⌝ }
+{
+    let plan = book.plan;
+    let address = (1 <= unit) & (unit <= 0xFFFE);
+    let refused = refuse_if(room < plan.slots() as usize, 5, 0);
+    let refused = refuse_if(!live, 13, refused);
+    let refused = refuse_if(!hop_within_rule(plan, unit, hop), 14, refused);
+    let refused = refuse_if(!in_order(book.time, time), 8, refused);
+    let refused = refuse_if(!address, 4, refused);
+    refuse_if(!book.within_rule(), 14, refused)
+}
+
+impl Book {
+    // Writes the kinds of all slots for a live member at a hop.
+    pub fn schedule(self, unit: u16, hop: u8, time: u32, out: &mut [u8]) -> Written
+        ensures { λ r. ⌜ wrote r (now (out .exit)) ≡ scheduleOf (stated self) unit hop time (now (out .entry)) ⌝ }
+    {
+        let plan = self.plan;
+        let rows = self.rows;
+        let now = current(rows, time);
+        let at = row_for(now, plan.rows, unit);
+        let live = at < in_use(plan.rows);
+        let refused = refusal(self, unit, hop, time, live, out.len());
+        if refused != 0 {
+            return Written::Refused(Refusal { number: refused });
+        }
+        let count = plan.slots();
+        put_kinds(out, plan, at as u8, hop, slots_at(now, at), count as u8);
+        Written::Done(count as usize)
+    }
+}

@@ -1,0 +1,81 @@
+// What needs no frame: a member that was heard, and one that leaves.
+ghost use mathlib.Core.Path.{_≡_};
+ghost use Rattle.octets.specs.Answers.{first};
+ghost use Rattle.book.specs.Books.{stated, memberReasons, leftBy, heardOf, leaveOf};
+use crate::book::Book;
+use crate::book::Changed;
+use crate::book::settled;
+use members::member::Member;
+use members::rows::current;
+use members::rows::in_use;
+use members::rows::row_for;
+use members::rows::slots_at;
+use members::rows::with_row;
+use moments::in_order;
+use octets::answers::refuse_if;
+
+// Why a call on a member is refused, where it is found or not; 0 where it is not.
+fn refusal(book: Book, unit: u16, time: u32, found: bool) -> u8
+    ensures { λ r. ⌜ r ≡ first (memberReasons (stated book) unit time found) ⌝ }
+{
+    let address = (1 <= unit) & (unit <= 0xFFFE);
+    let refused = refuse_if(!found, 13, 0);
+    let refused = refuse_if(!in_order(book.time, time), 8, refused);
+    let refused = refuse_if(!address, 4, refused);
+    refuse_if(!book.within_rule(), 14, refused)
+}
+
+impl Book {
+    // Renews the time of a live member.
+    pub fn heard(self, unit: u16, time: u32) -> Changed
+        ensures { λ r. ⌜ leftBy r ≡ heardOf (stated self) unit time ⌝ }
+    {
+        let plan = self.plan;
+        let rows = self.rows;
+        let now = current(rows, time);
+        let at = row_for(now, plan.rows, unit);
+        let live = at < in_use(plan.rows);
+        let refused = refusal(self, unit, time, live);
+        let slots = slots_at(now, at);
+        let next = with_row(now, at, Member { unit, slots, time });
+        settled(
+            refused,
+            self,
+            Book {
+                plan,
+                time,
+                rows: next,
+            },
+        )
+    }
+
+    // Frees the row and the slots of a live member; the manager stays.
+    pub fn leave(self, unit: u16, time: u32) -> Changed
+        ensures { λ r. ⌜ leftBy r ≡ leaveOf (stated self) unit time ⌝ }
+    {
+        let plan = self.plan;
+        let rows = self.rows;
+        let now = current(rows, time);
+        let at = row_for(now, plan.rows, unit);
+        let live = at < in_use(plan.rows);
+        let refused = refusal(self, unit, time, live & !(unit == plan.manager));
+        let next = with_row(
+            now,
+            at,
+            Member {
+                unit: 0,
+                slots: 0,
+                time: 0,
+            },
+        );
+        settled(
+            refused,
+            self,
+            Book {
+                plan,
+                time,
+                rows: next,
+            },
+        )
+    }
+}

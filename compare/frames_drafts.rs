@@ -1,5 +1,5 @@
 //! Drafts of frames: the numbers and the part that a frame is made of. They start within every rule, random or at the
-//! limits, and the frames check then changes them as it likes.
+//! limits, and the frames check then changes them as it likes. The other checks have whole frames damaged here.
 
 use crate::frames::*;
 use crate::random::Random;
@@ -56,6 +56,39 @@ pub fn mended(frame: &[u8]) -> Vec<u8> {
         *last = checksum(before);
     }
     frame
+}
+
+/// A frame within every rule, damaged in one way. Most get the checksum that they need to be looked at any further.
+pub fn damaged(mut frame: Vec<u8>, random: &mut Random) -> Vec<u8> {
+    let place = random.below(frame.len());
+    match random.below(9) {
+        0 => return Vec::new(),
+        1 => frame.truncate(place),
+        2 => frame.resize(random.one_of(&[frame.len() + 1, 255, 256, 300]), 0),
+        3 => frame = Draft::new(&KINDS[random.below(KINDS.len())], random).frame(),
+        4 => frame[0] = random.draw() as u8,
+        5 => frame[place] ^= 1 << random.below(8),
+        _ => change_field(&mut frame, random),
+    }
+    match random.below(4) {
+        0 => frame,
+        _ => mended(&frame),
+    }
+}
+
+/// One field of the frame, or of one of its entries, goes to a limit.
+fn change_field(frame: &mut [u8], random: &mut Random) {
+    let kind = kind_of(frame[0].into()).expect("one of the kinds");
+    let entries = if kind.code == ROUTING_UPDATE { usize::from(frame[3]) } else { 0 };
+    let (from, fields) = match random.below(entries + 1) {
+        0 => (0, kind.fields),
+        // Counted from the last, which stands before the checksum.
+        entry => (frame.len() - 1 - entry * ENTRY_LENGTH, &ENTRY[..]),
+    };
+    let chosen = random.below(fields.len());
+    let place = from + fields[..chosen].iter().map(|field| field.width).sum::<usize>();
+    let width = fields[chosen].width;
+    frame[place..place + width].copy_from_slice(&random.one_of(&LIMITS).to_le_bytes()[..width]);
 }
 
 fn numbers(kind: &Kind, count: u32, random: &mut Random) -> Vec<u32> {

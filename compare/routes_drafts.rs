@@ -1,10 +1,9 @@
 //! What the routes check asks: who takes part in a history, and random calls at and around every limit, some of them
 //! with damaged tables and frames.
 
-use crate::frames::{checksum, kind_of, BEACON, DATA, ENTRY, ENTRY_LENGTH, KINDS, MOST_SLOTS, ROUTING_UPDATE};
-use crate::frames_drafts::{Draft, LIMITS};
+use crate::frames::{checksum, kind_of, BEACON, DATA, ENTRY_LENGTH, MOST_SLOTS, ROUTING_UPDATE};
+use crate::frames_drafts::{damaged, Draft};
 use crate::random::Random;
-use crate::relays::seal;
 use crate::routes::*;
 use crate::routes_calls::Ask;
 
@@ -280,41 +279,9 @@ impl Drawing<'_> {
 impl Drawing<'_> {
     fn perhaps_damaged(&mut self, frame: Vec<u8>) -> Vec<u8> {
         match self.slip() {
-            true => self.damaged(frame),
+            true => damaged(frame, self.random),
             false => frame,
         }
-    }
-
-    fn damaged(&mut self, mut frame: Vec<u8>) -> Vec<u8> {
-        let place = self.random.below(frame.len());
-        match self.random.below(9) {
-            0 => return Vec::new(),
-            1 => frame.truncate(place),
-            2 => frame.resize(self.random.one_of(&[frame.len() + 1, 255, 256, 300]), 0),
-            3 => frame = Draft::new(&KINDS[self.random.below(KINDS.len())], self.random).frame(),
-            4 => frame[0] = self.random.draw() as u8,
-            5 => frame[place] ^= 1 << self.random.below(8),
-            _ => self.change_field(&mut frame),
-        }
-        // Most get the checksum that they need to be looked at any further.
-        if self.random.below(4) > 0 {
-            seal(&mut frame);
-        }
-        frame
-    }
-
-    /// One field of the frame, or of one of its entries, goes to a limit.
-    fn change_field(&mut self, frame: &mut [u8]) {
-        let kind = kind_of(frame[0].into()).expect("one of the kinds");
-        let count = if frame[0] == ROUTING_UPDATE { (frame.len() - SHORTEST_UPDATE) / ENTRY_LENGTH } else { 0 };
-        let (from, fields) = match self.random.below(count + 1) {
-            0 => (0, kind.fields),
-            entry => (UPDATE_HEAD + (entry - 1) * ENTRY_LENGTH, &ENTRY[..]),
-        };
-        let chosen = self.random.below(fields.len());
-        let place = from + fields[..chosen].iter().map(|field| field.width).sum::<usize>();
-        let width = fields[chosen].width;
-        frame[place..place + width].copy_from_slice(&self.random.one_of(&LIMITS).to_le_bytes()[..width]);
     }
 
     /// The bytes of the table, whole unless by a slip.

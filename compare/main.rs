@@ -4,6 +4,12 @@
 #![deny(warnings)]
 
 mod bench;
+mod book;
+mod book_calls;
+mod book_cases;
+mod book_check;
+mod book_drafts;
+mod book_sweeps;
 mod boundary;
 mod clock;
 mod clock_check;
@@ -21,12 +27,14 @@ mod routes_calls;
 mod routes_cases;
 mod routes_check;
 mod routes_drafts;
+mod site;
 
 use report::{Difference, Progress, Tally};
 use std::process::ExitCode;
 
 const USAGE: &str = "\
-usage: compare [--seed N] [--frames N] [--routes N] [--steps N] [--quiet] [--help]
+usage: compare [--seed N] [--frames N] [--routes N] [--steps N] [--books N]
+               [--quiet] [--help]
        compare bench [CASE [TIMES]]
 
 Compares the library, call by call, with an independent implementation.
@@ -35,6 +43,7 @@ Compares the library, call by call, with an independent implementation.
   --frames N  random frames to compare, each in several calls (300000)
   --routes N  random calls on tables of routes to compare (2100000)
   --steps N   random steps of a unit's state, and as many of its clock (1000000)
+  --books N   random calls on member books to compare (2100000)
   --quiet     no progress on standard error
   --help      this text
 
@@ -55,6 +64,7 @@ pub struct Options {
     pub frames: u64,
     pub routes: u64,
     pub steps: u64,
+    pub books: u64,
     pub quiet: bool,
     pub help: bool,
 }
@@ -65,11 +75,12 @@ struct Subject {
     check: fn(&Options, &mut Progress) -> Result<Tally, Difference>,
 }
 
-const SUBJECTS: [Subject; 4] = [
+const SUBJECTS: [Subject; 5] = [
     Subject { name: "frames", check: frames_check::check },
     Subject { name: "routes", check: routes_check::check },
     Subject { name: "life", check: life_check::check },
     Subject { name: "clock", check: clock_check::check },
+    Subject { name: "books", check: book_check::check },
 ];
 
 fn main() -> ExitCode {
@@ -96,14 +107,15 @@ fn obey(options: &Options) -> u8 {
 }
 
 fn parse(mut arguments: impl Iterator<Item = String>) -> Result<Options, String> {
-    let mut options =
-        Options { seed: 1, frames: 300_000, routes: 2_100_000, steps: 1_000_000, quiet: false, help: false };
+    let (frames, routes, steps, books) = (300_000, 2_100_000, 1_000_000, 2_100_000);
+    let mut options = Options { seed: 1, frames, routes, steps, books, quiet: false, help: false };
     while let Some(argument) = arguments.next() {
         match argument.as_str() {
             "--seed" => options.seed = number(&argument, arguments.next())?,
             "--frames" => options.frames = number(&argument, arguments.next())?,
             "--routes" => options.routes = number(&argument, arguments.next())?,
             "--steps" => options.steps = number(&argument, arguments.next())?,
+            "--books" => options.books = number(&argument, arguments.next())?,
             "--quiet" => options.quiet = true,
             "--help" => options.help = true,
             _ => return Err(format!("unknown argument '{}'", argument)),

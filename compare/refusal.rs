@@ -25,9 +25,13 @@ pub enum Refusal {
     Ttl = 10,
     /// There is no usable route.
     NoRoute = 11,
-    /// A page, a superframe's length, a clock's offset, or a table or state handed in, is out of rule.
+    /// Every member row is live.
+    Full = 12,
+    /// The unit is not a live member, or is the manager and asked to leave.
+    NotMember = 13,
+    /// A plan, page, hop, superframe's length or clock's offset, or a table, book or state handed in, is out of rule.
     OutOfRule = 14,
-    /// The network is not the caller's.
+    /// The network is not the book's or the caller's.
     Network = 15,
     /// The beacon is not this unit's to forward.
     NotOurs = 16,

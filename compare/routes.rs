@@ -385,11 +385,11 @@ fn flag(byte: u8) -> Result<bool, Refusal> {
 }
 
 #[inline(always)]
-fn word(bytes: &[u8], place: usize) -> u16 {
+pub fn word(bytes: &[u8], place: usize) -> u16 {
     u16::from_le_bytes([bytes[place], bytes[place + 1]])
 }
 
 #[inline(always)]
-fn long(bytes: &[u8], place: usize) -> u32 {
+pub fn long(bytes: &[u8], place: usize) -> u32 {
     u32::from_le_bytes([bytes[place], bytes[place + 1], bytes[place + 2], bytes[place + 3]])
 }

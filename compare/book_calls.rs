@@ -1,0 +1,256 @@
+//! The library's calls on the site plan and the member book, each with a safe wrapper. All their unsafe code is here.
+//!
+//! They are one kind of value: the bytes of a book, or of the plan to be made, and what is asked of it. The answer has
+//! every place that any of them can write to, so that a call is also held to leaving the others alone.
+
+use crate::boundary::{
+    buffer_shown, input_shown, laid_over_filler, names_of, number_shown, show_disturbed, Answer, Call, Empty, Filler,
+    Lent,
+};
+use crate::site::Plan;
+use std::fmt;
+
+extern "C" {
+    fn braidlark_plan(
+        plan: *mut u8,
+        plan_length: usize,
+        network: u16,
+        manager: u16,
+        max_hops: u8,
+        rows: u8,
+        data_slots: u8,
+        slot_ms: u16,
+    ) -> u8;
+
+    fn braidlark_book_fresh(book: *mut u8, book_length: usize, plan: *const u8, plan_length: usize, time: u32) -> u8;
+
+    fn braidlark_join(
+        book: *mut u8,
+        book_length: usize,
+        frame: *const u8,
+        frame_length: usize,
+        time: u32,
+        out: *mut u8,
+        out_length: usize,
+        written: *mut u32,
+    ) -> u8;
+
+    fn braidlark_slot_request(
+        book: *mut u8,
+        book_length: usize,
+        frame: *const u8,
+        frame_length: usize,
+        time: u32,
+        out: *mut u8,
+        out_length: usize,
+        written: *mut u32,
+    ) -> u8;
+
+    fn braidlark_heard(book: *mut u8, book_length: usize, unit: u16, time: u32) -> u8;
+
+    fn braidlark_leave(book: *mut u8, book_length: usize, unit: u16, time: u32) -> u8;
+
+    fn braidlark_schedule(
+        book: *const u8,
+        book_length: usize,
+        unit: u16,
+        hop: u8,
+        time: u32,
+        out: *mut u8,
+        out_length: usize,
+        written: *mut u32,
+    ) -> u8;
+}
+
+/// What is asked; `room` is the length of the output buffer. A plan is made in the buffer that is the book's in the
+/// other calls.
+#[derive(Clone, Debug)]
+pub enum Ask {
+    Plan { numbers: Plan },
+    Fresh { plan: Vec<u8>, time: u32 },
+    Join { frame: Vec<u8>, time: u32, room: usize },
+    SlotRequest { frame: Vec<u8>, time: u32, room: usize },
+    Heard { unit: u16, time: u32 },
+    Leave { unit: u16, time: u32 },
+    Schedule { unit: u16, hop: u8, time: u32, room: usize },
+}
+
+/// The calls by name, in the order of `Ask`, each with the refusals that it can give.
+pub const CALLS: [(&str, &[u8]); 7] = [
+    ("plan", &[14]),
+    ("fresh", &[14]),
+    ("join", &[14, 1, 2, 3, 4, 6, 15, 8, 12, 5]),
+    ("slot request", &[14, 1, 2, 3, 4, 6, 8, 13, 5]),
+    ("heard", &[14, 4, 8, 13]),
+    ("leave", &[14, 4, 8, 13]),
+    ("schedule", &[14, 4, 8, 13, 5]),
+];
+
+impl Ask {
+    /// The place among `CALLS`.
+    pub fn place(&self) -> usize {
+        match self {
+            Ask::Plan { .. } => 0,
+            Ask::Fresh { .. } => 1,
+            Ask::Join { .. } => 2,
+            Ask::SlotRequest { .. } => 3,
+            Ask::Heard { .. } => 4,
+            Ask::Leave { .. } => 5,
+            Ask::Schedule { .. } => 6,
+        }
+    }
+
+    /// Whether the call goes on from the book that it is handed.
+    pub fn takes_a_book(&self) -> bool {
+        !matches!(self, Ask::Plan { .. } | Ask::Fresh { .. })
+    }
+
+    /// The bytes that are handed in beside the book.
+    pub fn input(&self) -> &[u8] {
+        match self {
+            Ask::Fresh { plan, .. } => plan,
+            Ask::Join { frame, .. } | Ask::SlotRequest { frame, .. } => frame,
+            _ => &[],
+        }
+    }
+
+    pub fn room(&self) -> usize {
+        match *self {
+            Ask::Join { room, .. } | Ask::SlotRequest { room, .. } | Ask::Schedule { room, .. } => room,
+            _ => 0,
+        }
+    }
+}
+
+/// A call of the library with the bytes of its book.
+pub struct BookCall<'a> {
+    pub book: &'a [u8],
+    pub ask: &'a Ask,
+    pub empty: Empty,
+}
+
+/// What there is after a call. Places that it did not write to hold their filler.
+#[derive(PartialEq, Eq)]
+pub struct BookAnswer {
+    pub status: u8,
+    pub book: Vec<u8>,
+    pub out: Vec<u8>,
+    pub written: u32,
+    disturbed: Vec<&'static str>,
+}
+
+impl BookAnswer {
+    /// The answer that has nothing written.
+    pub fn untouched(book: &[u8], room: usize) -> BookAnswer {
+        BookAnswer {
+            status: 0,
+            book: book.to_vec(),
+            out: laid_over_filler(&[], room),
+            written: u32::FILLER[0],
+            disturbed: Vec::new(),
+        }
+    }
+}
+
+/// The buffers of one call, each lent with filler around it.
+struct Lending {
+    book: Lent<u8>,
+    input: Lent<u8>,
+    out: Lent<u8>,
+    written: Lent<u32>,
+}
+
+impl Lending {
+    fn new(call: &BookCall) -> Lending {
+        Lending {
+            book: Lent::input(call.book),
+            input: Lent::input(call.ask.input()),
+            out: Lent::output(call.ask.room()),
+            written: Lent::output(1),
+        }
+    }
+
+    #[rustfmt::skip] // It would give each argument a line.
+    fn status(&mut self, call: &BookCall) -> u8 {
+        let (book, book_length) = (self.book.address(call.empty), call.book.len());
+        let (input, input_length) = (self.input.address(call.empty), call.ask.input().len());
+        let (out, out_length) = (self.out.address(call.empty), call.ask.room());
+        let written = self.written.address(call.empty);
+        // SAFETY: each address is that of a live buffer of the length given with it, or NULL with length 0.
+        unsafe {
+            match *call.ask {
+                Ask::Plan { numbers: Plan { network, manager, max_hops, rows, data_slots, slot_ms } } =>
+                    braidlark_plan(book, book_length, network, manager, max_hops, rows, data_slots, slot_ms),
+                Ask::Fresh { time, .. } => braidlark_book_fresh(book, book_length, input, input_length, time),
+                Ask::Join { time, .. } =>
+                    braidlark_join(book, book_length, input, input_length, time, out, out_length, written),
+                Ask::SlotRequest { time, .. } =>
+                    braidlark_slot_request(book, book_length, input, input_length, time, out, out_length, written),
+                Ask::Heard { unit, time } => braidlark_heard(book, book_length, unit, time),
+                Ask::Leave { unit, time } => braidlark_leave(book, book_length, unit, time),
+                Ask::Schedule { unit, hop, time, .. } =>
+                    braidlark_schedule(book, book_length, unit, hop, time, out, out_length, written),
+            }
+        }
+    }
+
+    fn disturbed(&self, call: &BookCall) -> Vec<&'static str> {
+        names_of(&[
+            ("around book", self.book.is_overrun()),
+            ("frame or plan", self.input.is_changed(call.ask.input())),
+            ("around out", self.out.is_overrun()),
+            ("around written", self.written.is_overrun()),
+        ])
+    }
+}
+
+impl Call for BookCall<'_> {
+    type Answer = BookAnswer;
+
+    fn make(&self) -> BookAnswer {
+        let mut lending = Lending::new(self);
+        let status = lending.status(self);
+        BookAnswer {
+            status,
+            disturbed: lending.disturbed(self),
+            book: lending.book.contents().to_vec(),
+            out: lending.out.contents().to_vec(),
+            written: lending.written.contents()[0],
+        }
+    }
+}
+
+impl fmt::Display for BookCall<'_> {
+    fn fmt(&self, text: &mut fmt::Formatter) -> fmt::Result {
+        let (name, _) = CALLS[self.ask.place()];
+        write!(text, "{}(book: {}; ", name, input_shown(self.book))?;
+        match &self.ask {
+            Ask::Plan { numbers } => write!(text, "{:?}", numbers),
+            Ask::Fresh { plan, time } => write!(text, "plan: {}; time: {}", input_shown(plan), time),
+            Ask::Join { frame, time, room } | Ask::SlotRequest { frame, time, room } => {
+                write!(text, "frame: {}; time: {}; out: {} bytes", input_shown(frame), time, room)
+            }
+            Ask::Heard { unit, time } | Ask::Leave { unit, time } => {
+                write!(text, "unit: {:#06x}; time: {}", unit, time)
+            }
+            Ask::Schedule { unit, hop, time, room } => {
+                write!(text, "unit: {:#06x}; hop: {}; time: {}; out: {} bytes", unit, hop, time, room)
+            }
+        }?;
+        write!(text, "; {})", self.empty)
+    }
+}
+
+impl Answer for BookAnswer {
+    fn status(&self) -> u8 {
+        self.status
+    }
+}
+
+impl fmt::Display for BookAnswer {
+    fn fmt(&self, text: &mut fmt::Formatter) -> fmt::Result {
+        write!(text, "status {}; book: {}", self.status, input_shown(&self.book))?;
+        write!(text, "; out: {}; written: {}", buffer_shown(&self.out), number_shown(self.written))?;
+        show_disturbed(text, &self.disturbed)
+    }
+}

@@ -1,0 +1,375 @@
+//! Cases of plans, books and schedules by name: what the paper says in examples and warnings, and each refusal of each
+//! call. The independent book is held to the paper's words here, and the library to the independent book.
+
+use crate::book::*;
+use crate::book_calls::{Ask, BookAnswer};
+use crate::book_check::{Agreement, Check};
+use crate::book_drafts::{join_request, plan_bytes, slot_request};
+use crate::frames::{self, ACCEPTED, JOIN_RESPONSE};
+use crate::relays::seal;
+use crate::report::Difference;
+use crate::site::*;
+
+const NETWORK: u16 = 1;
+const MANAGER: u16 = 0x0100;
+const FIRST: u16 = 0x0201;
+const SECOND: u16 = 0x0202;
+const THIRD: u16 = 0x0203;
+const FOURTH: u16 = 0x0204;
+const START: u32 = 1_000_000;
+
+/// Room for every answer.
+const ROOM: usize = 100;
+
+pub fn check(check: &mut Check) -> Agreement {
+    plans_of_the_paper(check)?;
+    story_of_the_paper(check)?;
+    schedules_of_the_paper(check)?;
+    beacon_slots_of_every_hop(check)?;
+    no_unit_is_granted_all_free_slots(check)?;
+    live_up_to_its_age(check)?;
+    silent_members_make_room(check)?;
+    live_member_joins_a_full_book(check)?;
+    highest_slots_are_released(check)?;
+    manager_is_always_live(check)?;
+    every_refusal(check)
+}
+
+fn site(max_hops: u8, rows: u8, data_slots: u8) -> Plan {
+    Plan { network: NETWORK, manager: MANAGER, max_hops, rows, data_slots, slot_ms: 1 }
+}
+
+/// "h 3, M 4, D 6: A 16, S 54. 1,213 ms fits, 1,214 is 14." and "h 3, M 20: D 21 gives A 50, S 100; D 22 is 14."
+fn plans_of_the_paper(check: &mut Check) -> Agreement {
+    let (small, large) = (site(3, 4, 6), site(3, 20, 21));
+    assert_eq!((small.active(), small.slots(), small.discovery_slots()), (16, 54, 2));
+    assert_eq!((large.active(), large.slots(), large.discovery_slots()), (50, 100, 5));
+    let mut made = |numbers: Plan, status: u8| -> Agreement {
+        assert_eq!(check.put(&[0xFF; Plan::LENGTH], &Ask::Plan { numbers })?.status, status, "{:?}", numbers);
+        Ok(())
+    };
+    made(Plan { slot_ms: 1213, ..small }, 0)?;
+    made(Plan { slot_ms: 1214, ..small }, 14)?;
+    made(large, 0)?;
+    made(site(3, 20, 22), 14)?;
+    // The most rows and the most data slots.
+    made(site(1, 21, 22), 0)?;
+    made(site(1, 22, 22), 14)?;
+    made(site(1, 2, 44), 0)?;
+    made(site(1, 2, 45), 14)
+}
+
+/// "Manager 0x0100 holds slot 8. 0x0201 asks 4, gets 9 to 11. 0x0202 asks 2, gets 12. 0x0203 asks 0, gets 13. 0x0204 is
+/// 12. 0x0201 leaves. 0x0202 asks 3, holds 9, 10, 12. 0x0204 asks 4, gets 11." The control slot comes before them.
+fn story_of_the_paper(check: &mut Check) -> Agreement {
+    let mut story = Story::begin(check, site(3, 4, 6))?;
+    story.sends(MANAGER, 0, &[0, 4, 8, 14, 15])?;
+    story.joins(FIRST, 4, START, &[5, 9, 10, 11])?;
+    story.joins(SECOND, 2, START + 1, &[6, 12])?;
+    story.joins(THIRD, 0, START + 1, &[7, 13])?;
+    story.is_refused(12, join(FOURTH, 4, START + 1))?;
+    story.change(Ask::Leave { unit: FIRST, time: START + 2 })?;
+    story.requests(SECOND, 3, START + 3, &[6, 9, 10, 12])?;
+    story.joins(FOURTH, 4, START + 4, &[5, 11])?;
+    story.sends(MANAGER, 0, &[0, 4, 8, 14, 15])?;
+    story.sends(SECOND, 2, &[2, 6, 9, 10, 12])?;
+    story.sends(THIRD, 3, &[3, 7, 13])?;
+    story.sends(FOURTH, 1, &[1, 5, 11])
+}
+
+/// The site whose schedules the paper prints.
+fn schedules_of_the_paper(check: &mut Check) -> Agreement {
+    let mut story = Story::begin(check, site(1, 2, 2))?;
+    story.joins(FIRST, 4, START, &[3, 5])?;
+    story.shows(MANAGER, 0, "B.CcTRDD...................")?;
+    story.shows(FIRST, 1, "bBcCRTdd...................")
+}
+
+/// A unit hears slot 0 and the one before its own; slots of empty rows and of nobody are listened to.
+fn beacon_slots_of_every_hop(check: &mut Check) -> Agreement {
+    let mut story = Story::begin(check, site(3, 4, 6))?;
+    story.joins(FIRST, 3, START, &[5, 9, 10, 11])?;
+    let sleep = ".".repeat(38);
+    story.shows(MANAGER, 0, &format!("B...CcccTRRRRRDD{}", sleep))?;
+    story.shows(FIRST, 1, &format!("bB..cCccRTTTRRdd{}", sleep))?;
+    story.shows(FIRST, 2, &format!("bbB.cCccRTTTRRdd{}", sleep))?;
+    story.shows(FIRST, 3, &format!("b.bBcCccRTTTRRdd{}", sleep))
+}
+
+/// "Errors that look right: granting all free slots, so a later row has none."
+fn no_unit_is_granted_all_free_slots(check: &mut Check) -> Agreement {
+    let mut story = Story::begin(check, site(3, 4, 6))?;
+    story.joins(FIRST, 255, START, &[5, 9, 10, 11])?;
+    story.requests(FIRST, 255, START, &[5, 9, 10, 11])?;
+    story.joins(SECOND, 255, START, &[6, 12])?;
+    story.joins(THIRD, 255, START, &[7, 13])?;
+    let mut story = Story::begin(check, site(1, 2, 44))?;
+    story.joins(FIRST, 5, START, &[3, 5, 6, 7, 8])?;
+    let mut story = Story::begin(check, site(10, 3, 3))?;
+    story.joins(FIRST, 4, START, &[12, 15])?;
+    story.joins(SECOND, 4, START, &[13, 16])
+}
+
+/// Live up to 300,000 ms after its last accepted call, and each call counts.
+fn live_up_to_its_age(check: &mut Check) -> Agreement {
+    let mut story = Story::begin(check, site(3, 4, 6))?;
+    story.joins(FIRST, 1, START, &[5, 9])?;
+    let mut last = START;
+    for renewal in [
+        Ask::Heard { unit: FIRST, time: START + LIVE_AGE },
+        slots(FIRST, 1, START + 2 * LIVE_AGE),
+        join(FIRST, 1, START + 3 * LIVE_AGE),
+    ] {
+        story.change(renewal)?;
+        last += LIVE_AGE;
+        let (live, silent) = (last + LIVE_AGE, last + LIVE_AGE + 1);
+        story.is_accepted(schedule(FIRST, 1, live))?;
+        story.is_accepted(Ask::Heard { unit: FIRST, time: live })?;
+        story.is_accepted(Ask::Leave { unit: FIRST, time: live })?;
+        story.is_accepted(slots(FIRST, 1, live))?;
+        story.is_refused(13, schedule(FIRST, 1, silent))?;
+        story.is_refused(13, Ask::Heard { unit: FIRST, time: silent })?;
+        story.is_refused(13, Ask::Leave { unit: FIRST, time: silent })?;
+        story.is_refused(13, slots(FIRST, 1, silent))?;
+    }
+    Ok(())
+}
+
+/// Silent members count as free, in rows and in slots; one of them that comes back is a newcomer.
+fn silent_members_make_room(check: &mut Check) -> Agreement {
+    let mut story = Story::begin(check, site(3, 4, 6))?;
+    story.joins(FIRST, 4, START, &[5, 9, 10, 11])?;
+    story.joins(SECOND, 4, START, &[6, 12])?;
+    story.joins(THIRD, 1, START + 1, &[7, 13])?;
+    story.is_refused(12, join(FOURTH, 4, START + LIVE_AGE))?;
+    let later = START + LIVE_AGE + 1;
+    story.is_accepted(slots(THIRD, 4, later))?;
+    story.joins(SECOND, 4, later, &[5, 9, 10, 11])?;
+    story.joins(FOURTH, 4, later, &[6, 12])?;
+    story.joins(THIRD, 1, later, &[7, 13])?;
+    story.is_refused(12, join(FIRST, 1, later))
+}
+
+fn live_member_joins_a_full_book(check: &mut Check) -> Agreement {
+    let mut story = Story::begin(check, site(3, 2, 2))?;
+    story.joins(FIRST, 4, START, &[5, 7])?;
+    story.is_refused(12, join(SECOND, 1, START + 5))?;
+    story.joins(FIRST, 0, START + 5, &[5, 7])?;
+    story.is_refused(12, join(SECOND, 1, START + 5 + LIVE_AGE))?;
+    story.joins(SECOND, 1, START + 6 + LIVE_AGE, &[5, 7])
+}
+
+fn highest_slots_are_released(check: &mut Check) -> Agreement {
+    let mut story = Story::begin(check, site(1, 3, 9))?;
+    story.joins(FIRST, 2, START, &[3, 6, 7])?;
+    story.joins(SECOND, 3, START, &[4, 8, 9, 10])?;
+    story.requests(FIRST, 4, START, &[3, 6, 7, 11, 12])?;
+    story.requests(FIRST, 3, START, &[3, 6, 7, 11])?;
+    story.requests(SECOND, 0, START, &[4, 8])?;
+    story.requests(FIRST, 255, START, &[3, 6, 7, 9, 11])?;
+    story.joins(FIRST, 1, START, &[3, 6, 7, 9, 11])?;
+    story.requests(SECOND, 5, START, &[4, 8, 10, 12, 13])
+}
+
+fn manager_is_always_live(check: &mut Check) -> Agreement {
+    let mut story = Story::begin(check, site(3, 2, 2))?;
+    story.is_accepted(schedule(MANAGER, 0, u32::MAX))?;
+    story.is_accepted(Ask::Heard { unit: MANAGER, time: u32::MAX })?;
+    story.joins(FIRST, 4, u32::MAX, &[5, 7])?;
+    story.is_refused(12, join(SECOND, 4, u32::MAX))
+}
+
+fn join(unit: u16, asked: u8, time: u32) -> Ask {
+    Ask::Join { frame: join_request(unit, 0, NETWORK, asked), time, room: ROOM }
+}
+
+fn slots(unit: u16, asked: u8, time: u32) -> Ask {
+    Ask::SlotRequest { frame: slot_request(unit, asked, 0, 0), time, room: ROOM }
+}
+
+fn schedule(unit: u16, hop: u8, time: u32) -> Ask {
+    Ask::Schedule { unit, hop, time, room: ROOM }
+}
+
+/// A book and what is told of it.
+struct Story<'a> {
+    check: &'a mut Check,
+    book: Vec<u8>,
+    /// The time of the last call that changed it.
+    time: u32,
+}
+
+impl Story<'_> {
+    fn begin(check: &mut Check, plan: Plan) -> Result<Story<'_>, Difference> {
+        let mut story = Story { check, book: vec![0xFF; Book::LENGTH], time: START };
+        story.change(Ask::Fresh { plan: plan_bytes(plan), time: START })?;
+        Ok(story)
+    }
+
+    /// A call that is accepted and leaves its book to the ones after it.
+    fn change(&mut self, ask: Ask) -> Result<BookAnswer, Difference> {
+        let answer = self.is_accepted(ask)?;
+        self.book = answer.book.clone();
+        self.time = Book::from_bytes(&self.book).expect("the call left a book").time;
+        Ok(answer)
+    }
+
+    fn is_accepted(&mut self, ask: Ask) -> Result<BookAnswer, Difference> {
+        let answer = self.check.put(&self.book, &ask)?;
+        assert_eq!(answer.status, 0, "{:?}", ask);
+        Ok(answer)
+    }
+
+    fn is_refused(&mut self, number: u8, ask: Ask) -> Agreement {
+        let answer = self.check.put(&self.book, &ask)?;
+        assert_eq!(answer.status, number, "{:?}", ask);
+        Ok(())
+    }
+
+    /// Refused on a book that is a byte short, and accepted on the whole one.
+    fn needs_a_book(&mut self, ask: Ask) -> Agreement {
+        assert_eq!(self.check.put(&self.book[1..], &ask)?.status, 14, "{:?}", ask);
+        self.is_accepted(ask).map(|_| ())
+    }
+
+    /// A join is answered with exactly these slots.
+    fn joins(&mut self, unit: u16, asked: u8, time: u32, slots: &[u32]) -> Agreement {
+        let answer = self.change(join(unit, asked, time))?;
+        self.tells(&answer, unit, slots);
+        Ok(())
+    }
+
+    /// A slot request is answered with exactly these slots.
+    fn requests(&mut self, unit: u16, asked: u8, time: u32, held: &[u32]) -> Agreement {
+        let answer = self.change(slots(unit, asked, time))?;
+        self.tells(&answer, unit, held);
+        Ok(())
+    }
+
+    /// One accepted response a slot, each of them a frame.
+    fn tells(&self, answer: &BookAnswer, unit: u16, slots: &[u32]) {
+        assert_eq!(answer.written as usize, slots.len() * RESPONSE_LENGTH, "a response for each of {:?}", slots);
+        for (frame, slot) in answer.out.chunks(RESPONSE_LENGTH).zip(slots) {
+            let numbers = frames::read(frame, usize::MAX).expect("a frame within every rule").numbers;
+            let expected = [JOIN_RESPONSE.into(), unit.into(), ACCEPTED, *slot, self.time, NETWORK.into()];
+            assert_eq!(numbers, expected);
+        }
+    }
+
+    fn kinds(&mut self, unit: u16, hop: u8) -> Result<Vec<u8>, Difference> {
+        let answer = self.is_accepted(schedule(unit, hop, self.time))?;
+        Ok(answer.out[..answer.written as usize].to_vec())
+    }
+
+    /// A member sends in exactly these slots.
+    fn sends(&mut self, unit: u16, hop: u8, slots: &[usize]) -> Agreement {
+        let kinds = self.kinds(unit, hop)?;
+        let sending = |slot: &usize| [DATA_TX, BEACON_TX, CONTROL_TX, DISCOVERY_TX].contains(&kinds[*slot]);
+        assert_eq!((0..kinds.len()).filter(sending).collect::<Vec<usize>>(), slots);
+        Ok(())
+    }
+
+    /// A member's schedule is this, in the paper's letters.
+    fn shows(&mut self, unit: u16, hop: u8, letters: &str) -> Agreement {
+        let kinds = self.kinds(unit, hop)?;
+        let shown: String = kinds.iter().map(|kind| char::from(b"TRBbCcDd."[usize::from(*kind)])).collect();
+        assert_eq!(shown, letters);
+        Ok(())
+    }
+}
+
+/// Where several refusals apply, the first is given.
+fn every_refusal(check: &mut Check) -> Agreement {
+    let mut story = Story::begin(check, site(3, 2, 4))?;
+    story.joins(FIRST, 2, START, &[5, 7, 8])?;
+    join_refusals(&mut story)?;
+    slot_request_refusals(&mut story)?;
+    unit_refusals(&mut story)?;
+    schedule_refusals(&mut story)
+}
+
+/// What both calls that take a frame refuse of it. The sender stands behind the type.
+fn frame_refusals(story: &mut Story, frame: &[u8], ask: impl Fn(Vec<u8>) -> Ask) -> Agreement {
+    let last = frame.len() - 1;
+    story.is_refused(1, ask(Vec::new()))?;
+    story.is_refused(1, ask(vec![0x41; 256]))?;
+    // An unknown type, and a known one that the call does not want, both of a wrong length.
+    story.is_refused(2, ask(vec![0x41; 255]))?;
+    story.is_refused(2, ask(vec![0x22]))?;
+    story.is_refused(1, ask(frame[..last].to_vec()))?;
+    story.is_refused(1, ask([frame, &[0]].concat()))?;
+    let mut changed = frame.to_vec();
+    changed[last] ^= 1;
+    story.is_refused(3, ask(changed.clone()))?;
+    for (unit, number) in [(0, 4), (0xFFFF, 4), (MANAGER, 6)] {
+        changed[1..3].copy_from_slice(&unit.to_le_bytes());
+        seal(&mut changed);
+        story.is_refused(number, ask(changed.clone()))?;
+    }
+    Ok(())
+}
+
+fn join_refusals(story: &mut Story) -> Agreement {
+    let (time, room) = (START, 3 * RESPONSE_LENGTH);
+    let ask = |frame: Vec<u8>, time, room| Ask::Join { frame, time, room };
+    let (good, stranger) = (join_request(FIRST, 7, NETWORK, 4), join_request(SECOND, 7, NETWORK, 4));
+    story.needs_a_book(ask(good.clone(), time, room))?;
+    story.is_accepted(ask(join_request(FIRST, 7, 0, 4), time, room))?;
+    frame_refusals(story, &join_request(SECOND, 7, NETWORK + 1, 4), |frame| ask(frame, time - 1, 0))?;
+    story.is_refused(15, ask(join_request(SECOND, 7, NETWORK + 1, 4), time - 1, 0))?;
+    story.is_refused(8, ask(stranger.clone(), time - 1, 0))?;
+    story.is_refused(12, ask(stranger, time, 0))?;
+    story.is_refused(5, ask(good.clone(), time, room - 1))?;
+    story.is_refused(5, ask(good, time, 0))
+}
+
+fn slot_request_refusals(story: &mut Story) -> Agreement {
+    // It holds two data slots, and a third is free.
+    let (time, room) = (START, 4 * RESPONSE_LENGTH);
+    let ask = |frame: Vec<u8>, time, room| Ask::SlotRequest { frame, time, room };
+    let (good, stranger) = (slot_request(FIRST, 4, 7, 7), slot_request(SECOND, 4, 7, 7));
+    story.needs_a_book(ask(good.clone(), time, room))?;
+    frame_refusals(story, &stranger, |frame| ask(frame, time - 1, 0))?;
+    story.is_refused(8, ask(stranger.clone(), time - 1, 0))?;
+    story.is_refused(13, ask(stranger, time, 0))?;
+    story.is_refused(5, ask(good, time, room - 1))
+}
+
+/// Of hearing and leaving.
+fn unit_refusals(story: &mut Story) -> Agreement {
+    let calls: [fn(u16, u32) -> Ask; 2] =
+        [|unit, time| Ask::Heard { unit, time }, |unit, time| Ask::Leave { unit, time }];
+    for call in calls {
+        story.needs_a_book(call(FIRST, START))?;
+        story.is_refused(4, call(0, START - 1))?;
+        story.is_refused(4, call(0xFFFF, START - 1))?;
+        story.is_refused(8, call(SECOND, START - 1))?;
+        story.is_refused(8, call(MANAGER, START - 1))?;
+        story.is_refused(13, call(SECOND, START))?;
+    }
+    story.is_accepted(Ask::Heard { unit: MANAGER, time: START })?;
+    story.is_refused(13, Ask::Leave { unit: MANAGER, time: START })
+}
+
+fn schedule_refusals(story: &mut Story) -> Agreement {
+    let ask = |unit, hop, time, room| Ask::Schedule { unit, hop, time, room };
+    // Active: 4 beacon slots, 2 of control, 4 of data, 2 of discovery.
+    let (time, room) = (START, 40);
+    for hop in [1, 2, 3] {
+        story.needs_a_book(ask(FIRST, hop, time, room))?;
+    }
+    story.needs_a_book(ask(MANAGER, 0, time, room))?;
+    story.is_refused(4, ask(0, 0, time - 1, 0))?;
+    story.is_refused(4, ask(0xFFFF, 0, time - 1, 0))?;
+    story.is_refused(8, ask(SECOND, 0, time - 1, 0))?;
+    for hop in [0, 4, 255] {
+        story.is_refused(14, ask(FIRST, hop, time, 0))?;
+        story.is_refused(14, ask(SECOND, hop, time, 0))?;
+    }
+    for hop in [1, 3, 4, 255] {
+        story.is_refused(14, ask(MANAGER, hop, time, 0))?;
+    }
+    story.is_refused(13, ask(SECOND, 1, time, 0))?;
+    story.is_refused(5, ask(FIRST, 1, time, room - 1))?;
+    story.is_refused(5, ask(MANAGER, 0, time, 0))
+}

@@ -76,8 +76,10 @@ impl Book {
         let own = self.rows[row].slots;
         let held = own.count_ones();
         let count = wanted(asked).min(held + census.spare());
-        // To release the highest is to keep the lowest.
-        let slots = lowest(own, count) | lowest(census.free, count.saturating_sub(held));
+        let slots = match count < held {
+            true => without_highest(own, held - count),
+            false => own | lowest(census.free, count - held),
+        };
         self.grant(row, Row { unit, slots, time }, out)
     }
 
@@ -286,6 +288,11 @@ fn lowest(set: u64, count: u32) -> u64 {
         rest &= rest.wrapping_sub(1);
     }
     set ^ rest
+}
+
+/// A set without so many of its highest. It has as many.
+fn without_highest(set: u64, count: u32) -> u64 {
+    (0..count).fold(set, |left, _| left & !(1 << (63 - left.leading_zeros())))
 }
 
 /// The bytes that a book is at the boundary.

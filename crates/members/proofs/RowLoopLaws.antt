@@ -6,13 +6,14 @@ use mathlib.Core.List.{List, [], _∷_, _++_, map, append-nil}
 use Prim.Native.Nat.{ℕ, zero, suc, _+_, _-_, _≤_, _<_, min}
 use native.Mathlib.Numerals.{add-one}
 use native.Mathlib.Omega.{arith}
-use borrow.Author.Tests.{eq-eqb, ne-eqb, lt-ltb}
+use borrow.Author.Tests.{eq-eqb, ne-eqb, lt-ltb, le-leb, lt-leb}
 use lib.Dec.{eqb, leb, ltb}
 use lib.ListN.{length, getD, take, drop, set, length-map, length-take, List·getD-map, List·getD-eq-default, drop-of-length-le}
 use lib.Seq.{drop-cons, getD-take, take-all, take-suc-set, drop-set-lt, append-snoc, set-out}
 use mir.Val.{boolByte}
 use Rattle.members.specs.declared.member.Member.{Member}
 use Rattle.octets.specs.Lists.{every}
+use Rattle.moments.specs.Moments.{ageAt}
 use Rattle.slots.specs.Sets.{slotsOf, disjoint, count}
 use Rattle.slots.proofs.MaskLaws.{mask-nothing}
 use Rattle.members.specs.Members.{Row, rowOf, rowsOf, emptyRow, vacantRow, kept, current, rowFor, held, free, vacant}
@@ -78,6 +79,14 @@ vacant-below r rs n e = go (eqb (r .unit) 0)
     go : (b : Bool) → n + boolByte b ≡ cond b 1 0 + vacant rs
     go true = omega (arith, e)
     go false = omega (arith, e)
+
+-- ---- live or silent
+module _ (time : ℕ) (r : Row) (age : ℕ) (e : age ≡ ageAt time (r .time)) where
+  pub live-kept : age ≤ 300000 → r ≡ kept time r
+  live-kept h = rw (← e, le-leb age 300000 h)
+
+  pub silent-dropped : 300000 < age → emptyRow ≡ kept time r
+  silent-dropped h = rw (← e, lt-leb age 300000 h)
 
 -- ---- each row but the first changed
 map-set : (f : Member → Row) (ms : List Member) (i : ℕ) (m : Member) → map f (set ms i m) ≡ set (map f ms) i (f m)

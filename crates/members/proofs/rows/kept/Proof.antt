@@ -1,16 +1,25 @@
 -- `kept`: the member as it was, or an empty row.
 -- Assumes nothing.
-use borrow.Author.Tests.{le-leb, lt-leb}
+use mathlib.Core.Path.{ap, _∙_}
+use native.Mathlib.Omega.{arith}
+use Rattle.slots.specs.Sets.{Slots}
 use Rattle.slots.proofs.MaskLaws.{mask-nothing}
+use Rattle.members.specs.Members.{Row, rowOf}
+use Rattle.members.proofs.RowLoopLaws.{live-kept, silent-dropped}
 use borrow.Author.Needs.{needs}
 use Rattle.members.proofs.rows.kept.Statement.{statement}
 use Rattle.members.proofs.rows.kept.Tie as tie
 
 returns : tie.Need-returns
-returns c = rw (← c .before .age .ensures, le-leb _ _ (c .if1 .taken))
+returns c =
+    let a = c .before .before .args in
+    live-kept (a .time) (rowOf (a .member)) (c .before .age .result) (c .before .age .ensures) (omega (arith, c .if1 .taken))
 
 returns-2 : tie.Need-returns-2
-returns-2 c = rw (← c .before .age .ensures, lt-leb _ _ (c .if1 .left), mask-nothing)
+returns-2 c =
+    let a = c .before .before .args in
+    ap (λ (s : Slots 64). record { unit = 0; slots = s; time = 0 }) mask-nothing ∙
+    silent-dropped (a .time) (rowOf (a .member)) (c .before .age .result) (c .before .age .ensures) (omega (arith, c .if1 .left))
 
 pub kept-spec : {M : Type 1} → statement M
 kept-spec = tie.close (tie.spec (λ c κs. search needs) returns returns-2)

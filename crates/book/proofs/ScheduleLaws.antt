@@ -1,20 +1,16 @@
 -- A schedule in a buffer.
 -- Assumes nothing.
 use mathlib.Core.Path.{_≡_, sym, _∙_}
-use mathlib.Core.Bool.{Bool, true, not}
-use mathlib.Core.List.{List, [], _∷_, _++_}
+use mathlib.Core.Bool.{Bool, true}
+use mathlib.Core.List.{List, _++_}
 use Prim.Native.Nat.{ℕ, _≤_}
 use native.Mathlib.Omega.{arith}
 use native.Mathlib.Nat.{zero-add}
 use borrow.Author.Tests.{ne-eqb, ltb-false, not-false}
-use lib.Dec.{ltb}
 use lib.ListN.{length, getD, drop}
 use lib.Seq.{sets, sets-eq}
-use Rattle.octets.specs.Answers.{reason}
 use Rattle.octets.specs.Lists.{tab}
 use Rattle.octets.proofs.AnswerLaws.{numbered, none-holds}
-use Rattle.moments.specs.Moments.{inOrder}
-use Rattle.shapes.specs.Rules.{address}
 use Rattle.frames.specs.declared.answers.Written.{Written}
 use Rattle.frames.specs.Told.{wrote}
 use Rattle.slots.specs.Sets.{Slots}
@@ -22,8 +18,8 @@ use Rattle.site.specs.declared.plan.Plan.{Plan}
 use Rattle.site.specs.Plans.{slotsIn, slots}
 use Rattle.site.specs.Schedules.{kindOf}
 use Rattle.members.specs.Members.{emptyRow, rowFor}
-use Rattle.book.specs.Books.{Stated, withinRule, rowsAt, liveAt}
-use Rattle.book.specs.Schedules.{hopRule, scheduleRefusal, scheduleOf}
+use Rattle.book.specs.Books.{Stated, rowsAt, liveAt}
+use Rattle.book.specs.Schedules.{scheduleReasons, scheduleRefusal, scheduleOf}
 use Rattle.octets.proofs.ListLaws.{length-tab}
 
 -- so many bytes from the start on, and what was held behind them
@@ -45,14 +41,7 @@ pub record Schedulable (b : Stated) (unit hop time : ℕ) (live : Bool) (room : 
 pub schedulable : (b : Stated) (unit hop time : ℕ) (live : Bool) (room : ℕ) → scheduleRefusal b unit hop time live room ≡ 0 → Schedulable b unit hop time live room
 schedulable b unit hop time live room e =
     let none =
-    none-holds
-    (reason (not (withinRule b)) 14 ∷
-    reason (not (address unit)) 4 ∷
-    reason (not (inOrder (b .time) time)) 8 ∷
-    reason (not (hopRule (b .plan) unit hop)) 14 ∷
-    reason (not live) 13 ∷
-    reason (ltb room (slots (b .plan))) 5 ∷
-    []) (
+    none-holds (scheduleReasons b unit hop time live room) (
       numbered _ 14 (λ z. omega arith),
       (numbered _ 4 (λ z. omega arith), (numbered _ 8 (λ z. omega arith), (numbered _ 14 (λ z. omega arith), (numbered _ 13 (λ z. omega arith), (numbered _ 5 (λ z. omega arith), tt))))),
     ) e in

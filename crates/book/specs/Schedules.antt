@@ -6,7 +6,7 @@ use mathlib.Core.List.{List, [], _∷_}
 use lib.Dec.{eqb, leb, ltb}
 use lib.ListN.{length, getD}
 use lib.Seq.{sets}
-use Rattle.octets.specs.Answers.{accepted, reason, first, unless}
+use Rattle.octets.specs.Answers.{Reason, accepted, reason, first, unless}
 use Rattle.octets.specs.Calls.{after}
 use Rattle.octets.specs.Lists.{tab}
 use Rattle.moments.specs.Moments.{inOrder}
@@ -29,16 +29,18 @@ kindsFor b unit hop time =
     tab (slots (b .plan)) (kindOf (b .plan) at hop (getD (rowsAt b time) at emptyRow .slots))
 
 -- 14 4 8 14 13 5, for a unit that is a live member or not, in a buffer with this room
-abbrev pub scheduleRefusal : Stated → ℕ → ℕ → ℕ → Bool → ℕ → ℕ
-scheduleRefusal b unit hop time live room =
-    first
-    (reason (not (withinRule b)) 14 ∷
+abbrev pub scheduleReasons : Stated → ℕ → ℕ → ℕ → Bool → ℕ → List Reason
+scheduleReasons b unit hop time live room =
+    reason (not (withinRule b)) 14 ∷
     reason (not (address unit)) 4 ∷
     reason (not (inOrder (b .time) time)) 8 ∷
     reason (not (hopRule (b .plan) unit hop)) 14 ∷
     reason (not live) 13 ∷
     reason (ltb room (slots (b .plan))) 5 ∷
-    [])
+    []
+
+abbrev pub scheduleRefusal : Stated → ℕ → ℕ → ℕ → Bool → ℕ → ℕ
+scheduleRefusal b unit hop time live room = first (scheduleReasons b unit hop time live room)
 
 unfoldable pub scheduleOf : Stated → ℕ → ℕ → ℕ → List ℕ → Wrote
 scheduleOf b unit hop time out =

@@ -1,4 +1,2 @@
 pub mod Books
-pub mod Joins
-pub mod Responses
 pub mod Schedules

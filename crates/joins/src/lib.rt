@@ -1,0 +1,2 @@
+// Joins: a unit that asks to be a member, and a member that asks for more slots or fewer; what each is granted, and the frames that tell it.
+pub mod grants;

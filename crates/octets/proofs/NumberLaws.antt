@@ -19,6 +19,13 @@ num-add (suc v) w s at =
     rw suc-add
     (simp (num-add v w s (at + 1), pow-succ', mul-add, add-assoc, mul-assoc, one-add))
 
+-- a number of 4 bytes is four of 1
+pub num-four : (s : List ℕ) (at : ℕ) → num 4 s at ≡ num 1 s at + num 1 s (at + 1) * 256 + num 1 s (at + 2) * 65536 + num 1 s (at + 3) * 16777216
+num-four s at =
+    let e : at + 1 + 1 ≡ at + 2 = omega arith in
+    let f : at + 2 + 1 ≡ at + 3 = omega arith in
+    omega (arith, num-add 1 3 s at, rw e at (num-add 1 2 s (at + 1)), rw f at (num-add 1 1 s (at + 2)))
+
 -- past the end every byte is 0
 pub num-past : (w : ℕ) (s : List ℕ) (at : ℕ) → length s ≤ at → num w s at ≡ 0
 unfolding num

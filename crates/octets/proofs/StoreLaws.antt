@@ -1,12 +1,13 @@
 -- Runs of stores: one behind the other, past the end, and a turn of each loop that makes one.
 -- Assumes nothing.
-use mathlib.Core.Path.{_≡_, refl, ap, _∙_}
+use mathlib.Core.Path.{_≡_, refl, sym, ap, _∙_}
 use mathlib.Core.List.{List, [], _∷_, _++_}
-use Prim.Native.Nat.{ℕ, suc, _+_, _-_, _/_, _%_, _≤_, _<_, min}
-use native.Mathlib.Nat.{add-zero, add-suc, suc-add}
+use Prim.Native.Nat.{ℕ, zero, suc, _+_, _-_, _*_, _^_, _/_, _%_, _≤_, _<_, min}
+use native.Mathlib.Nat.{add-zero, zero-add, add-suc, suc-add, mul-comm, pow-succ', div-one, div-div-eq-div-mul}
 use native.Mathlib.Numerals.{add-one}
 use native.Mathlib.Decide.{decLe}
 use native.Mathlib.Omega.{arith}
+use lib.Arith.{digits-div, digits-mod, mod-mul}
 use lib.ListN.{length, getD, take, drop, set, drop-of-length-le}
 use lib.Seq.{sets, sets-eq, set-out, drop-cons, take-at}
 use Rattle.octets.specs.Layouts.{bytes}
@@ -50,6 +51,43 @@ digits-turn l place left x h =
     let e : left ≡ suc (left - 1) = omega arith in
     ap (λ (n : ℕ). sets l place (digits n x)) e ∙ rw add-one
 
+-- ---- a number stored byte by byte
+module _ (l : List ℕ) (at v : ℕ) where
+  pub one-byte : v < 256 → set l at v ≡ sets l at (digits 1 v)
+  unfolding digits
+  one-byte h =
+      let e : v % 256 ≡ v = omega arith in
+      rw e
+
+  pub two-bytes : v < 65536 → set (set l at (v % 256)) (at + 1) (v / 256) ≡ sets l at (digits 2 v)
+  unfolding digits
+  two-bytes h =
+      let e : v / 256 % 256 ≡ v / 256 = omega arith in
+      rw (e, add-one)
+
+  pub four-bytes :
+      set (set (set (set l at (v % 256)) (at + 1) (v / 256 % 256)) (at + 2) (v / 256 / 256 % 256)) (at + 3) (v / 256 / 256 / 256 % 256) ≡ sets l at (digits 4 v)
+  unfolding digits
+  four-bytes =
+      let e : at + 2 ≡ suc (suc at) = omega arith in
+      let f : at + 3 ≡ suc (suc (suc at)) = omega arith in
+      rw (e, f, add-one)
+
+positive : (v : ℕ) → 0 < 256 ^ v
+positive zero = omega arith
+positive (suc v) = rw pow-succ' (omega (arith, positive v))
+
+-- the digits of a number are those of its lower part, then those of its upper part
+pub digits-halves : (v w n : ℕ) → digits (v + w) n ≡ digits v (n % 256 ^ v) ++ digits w (n / 256 ^ v)
+unfolding digits
+digits-halves zero w n = rw (zero-add, div-one)
+digits-halves (suc v) w n =
+    let split : n % 256 ^ suc v ≡ n / 256 % 256 ^ v * 256 + n % 256 = rw (pow-succ', mul-comm 256 (256 ^ v)) (mod-mul n (positive v) (omega arith)) in
+    let low : n % 256 ^ suc v % 256 ≡ n % 256 = rw split (digits-mod (n / 256 % 256 ^ v) (omega arith)) in
+    let high : n % 256 ^ suc v / 256 ≡ n / 256 % 256 ^ v = rw split (digits-div (n / 256 % 256 ^ v) (omega arith)) in
+    let upper : n / 256 ^ suc v ≡ n / 256 / 256 ^ v = rw (pow-succ', div-div-eq-div-mul) in
+    rw (suc-add, low, high, upper) (ap (λ (l : List ℕ). n % 256 ∷ l) (digits-halves v w (n / 256)))
+
 -- a turn of the loop that stores the numbers of a layout
 pub bytes-turn : (l ws vs : List ℕ) (place k : ℕ) → k < length ws → k < length vs
     → sets l place (bytes (drop k ws) (drop k vs))
@@ -57,6 +95,16 @@ pub bytes-turn : (l ws vs : List ℕ) (place k : ℕ) → k < length ws → k < 
 bytes-turn l ws vs place k h h′ =
     rw (add-one, drop-cons ws k 0 h, drop-cons vs k 0 h′)
     (sets-append (digits (getD ws k 0) (getD vs k 0)) _ l place ∙ rw length-digits)
+
+-- numbers stored one behind the other from a place on: what was held, the place, the widths, the numbers, and what is then held
+pub data Puts : List ℕ → ℕ → List ℕ → List ℕ → List ℕ → Type 0 where
+  done : {l : List ℕ} {at : ℕ} → Puts l at [] [] l
+  put : {l mid out ws vs : List ℕ} {at next w v : ℕ} → mid ≡ sets l at (digits w v) → at + w ≡ next → Puts mid next ws vs out → Puts l at (w ∷ ws) (v ∷ vs) out
+
+pub all-put : (l : List ℕ) (at : ℕ) (ws vs : List ℕ) (out : List ℕ) → Puts l at ws vs out → out ≡ sets l at (bytes ws vs)
+all-put l at [] [] out done = refl
+all-put l at (w ∷ ws) (v ∷ vs) out (put {mid = mid} {next = next} e n p) =
+    all-put mid next ws vs out p ∙ (rw (e, ← n) (sym (sets-append (digits w v) (bytes ws vs) l at ∙ rw length-digits)))
 
 -- no numbers are left, or no widths
 pub bytes-none : (ws vs : List ℕ) (k : ℕ) → length vs ≤ k → bytes (drop k ws) (drop k vs) ≡ []

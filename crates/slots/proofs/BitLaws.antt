@@ -11,8 +11,8 @@ use lib.Dec.{eqb}
 use lib.Pow.{pow-pos, shr-shr}
 use lib.Bits.{bitAnd, bitOr, and-step, or-step, and-self}
 use lib.Count.{ones, ones-step}
-use Rattle.slots.specs.Sets.{Slots, [], _∷_, has, count, fill, slotwise, noSlots, union, meet, minus, lowest, bits}
-use Rattle.slots.specs.Laws.{BitsOneToOne}
+use Rattle.slots.specs.Sets.{Slots, [], _∷_, has, count, fill, slotwise, noSlots, union, meet, minus, lowest, bits, maskOf}
+use Rattle.slots.specs.Laws.{BitsOneToOne, SetOfMask, MaskOfSet}
 use Rattle.slots.proofs.SetLaws.{cons}
 use Rattle.slots.proofs.DropLaws.{withoutLowest}
 
@@ -94,24 +94,40 @@ bits-has (suc n) m (suc i) h =
     ∙ ap (λ (x : ℕ). eqb (x % 2) 1) (shr-shr m 1 i ∙ ap (λ (e : ℕ). m / 2 ^ e) (one-add i))
 
 -- ---- one number for each set
--- the number whose binary digits a set is
-number : {n : ℕ} → Slots n → ℕ
-number [] = 0
-number (true ∷ s) = 1 + 2 * number s
-number (false ∷ s) = 2 * number s
+odd : (k : ℕ) → (1 + 2 * k) % 2 ≡ 1
+odd k = omega arith
 
-number-digit : {n : ℕ} (s : Slots n) (d : ℕ) → d < 2 → number (eqb d 1 ∷ s) ≡ d + 2 * number s
-unfolding number
-number-digit s = digit (λ d. number (eqb d 1 ∷ s) ≡ d + 2 * number s) (omega arith) refl
+half-odd : (k : ℕ) → (1 + 2 * k) / 2 ≡ k
+half-odd k = omega arith
 
-number-bits : (n m : ℕ) → m < 2 ^ n → number (bits n m) ≡ m
-unfolding bits number
-number-bits zero m h = omega arith
-number-bits (suc n) m h =
-    omega (arith, number-digit (bits n (m / 2)) (m % 2) (mod-lt m two), number-bits n (m / 2) (omega arith))
+even : (k : ℕ) → (0 + 2 * k) % 2 ≡ 0
+even k = omega arith
+
+half-even : (k : ℕ) → (0 + 2 * k) / 2 ≡ k
+half-even k = omega arith
+
+mask-digit : {n : ℕ} (s : Slots n) (d : ℕ) → d < 2 → maskOf (eqb d 1 ∷ s) ≡ d + 2 * maskOf s
+unfolding maskOf
+mask-digit s = digit (λ d. maskOf (eqb d 1 ∷ s) ≡ d + 2 * maskOf s) refl refl
+
+pub mask-of-set : MaskOfSet
+unfolding bits maskOf
+mask-of-set zero m h = omega arith
+mask-of-set (suc n) m h =
+    omega (arith, mask-digit (bits n (m / 2)) (m % 2) (mod-lt m two), mask-of-set n (m / 2) (omega arith))
+
+pub set-of-mask : SetOfMask
+unfolding bits maskOf
+set-of-mask zero [] = (refl, omega arith)
+set-of-mask (suc n) (true ∷ s) =
+    let (same, below) = set-of-mask n s in
+    (cons (ap (λ (x : ℕ). eqb x 1) (odd (maskOf s))) (ap (bits n) (half-odd (maskOf s)) ∙ same), omega arith)
+set-of-mask (suc n) (false ∷ s) =
+    let (same, below) = set-of-mask n s in
+    (cons (ap (λ (x : ℕ). eqb x 1) (even (maskOf s))) (ap (bits n) (half-even (maskOf s)) ∙ same), omega arith)
 
 pub bits-one-to-one : BitsOneToOne
-bits-one-to-one n a b p q e = sym (number-bits n a p) ∙ ap number e ∙ number-bits n b q
+bits-one-to-one n a b p q e = sym (mask-of-set n a p) ∙ ap maskOf e ∙ mask-of-set n b q
 
 -- ---- certain numbers
 pub bits-nothing : (n : ℕ) → bits n 0 ≡ noSlots

@@ -4,7 +4,7 @@ use mathlib.Core.Path.{_≡_}
 use mathlib.Core.Bool.{true, false, not, _&&_, _||_}
 use Prim.Native.Nat.{ℕ, _+_, _-_, _^_, _<_, _≤_, min}
 use lib.Dec.{eqb, ltb}
-use Rattle.slots.specs.Sets.{Slots, has, count, isEmpty, Subset, Apart, noSlots, union, meet, minus, disjoint, lowest, withoutHighest, bits, slotsOf, firsts}
+use Rattle.slots.specs.Sets.{Slots, has, count, isEmpty, Subset, Apart, noSlots, union, meet, minus, disjoint, lowest, withoutHighest, bits, slotsOf, maskOf, firsts}
 
 -- ---- which slots are in
 -- a set is what it has
@@ -87,3 +87,10 @@ BitsOneToOne = (n a b : ℕ) → a < 2 ^ n → b < 2 ^ n → bits n a ≡ bits n
 
 abbrev pub MasksOneToOne : Type 0
 MasksOneToOne = (a b : ℕ) → a < 2 ^ 64 → b < 2 ^ 64 → slotsOf a ≡ slotsOf b → a ≡ b
+
+-- a set is that of its number, and a number of n binary digits that of its set
+abbrev pub SetOfMask : Type 0
+SetOfMask = (n : ℕ) (s : Slots n) → (bits n (maskOf s) ≡ s) × (maskOf s < 2 ^ n)
+
+abbrev pub MaskOfSet : Type 0
+MaskOfSet = (n m : ℕ) → m < 2 ^ n → maskOf (bits n m) ≡ m

@@ -1,8 +1,8 @@
 -- Sets of slots, of any width; a mask of 64 bits is only how the code keeps one.
 -- Assumes nothing.
 use mathlib.Core.Path.{_≡_}
-use mathlib.Core.Bool.{Bool, true, false, not, _&&_, _||_}
-use Prim.Native.Nat.{ℕ, zero, suc, _/_, _%_}
+use mathlib.Core.Bool.{Bool, true, false, not, _&&_, _||_, cond}
+use Prim.Native.Nat.{ℕ, zero, suc, _+_, _*_, _/_, _%_}
 use lib.Dec.{eqb, leb}
 
 -- ---- sets
@@ -86,6 +86,11 @@ bits (suc n) m = eqb (m % 2) 1 ∷ bits n (m / 2)
 -- what a mask of 64 bits stands for
 unfoldable pub slotsOf : ℕ → Slots 64
 slotsOf m = bits 64 m
+
+-- the number whose binary digits say a set
+unfoldable pub maskOf : {n : ℕ} → Slots n → ℕ
+maskOf [] = 0
+maskOf (b ∷ s) = cond b 1 0 + 2 * maskOf s
 
 -- the d lowest slots of 64, all of them where d is more
 unfoldable pub firsts : ℕ → Slots 64

@@ -6,14 +6,16 @@ ghost use Prim.Native.Nat.{_+_, _*_};
 ghost use Rattle.octets.specs.Layouts.{bytes};
 ghost use Rattle.octets.specs.Lists.{tab};
 ghost use Rattle.stores.specs.TableBytes.{flag, rowWidths, rowValues, headWidths, headValues, rowAt, rowsBytes, tableIn, tableBytes, flagsOk, isTable};
-use octets::layouts::put_layout;
+use octets::fixed::put8;
+use octets::fixed::put16;
+use octets::fixed::put32;
 use octets::numbers::number8;
 use octets::numbers::number16;
 use octets::numbers::number32;
 use routes::row::Row;
 use routes::table::Table;
 
-fn flag(b: bool) -> u32
+fn flag(b: bool) -> u8
     ensures { λ r. ⌜ r ≡ flag b ⌝ }
 {
     if b { 1 } else { 0 }
@@ -91,20 +93,13 @@ pub fn is_table(s: &[u8]) -> bool
 fn put_row(out: &mut [u8], place: u8, row: Row)
     ensures { λ _. ⌜ now (out .exit) ≡ sets (now (out .entry)) (11 + 11 * place) (bytes rowWidths (rowValues row)) ⌝ }
 {
-    let values = [
-        row.destination as u32,
-        row.next_hop as u32,
-        row.hops as u32,
-        row.quality as u32,
-        row.time,
-        flag(row.withdrawn),
-    ];
-    put_layout(
-        out,
-        11 + 11 * (place as usize),
-        &[2, 2, 1, 1, 4, 1],
-        &values,
-    );
+    let at = 11 + 11 * (place as usize);
+    put16(out, at, row.destination);
+    put16(out, at + 2, row.next_hop);
+    put8(out, at + 4, row.hops);
+    put8(out, at + 5, row.quality);
+    put32(out, at + 6, row.time);
+    put8(out, at + 10, flag(row.withdrawn));
 }
 
 fn put_rows(out: &mut [u8], rows: [Row; 48])
@@ -121,14 +116,11 @@ fn put_rows(out: &mut [u8], rows: [Row; 48])
 fn put_head(out: &mut [u8], table: Table)
     ensures { λ _. ⌜ now (out .exit) ≡ sets (now (out .entry)) 0 (bytes headWidths (headValues table)) ⌝ }
 {
-    let values = [
-        table.own as u32,
-        table.time,
-        flag(table.forwarded),
-        table.origin as u32,
-        table.sequence as u32,
-    ];
-    put_layout(out, 0, &[2, 4, 1, 2, 2], &values);
+    put16(out, 0, table.own);
+    put32(out, 2, table.time);
+    put8(out, 6, flag(table.forwarded));
+    put16(out, 7, table.origin);
+    put16(out, 9, table.sequence);
 }
 
 // The bytes of a table, as far as there is room.

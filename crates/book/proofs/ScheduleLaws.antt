@@ -18,7 +18,7 @@ use Rattle.site.specs.declared.plan.Plan.{Plan}
 use Rattle.site.specs.Plans.{slotsIn, slots}
 use Rattle.site.specs.Schedules.{kindOf}
 use Rattle.members.specs.Members.{emptyRow, rowFor}
-use Rattle.book.specs.Books.{Stated, rowsAt, liveAt}
+use Rattle.book.specs.Books.{Stated, withinRule, rowsAt, liveAt}
 use Rattle.book.specs.Schedules.{scheduleReasons, scheduleRefusal, scheduleOf}
 use Rattle.octets.proofs.ListLaws.{length-tab}
 
@@ -35,6 +35,7 @@ few-slots p = omega arith
 
 -- what holds where there is a schedule
 pub record Schedulable (b : Stated) (unit hop time : ℕ) (live : Bool) (room : ℕ) : Type 0 where
+  pub book : withinRule b ≡ true
   pub member : live ≡ true
   pub fits : slots (b .plan) ≤ room
 
@@ -45,7 +46,7 @@ schedulable b unit hop time live room e =
       numbered _ 14 (λ z. omega arith),
       (numbered _ 4 (λ z. omega arith), (numbered _ 8 (λ z. omega arith), (numbered _ 14 (λ z. omega arith), (numbered _ 13 (λ z. omega arith), (numbered _ 5 (λ z. omega arith), tt))))),
     ) e in
-    record { member = not-false live (none .1 .1 .1 .1 .0); fits = ltb-false room (slots (b .plan)) (none .1 .1 .1 .1 .1 .0) }
+    record { book = not-false (withinRule b) (none .0); member = not-false live (none .1 .1 .1 .1 .0); fits = ltb-false room (slots (b .plan)) (none .1 .1 .1 .1 .1 .0) }
 
 module _ (b : Stated) (unit hop time n : ℕ) (out : List ℕ) (e : n ≡ scheduleRefusal b unit hop time (liveAt b unit time) (length out)) where
   pub unscheduled : (n ≡ 0 → ⊥) → wrote (Written.Refused (record { number = n })) out ≡ scheduleOf b unit hop time out

@@ -1,4 +1,4 @@
--- The order of times: each is in order with itself, and order goes on from one to the next.
+-- The order of times, each in order with itself and on from one to the next, and ages.
 -- Assumes nothing.
 use mathlib.Core.Path.{_≡_}
 use mathlib.Core.Bool.{true}
@@ -15,7 +15,17 @@ pub in-order-on : (a b c : ℕ) → inOrder a b ≡ true → inOrder b c ≡ tru
 unfolding inOrder
 in-order-on a b c p q = le-leb a c (omega (arith, leb-true a b p, leb-true b c q))
 
+-- what happens has no age
+pub no-age : (t : ℕ) → ageAt t t ≡ 0
+unfolding ageAt
+no-age t = omega arith
+
 -- what happened later is no older
 pub younger : (now a b : ℕ) → inOrder a b ≡ true → ageAt now b ≤ ageAt now a
 unfolding inOrder ageAt
 younger now a b p = omega (arith, leb-true a b p)
+
+-- what happened is no older at an earlier time
+pub older : (a b happened : ℕ) → inOrder a b ≡ true → ageAt a happened ≤ ageAt b happened
+unfolding inOrder ageAt
+older a b happened p = omega (arith, leb-true a b p)

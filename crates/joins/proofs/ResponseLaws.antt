@@ -1,0 +1,112 @@
+-- Response frames: their lengths, one of them sealed, and a turn of the loop that stores them.
+-- Assumes nothing.
+use mathlib.Core.Path.{_≡_, refl, sym, ap, _∙_}
+use mathlib.Core.Bool.{Bool, true, false, cond}
+use mathlib.Core.List.{List, [], _∷_, _++_, map, append-nil}
+use Prim.Native.Nat.{ℕ, zero, suc, _+_, _*_, _-_, _≤_, _<_}
+use native.Mathlib.Nat.{zero-add}
+use native.Mathlib.Numerals.{add-one}
+use native.Mathlib.Omega.{arith}
+use lib.ListN.{length, take, set, length-append, length-map}
+use lib.Seq.{sets, length-sets, take-all}
+use Rattle.octets.specs.Layouts.{bytes}
+use Rattle.octets.specs.Sums.{xors}
+use Rattle.octets.proofs.LayoutLaws.{length-bytes}
+use Rattle.octets.proofs.NumberLaws.{length-digits}
+use Rattle.octets.proofs.StoreLaws.{sets-append, take-sets}
+use Rattle.shapes.proofs.SealLaws.{length-sealed}
+use Rattle.shapes.specs.Shape.{Kind, placeOf, sealed, frameOf}
+use Rattle.slots.specs.Sets.{Slots, has, count, [] as []ˢ, _∷_ as _∷ˢ_}
+use Rattle.site.specs.declared.plan.Plan.{Plan}
+use Rattle.site.specs.Plans.{controlAt, dataAt}
+use Rattle.site.specs.Schedules.{controlSlot, dataSlot}
+use Rattle.joins.specs.Responses.{listed, response, responsesFor, responses}
+
+-- ---- how many bytes
+length-response : (p : Plan) (unit time slot : ℕ) → length (response p unit time slot) ≡ 13
+length-response p unit time slot = length-sealed _ ∙ simp (length-append, length-digits)
+
+-- one frame a slot
+length-for : (p : Plan) (unit time : ℕ) (slots : List ℕ) → length (responsesFor p unit time slots) ≡ 13 * length slots
+length-for p unit time [] = refl
+length-for p unit time (slot ∷ slots) =
+    let h = length-for p unit time slots in
+    length-append (response p unit time slot) (responsesFor p unit time slots) ∙ omega (arith, length-response p unit time slot)
+
+-- a set lists as many slots as it has
+listed-later : {w : ℕ} (b : Bool) (s : Slots w) (i n : ℕ) → length (listed (b ∷ˢ s) (suc i) n) ≡ length (listed s i n)
+unfolding has
+listed-later b s i zero = refl
+listed-later b s i (suc n) = go (has s i) _ _ (listed-later b s (suc i) n)
+  where
+    go : (h : Bool) (l m : List ℕ) → length l ≡ length m → length (cond h (suc i ∷ l) l) ≡ length (cond h (i ∷ m) m)
+    go true l m e = ap suc e
+    go false l m e = e
+
+listed-all : (w : ℕ) (s : Slots w) → length (listed s 0 w) ≡ count s
+unfolding has count
+listed-all zero []ˢ = refl
+listed-all (suc w) (true ∷ˢ s) = ap suc (listed-later true s 0 w ∙ listed-all w s)
+listed-all (suc w) (false ∷ˢ s) = listed-later false s 0 w ∙ listed-all w s
+
+-- the control slot and each data slot are told in 13 bytes; said of any width first, since the list of 64 slots would be computed
+length-told : (w : ℕ) (p : Plan) (unit time row : ℕ) (own : Slots w) → length (responsesFor p unit time (controlSlot p row ∷ map (dataSlot p) (listed own 0 w))) ≡ 13 * (1 + count own)
+length-told w p unit time row own =
+    let l = length-for p unit time (controlSlot p row ∷ map (dataSlot p) (listed own 0 w)) in
+    omega (arith, length-map (listed own 0 w) (dataSlot p), listed-all w own)
+
+pub length-responses : (p : Plan) (unit time row : ℕ) (own : Slots 64) → length (responses p unit time row own) ≡ 13 * (1 + count own)
+length-responses p unit time row own = length-told 64 p unit time row own
+
+-- ---- one frame
+-- in room of its length: what fills a room is what it then holds
+fills : (vs room : List ℕ) → length vs ≡ length room → sets room 0 vs ≡ vs
+fills vs room e =
+    let n = length room in
+    sym (take-all n (sets room 0 vs) (omega (arith, length-sets room 0 vs))) ∙ take-sets room vs n e (omega arith)
+
+-- the type and the fields of a kind that has nothing behind them, and the checksum
+pub sealed-alone : (k : Kind) (vs room : List ℕ) (sum : ℕ) → length (k .widths) ≡ length vs → length room ≡ placeOf k + 1
+    → sum ≡ xors 0 (take (placeOf k) (sets room 0 (bytes (1 ∷ k .widths) (k .code ∷ vs))))
+    → set (sets room 0 (bytes (1 ∷ k .widths) (k .code ∷ vs))) (placeOf k) sum ≡ frameOf k vs []
+unfolding sealed
+sealed-alone k vs room sum v r e =
+    let bs = bytes (1 ∷ k .widths) (k .code ∷ vs) in
+    let n = placeOf k in
+    let l : length bs ≡ n = length-bytes (1 ∷ k .widths) (k .code ∷ vs) (ap suc v) in
+    let s : sum ≡ xors 0 bs = e ∙ ap (xors 0) (take-sets room bs n l (omega arith)) in
+    let m = length-append bs (xors 0 bs ∷ []) in
+    let w : sets room 0 (bs ++ (xors 0 bs ∷ [])) ≡ set (sets room 0 bs) n (xors 0 bs) = sets-append bs (xors 0 bs ∷ []) room 0 ∙ rw (zero-add, l) in
+    rw (append-nil bs, s) (sym w ∙ fills (bs ++ (xors 0 bs ∷ [])) room (omega arith))
+
+-- ---- the loop
+-- what is left to tell from a slot on
+abbrev pub later : Plan → ℕ → ℕ → Slots 64 → ℕ → List ℕ
+later p unit time own slot = responsesFor p unit time (map (dataSlot p) (listed own slot (64 - slot)))
+
+module _ (p : Plan) (unit time : ℕ) (own : Slots 64) (slot : ℕ) where
+  pub none-later : 64 ≤ slot → later p unit time own slot ≡ []
+  none-later h =
+      let e : 64 - slot ≡ 0 = omega arith in
+      rw e
+
+  module _ (h : slot < 64) where
+    listed-on : listed own slot (64 - slot) ≡ cond (has own slot) (slot ∷ listed own (slot + 1) (64 - (slot + 1))) (listed own (slot + 1) (64 - (slot + 1)))
+    listed-on =
+        let e : 64 - slot ≡ suc (64 - (slot + 1)) = omega arith in
+        ap (listed own slot) e ∙ rw add-one
+
+    pub passed-over : has own slot ≡ false → later p unit time own (slot + 1) ≡ later p unit time own slot
+    passed-over e = rw (listed-on, e)
+
+    pub told : (out out′ frame : List ℕ) (place first : ℕ) → has own slot ≡ true → first ≡ dataAt p → frame ≡ response p unit time (first + slot) → out′ ≡ sets out place frame
+        → sets out′ (place + 13) (later p unit time own (slot + 1)) ≡ sets out place (later p unit time own slot)
+    told out out′ frame place first e d f s =
+        rw (listed-on, e, s, f, d)
+        (sym (sets-append (response p unit time (dataSlot p slot)) (later p unit time own (slot + 1)) out place ∙ rw (length-response p unit time (dataSlot p slot))))
+
+-- the control slot's frame, and the others behind it
+pub all-told : (p : Plan) (unit time row : ℕ) (rest frame out out′ last : List ℕ) (first : ℕ) → first ≡ controlAt p → frame ≡ response p unit time (first + row)
+    → out′ ≡ sets out 0 frame → last ≡ sets out′ 13 rest → last ≡ sets out 0 (response p unit time (controlSlot p row) ++ rest)
+all-told p unit time row rest frame out out′ last first e f s t =
+    rw (t, s, f, e) (sym (sets-append (response p unit time (controlSlot p row)) rest out 0 ∙ rw (zero-add, length-response p unit time (controlSlot p row))))

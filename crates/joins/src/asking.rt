@@ -1,0 +1,83 @@
+// A slot request: a member's holding is brought to as many slots as it asks for and may have.
+ghost use mathlib.Core.Path.{_≡_};
+ghost use lib.ListN.{take};
+ghost use Rattle.octets.specs.Answers.{first};
+ghost use Rattle.slots.specs.Sets.{slotsOf};
+ghost use Rattle.members.specs.Members.{rowsOf};
+ghost use Rattle.book.specs.Books.{stated};
+ghost use Rattle.joins.specs.Joins.{brought, asks, answeredBy, askReasons, askOf};
+use crate::grants::Granted;
+use crate::grants::fewer;
+use crate::grants::settle;
+use crate::grants::slots_in;
+use crate::grants::spare;
+use crate::grants::wish;
+use crate::responses::bytes_for;
+use book::book::Book;
+use members::member::Member;
+use members::rows::current;
+use members::rows::free;
+use members::rows::in_use;
+use members::rows::row_for;
+use members::rows::vacant;
+use moments::in_order;
+use octets::answers::refuse_if;
+use readers::refusals::slot_request;
+use requests::slot_request::SlotRequest;
+use site::plan::Plan;
+use slots::masks::joined;
+use slots::masks::lowest;
+use slots::masks::released;
+use slots::masks::size;
+
+// A holding brought to so many slots: the lowest free ones are added, or its own highest released.
+fn brought(to: u32, own: u64, spaces: u64) -> u64
+    ensures { λ r. ⌜ slotsOf r ≡ brought to (slotsOf own) (slotsOf spaces) ⌝ }
+{
+    let held = size(own);
+    if held <= to {
+        return joined(own, lowest(spaces, to - held));
+    }
+    released(own, held - to)
+}
+
+// What a member that holds `own` has after it asked.
+fn asks(rows: [Member; 21], plan: Plan, own: u64, asked: u8) -> u64
+    ensures { λ r. ⌜ slotsOf r ≡ asks (plan .«data_slots») (take (plan .rows) (rowsOf rows)) (slotsOf own) asked ⌝ }
+{
+    let spaces = free(rows, plan.rows, plan.data_slots);
+    let most = size(own) + spare(spaces, vacant(rows, plan.rows));
+    brought(fewer(wish(asked), most), own, spaces)
+}
+
+// Why a slot request is refused, by a unit that is a live member or not, whose responses do not fit or do; 0 where it is not.
+fn refusal(book: Book, frame: &[u8], time: u32, live: bool, short: bool) -> u8
+    ensures { λ r. ⌜ r ≡ first (askReasons (stated book) (now (frame .entry)) time live short) ⌝ }
+{
+    let unread = slot_request(frame);
+    let unit = SlotRequest::of(frame).node;
+    let manager = book.plan.manager;
+    let refused = refuse_if(short, 5, 0);
+    let refused = refuse_if(!live, 13, refused);
+    let refused = refuse_if(!in_order(book.time, time), 8, refused);
+    let refused = refuse_if(unit == manager, 6, refused);
+    let refused = refuse_if(!(unread == 0), unread, refused);
+    refuse_if(!book.within_rule(), 14, refused)
+}
+
+// A live member asks for slots: it is told all that it then holds.
+pub fn ask(book: Book, frame: &[u8], time: u32, out: &mut [u8]) -> Granted
+    ensures { λ r. ⌜ answeredBy r (now (out .exit)) ≡ askOf (stated book) (now (frame .entry)) time (now (out .entry)) ⌝ }
+{
+    let request = SlotRequest::of(frame);
+    let unit = request.node;
+    let plan = book.plan;
+    let rows = book.rows;
+    let now = current(rows, time);
+    let at = row_for(now, plan.rows, unit);
+    let live = at < in_use(plan.rows);
+    let own = asks(now, plan, slots_in(now, plan.rows, at), request.slots);
+    let short = out.len() < bytes_for(own);
+    let refused = refusal(book, frame, time, live, short);
+    settle(refused, book, now, unit, time, at as u8, own, out)
+}

@@ -1,0 +1,94 @@
+// A join request: a newcomer takes the lowest free row and its share of the free slots, and a live member is told what it holds.
+ghost use mathlib.Core.Path.{_≡_};
+ghost use mathlib.Core.Bool.{cond};
+ghost use lib.ListN.{getD, take};
+ghost use Rattle.octets.specs.Answers.{first};
+ghost use Rattle.slots.specs.Sets.{slotsOf};
+ghost use Rattle.members.specs.Members.{rowsOf, emptyRow, vacant};
+ghost use Rattle.book.specs.Books.{stated};
+ghost use Rattle.joins.specs.Joins.{granted, answeredBy, joinReasons, joinOf};
+use crate::grants::Granted;
+use crate::grants::fewer;
+use crate::grants::settle;
+use crate::grants::slots_in;
+use crate::grants::spare;
+use crate::grants::wish;
+use crate::responses::bytes_for;
+use book::book::Book;
+use members::member::Member;
+use members::rows::current;
+use members::rows::free;
+use members::rows::in_use;
+use members::rows::row_for;
+use members::rows::vacant;
+use moments::in_order;
+use octets::answers::refuse_if;
+use readers::refusals::join_request;
+use requests::join_request::JoinRequest;
+use site::plan::Plan;
+use slots::masks::lowest;
+
+fn either(test: bool, first: usize, second: usize) -> usize
+    ensures { λ r. ⌜ r ≡ cond test first second ⌝ }
+{
+    if test { first } else { second }
+}
+
+// A newcomer's slots: the lowest free ones, and no more than leave one for each other empty row.
+fn granted(rows: [Member; 21], plan: Plan, empty: u8, asked: u8) -> u64
+    requires { ⌜ empty ≡ vacant (take (plan .rows) (rowsOf rows)) ⌝ }
+    ensures { λ r. ⌜ slotsOf r ≡ granted (plan .«data_slots») (take (plan .rows) (rowsOf rows)) asked ⌝ }
+{
+    let spaces = free(rows, plan.rows, plan.data_slots);
+    let most = spare(spaces, empty) + 1;
+    lowest(spaces, fewer(wish(asked), most))
+}
+
+// What a unit then holds: a live member what it holds in the row where it is found, a newcomer what it is granted.
+fn seated(rows: [Member; 21], plan: Plan, live: bool, found: usize, empty: u8, asked: u8) -> u64
+    requires { ⌜ empty ≡ vacant (take (plan .rows) (rowsOf rows)) ⌝ }
+    ensures { λ r. ⌜ slotsOf r ≡ cond live (getD (take (plan .rows) (rowsOf rows)) found emptyRow .slots) (granted (plan .«data_slots») (take (plan .rows) (rowsOf rows)) asked) ⌝ }
+{
+    if live {
+        return slots_in(rows, plan.rows, found);
+    }
+    granted(rows, plan, empty, asked)
+}
+
+// Why a join request is refused, where there is no row for the unit or is one, and its responses do not fit or do; 0 where it is not.
+fn refusal(book: Book, frame: &[u8], time: u32, no_row: bool, short: bool) -> u8
+    ensures { λ r. ⌜ r ≡ first (joinReasons (stated book) (now (frame .entry)) time «no_row» short) ⌝ }
+{
+    let unread = join_request(frame);
+    let request = JoinRequest::of(frame);
+    let network = request.network;
+    let foreign = !(network == 0) & !(network == book.plan.network);
+    let by_manager = request.node == book.plan.manager;
+    let refused = refuse_if(short, 5, 0);
+    let refused = refuse_if(no_row, 12, refused);
+    let refused = refuse_if(!in_order(book.time, time), 8, refused);
+    let refused = refuse_if(foreign, 15, refused);
+    let refused = refuse_if(by_manager, 6, refused);
+    let refused = refuse_if(!(unread == 0), unread, refused);
+    refuse_if(!book.within_rule(), 14, refused)
+}
+
+// A unit asks to be a member: it is told its row and its slots.
+pub fn join(book: Book, frame: &[u8], time: u32, out: &mut [u8]) -> Granted
+    ensures { λ r. ⌜ answeredBy r (now (out .exit)) ≡ joinOf (stated book) (now (frame .entry)) time (now (out .entry)) ⌝ }
+{
+    let request = JoinRequest::of(frame);
+    let unit = request.node;
+    let plan = book.plan;
+    let rows = book.rows;
+    let now = current(rows, time);
+    let found = row_for(now, plan.rows, unit);
+    let live = found < in_use(plan.rows);
+    let at = either(live, found, row_for(now, plan.rows, 0));
+    let empty = vacant(now, plan.rows);
+    let own = seated(now, plan, live, found, empty, request.slots);
+    let no_row = !live & (empty == 0);
+    let short = out.len() < bytes_for(own);
+    let refused = refusal(book, frame, time, no_row, short);
+    settle(refused, book, now, unit, time, at as u8, own, out)
+}

@@ -17,7 +17,7 @@ use Rattle.joins.specs.Joins.{joinOf, askOf}
 use Rattle.keeping.specs.Calls.{Call, join, ask, heard, leave, schedule, timeOf, unitOf, refusalOf, next}
 use Rattle.keeping.specs.Laws.{RefusedKeeps, SameHolding, OthersStay, HoldApart}
 use Rattle.keeping.proofs.LookupLaws.{row, row-there, row-set, row-kept, rows-differ, kept-zeros, of-current, current-set}
-use Rattle.keeping.proofs.WithinLaws.{within, address-some}
+use Rattle.keeping.proofs.ManagerLaws.{within, address-some}
 use Rattle.keeping.proofs.SeatLaws.{Seat, Renewed, rows-written, renewed, leave-seat, kept-fresh}
 
 -- ---- sets that are apart

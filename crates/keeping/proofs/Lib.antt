@@ -1,6 +1,14 @@
-pub mod LookupLaws
-pub mod WithinLaws
-pub mod SeatLaws
+pub mod CallLaws
+pub mod CountingLaws
+pub mod FreshLaws
+pub mod GrantLaws
 pub mod HoldingLaws
+pub mod JoinLaws
+pub mod LookupLaws
+pub mod ManagerLaws
+pub mod RuleLaws
+pub mod SeatLaws
 pub mod SendingLaws
+pub mod ShareLaws
 pub mod SilenceLaws
+pub mod WithinLaws

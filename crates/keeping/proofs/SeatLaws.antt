@@ -24,7 +24,7 @@ use Rattle.joins.specs.Responses.{responses}
 use Rattle.keeping.specs.Calls.{Call, join, ask, heard, leave, schedule, timeOf, unitOf, refusalOf, next}
 use Rattle.keeping.specs.Laws.{renews}
 use Rattle.keeping.proofs.LookupLaws.{row, row-has, free-there, found, row-is}
-use Rattle.keeping.proofs.WithinLaws.{address-some, only-live}
+use Rattle.keeping.proofs.ManagerLaws.{address-some, only-live}
 
 -- ---- the rows of a book in which one was written
 take-set : (n : ℕ) (rs : List Row) (at : ℕ) (r : Row) → take n (set rs at r) ≡ set (take n rs) at r

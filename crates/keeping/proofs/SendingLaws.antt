@@ -24,7 +24,7 @@ use Rattle.book.specs.Schedules.{scheduleRefusal, scheduleOf}
 use Rattle.book.proofs.ScheduleLaws.{Schedulable, schedulable}
 use Rattle.keeping.specs.Laws.{holding, kindIn, OneSenderInBook, OneHopInBook}
 use Rattle.keeping.proofs.LookupLaws.{rows-differ}
-use Rattle.keeping.proofs.WithinLaws.{within}
+use Rattle.keeping.proofs.ManagerLaws.{within}
 use Rattle.keeping.proofs.HoldingLaws.{hold-apart}
 
 -- ---- a slot of a schedule that was written

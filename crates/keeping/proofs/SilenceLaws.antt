@@ -18,7 +18,7 @@ use Rattle.book.specs.Books.{Stated, rowsIn, rowsAt, liveAt, withRow}
 use Rattle.keeping.specs.Calls.{timeOf, unitOf}
 use Rattle.keeping.specs.Laws.{StaysWhileLive, LiveFor}
 use Rattle.keeping.proofs.LookupLaws.{row, row-has, found, row-is, by-age, first-stays, others-kept, length-current, still}
-use Rattle.keeping.proofs.WithinLaws.{address-some, only-live, manager-first, manager-some}
+use Rattle.keeping.proofs.ManagerLaws.{address-some, only-live, manager-first, manager-some}
 use Rattle.keeping.proofs.SeatLaws.{Seat, rows-written, renewed}
 use Rattle.keeping.proofs.HoldingLaws.{same-holding}
 

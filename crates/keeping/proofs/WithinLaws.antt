@@ -1,67 +1,73 @@
--- What holds of a book within rule.
+-- A book within rule, in its parts, and the book after a call that writes one row.
 -- Assumes nothing.
-use mathlib.Core.Path.{_≡_, refl, sym, ap, _∙_}
-use mathlib.Core.Bool.{Bool, true, false, _&&_, false≢true, and-eq-true-iff, and-false}
-use mathlib.Core.List.{List, [], _∷_}
-use Prim.Native.Nat.{ℕ}
+use mathlib.Core.Path.{_≡_, ap, _∙_}
+use mathlib.Core.Bool.{Bool, true, _&&_, and-eq-true-iff}
+use mathlib.Core.List.{List}
+use Prim.Native.Nat.{ℕ, _≤_, _<_}
 use native.Mathlib.Omega.{arith}
-use borrow.Author.Tests.{eqb-true, leb-true}
-use lib.Dec.{leb}
-use lib.ListN.{drop}
+use lib.ListN.{length, drop, set, length-take}
+use lib.Seq.{take-set-lt, drop-set-lt}
 use Rattle.octets.specs.Lists.{every}
-use Rattle.shapes.specs.Rules.{address}
-use Rattle.slots.specs.Sets.{count}
-use Rattle.site.specs.declared.plan.Plan.{Plan}
+use Rattle.moments.specs.Moments.{inOrder}
 use Rattle.site.specs.Plans.{planRule}
-use Rattle.members.specs.Members.{Row, free, vacant}
-use Rattle.members.specs.Rules.{emptyIs, rowRule, distinct, apart, ledBy, rowsRule}
-use Rattle.book.specs.Books.{Stated, withinRule, rowsIn, rowsAt}
-use Rattle.keeping.proofs.LookupLaws.{row, Only, only-row, first-stays, only-then}
+use Rattle.site.proofs.PlanLaws.{rule-bounds}
+use Rattle.members.specs.Members.{Row, kept, current}
+use Rattle.members.specs.Rules.{emptyIs, rowsRule}
+use Rattle.members.proofs.RowLaws.{length-current, every-behind, current-set}
+use Rattle.members.proofs.RowRuleLaws.{empty-is, Ruled, ruled, rules, ruled-current, ruled-later}
+use Rattle.book.specs.Books.{Stated, rowsIn, withinRule, rowsAt, placesAt, withRow}
+use Rattle.book.proofs.VisitLaws.{take-current}
+
+-- the rows of a book within rule, of a plan that they share
+abbrev pub RowsRuled : Stated → ℕ → List Row → Type 0
+RowsRuled b last rs = Ruled (b .plan .manager) (b .plan .«data_slots») last rs
 
 pub record Within (b : Stated) : Type 0 where
   pub plan : planRule (b .plan) ≡ true
-  pub led : ledBy (b .plan .manager) (rowsIn b) ≡ true
-  pub distinct-units : distinct (rowsIn b) ≡ true
-  pub apart-sets : apart (rowsIn b) ≡ true
+  pub few : b .plan .«data_slots» ≤ 64
+  pub rows : RowsRuled b (b .time) (rowsIn b)
+  pub behind : every emptyIs (drop (b .plan .rows) (b .places)) ≡ true
 
-pub within : (b : Stated) → withinRule b ≡ true → Within b
-unfolding withinRule rowsRule
-within b e =
-    let p = b .plan in
-    let rs = rowsIn b in
-    let last = b .time in
-    let rules = every (rowRule (p .«data_slots») last) rs in
-    let room = leb (vacant rs) (count (free (p .«data_slots») rs)) in
-    let (e₁, _) = and-eq-true-iff (planRule p && (ledBy (p .manager) rs && rules && distinct rs && apart rs && room)) (every emptyIs (drop (p .rows) (b .places))) .0 e in
-    let (plan, e₂) = and-eq-true-iff (planRule p) (ledBy (p .manager) rs && rules && distinct rs && apart rs && room) .0 e₁ in
-    let (e₃, _) = and-eq-true-iff (ledBy (p .manager) rs && rules && distinct rs && apart rs) room .0 e₂ in
-    let (e₄, sets) = and-eq-true-iff (ledBy (p .manager) rs && rules && distinct rs) (apart rs) .0 e₃ in
-    let (e₅, units) = and-eq-true-iff (ledBy (p .manager) rs && rules) (distinct rs) .0 e₄ in
-    record { plan = plan; led = and-eq-true-iff (ledBy (p .manager) rs) rules .0 e₅ .0; distinct-units = units; apart-sets = sets }
+module _ (b : Stated) where
+  abbrev rowsOk : Bool
+  rowsOk = rowsRule (b .plan .manager) (b .plan .«data_slots») (b .time) (rowsIn b)
 
--- a unit has one row at most, at any time
-pub only-live : (b : Stated) (time : ℕ) → withinRule b ≡ true → (unit : ℕ) (some : unit ≡ 0 → ⊥) → Only unit some (rowsAt b time)
-only-live b time w unit some = only-then time unit some (rowsIn b) (only-row unit some (rowsIn b) (within b w .distinct-units))
+  pub within : withinRule b ≡ true → Within b
+  unfolding withinRule
+  within e =
+      let (e₁, zeros) = and-eq-true-iff (planRule (b .plan) && rowsOk) (every emptyIs (drop (b .plan .rows) (b .places))) .0 e in
+      let (planned, ok) = and-eq-true-iff (planRule (b .plan)) rowsOk .0 e₁ in
+      let few : b .plan .«data_slots» ≤ 64 = omega (arith, rule-bounds (b .plan) planned .few-data-slots) in
+      record { plan = planned; few = few; rows = ruled few ok; behind = zeros }
 
--- ---- its manager
--- an address is not 0
-pub address-some : (unit : ℕ) → address unit ≡ true → unit ≡ 0 → ⊥
-address-some unit a z = omega (arith, leb-true 1 unit (and-eq-true-iff (leb 1 unit) (leb unit 0xFFFE) .0 a .0))
+  pub by-parts : Within b → withinRule b ≡ true
+  unfolding withinRule
+  by-parts w = rw (w .plan, rules (w .few) (w .rows), w .behind)
 
-managed : (p : Plan) → planRule p ≡ true → address (p .manager) ≡ true
-managed p e = go (address (p .manager)) refl
-  where
-    go : (t : Bool) → address (p .manager) ≡ t → address (p .manager) ≡ true
-    go true q = q
-    go false q = absurd (false≢true (sym (simp (q, and-false)) ∙ e))
+  -- its rows at a time that is accepted
+  pub rows-then : Within b → (time : ℕ) → inOrder (b .time) time ≡ true → RowsRuled b time (rowsAt b time)
+  rows-then w time h = ruled-later h (ruled-current time (w .rows))
 
-led-first : (manager : ℕ) (rs : List Row) → ledBy manager rs ≡ true → row rs 0 .unit ≡ manager
-led-first manager [] e = absurd (false≢true e)
-led-first manager (r ∷ rs) e = eqb-true (r .unit) manager e
+-- ---- one row written
+module _ (b : Stated) (time at : ℕ) (r : Row) (there : at < length (rowsAt b time)) where
+  among-rows : at < b .plan .rows
+  among-rows = omega (arith, there, length-current time (rowsIn b), length-take (b .plan .rows) (b .places))
 
--- the first row is the manager's at any time
-pub manager-first : (b : Stated) (time : ℕ) → withinRule b ≡ true → row (rowsAt b time) 0 .unit ≡ b .plan .manager
-manager-first b time w = ap (λ (r : Row). r .unit) (first-stays time (rowsIn b)) ∙ led-first (b .plan .manager) (rowsIn b) (within b w .led)
+  pub rows-written : rowsIn (withRow b time at r) ≡ set (rowsAt b time) at r
+  rows-written =
+      take-set-lt (b .plan .rows) (placesAt b time) at r among-rows ∙ ap (λ (rs : List Row). set rs at r) (take-current time (b .plan .rows) (b .places))
 
-pub manager-some : (b : Stated) → withinRule b ≡ true → b .plan .manager ≡ 0 → ⊥
-manager-some b w = address-some (b .plan .manager) (managed (b .plan) (within b w .plan))
+  -- where the row is not silent, these are the rows at that time
+  pub rows-at-written : kept time r ≡ r → rowsAt (withRow b time at r) time ≡ set (rowsAt b time) at r
+  rows-at-written e = ap (current time) rows-written ∙ current-set time (rowsIn b) at r e
+
+  pub within-written : Within b → RowsRuled b time (set (rowsAt b time) at r) → withinRule (withRow b time at r) ≡ true
+  within-written w g =
+      by-parts (withRow b time at r) (record {
+        plan = w .plan;
+        few = w .few;
+        rows = rw rows-written g;
+        behind =
+            rw (drop-set-lt (b .plan .rows) (placesAt b time) at r among-rows)
+            (every-behind emptyIs empty-is time (b .plan .rows) (b .places) (w .behind));
+      })

@@ -103,6 +103,21 @@ StaysWhileLive =
     (b : Stated) (unit time later : ℕ) → withinRule b ≡ true → address unit ≡ true → inOrder time later ≡ true → liveAt b unit later ≡ true
     → SameHolding b time b later unit
 
+-- which calls leave a live member what it has
+abbrev pub repeats : Call → Bool
+repeats (join s time out) = true
+repeats (ask s time out) = false
+repeats (heard unit time) = true
+repeats (leave unit time) = false
+repeats (schedule unit hop time out) = true
+
+-- a live member that joins again, is heard or has its schedule made keeps its row and its slots; one that asks for slots keeps its row
+abbrev pub KeepsOwn : Type 0
+KeepsOwn =
+    ((b : Stated) (c : Call) → repeats c ≡ true → liveAt b (unitOf c) (timeOf c) ≡ true → SameHolding b (timeOf c) (next b c) (timeOf c) (unitOf c))
+    × ((b : Stated) (s : List ℕ) (time : ℕ) (out : List ℕ) → liveAt b (askIn s .node) time ≡ true
+    → rowFor (askIn s .node) (rowsAt (askOf b s time out .book) time) ≡ rowFor (askIn s .node) (rowsAt b time))
+
 -- which calls renew a member's time
 abbrev pub renews : Call → Bool
 renews (join s time out) = true

@@ -1,1 +1,5 @@
 pub mod RowLoopLaws
+pub mod RowLaws
+pub mod RowSums
+pub mod RowRuleLaws
+pub mod SeatLaws

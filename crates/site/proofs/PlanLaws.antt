@@ -26,14 +26,15 @@ superframe-fits active slots ms e h =
     omega (arith, mul-le-mul few short)
 
 -- ---- the rule
--- what its bounds rest on
-record Kept (p : Plan) : Type 0 where
+-- what its bounds rest on, and that its manager is a unit
+pub record Kept (p : Plan) : Type 0 where
+  pub manager : address (p .manager) ≡ true
   pub hops : 1 ≤ p .«max_hops»
   pub rows : 2 ≤ p .rows
   pub data-slots : p .rows ≤ p .«data_slots»
   pub few : active p ≤ 50
 
-kept : (p : Plan) → planRule p ≡ true → Kept p
+pub kept : (p : Plan) → planRule p ≡ true → Kept p
 kept p e =
     let hops = leb 1 (p .«max_hops») && leb (p .«max_hops») 10 in
     let rows = leb 2 (p .rows) in
@@ -45,9 +46,10 @@ kept p e =
     let (e₅, few-true) = and-eq-true-iff (first-two && hops && rows && data-slots) few .0 e₆ in
     let (e₄, data-true) = and-eq-true-iff (first-two && hops && rows) data-slots .0 e₅ in
     let (e₃, rows-true) = and-eq-true-iff (first-two && hops) rows .0 e₄ in
-    let (_, hops-true) = and-eq-true-iff first-two hops .0 e₃ in
+    let (e₂, hops-true) = and-eq-true-iff first-two hops .0 e₃ in
     let (least, _) = and-eq-true-iff (leb 1 (p .«max_hops»)) (leb (p .«max_hops») 10) .0 hops-true in
     record {
+      manager = and-eq-true-iff (network (p .network)) (address (p .manager)) .0 e₂ .1;
       hops = leb-true _ _ least;
       rows = leb-true _ _ rows-true;
       data-slots = leb-true _ _ data-true;

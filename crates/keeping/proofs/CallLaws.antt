@@ -1,0 +1,103 @@
+-- What holds where a call on a book is not refused.
+-- Assumes nothing.
+use mathlib.Core.Path.{_≡_, sym, _∙_}
+use mathlib.Core.Bool.{Bool, true, false}
+use mathlib.Core.List.{List}
+use Prim.Native.Nat.{ℕ}
+use native.Mathlib.Omega.{arith}
+use borrow.Author.Tests.{eqb-true, not-false}
+use lib.Dec.{ltb}
+use lib.ListN.{length, getD}
+use Rattle.octets.specs.Answers.{first}
+use Rattle.octets.proofs.AnswerLaws.{numbered, refusing-numbered, none-holds, unless-number}
+use Rattle.moments.specs.Moments.{inOrder}
+use Rattle.shapes.specs.Reading.{refusalAs}
+use Rattle.shapes.specs.Rules.{address}
+use Rattle.shapes.proofs.ReadingLaws.{passed}
+use Rattle.requests.specs.Requests.{joinRequest, slotRequest}
+use Rattle.site.specs.Plans.{slots}
+use Rattle.members.specs.Members.{emptyRow, rowFor}
+use Rattle.book.specs.Books.{Stated, withinRule, memberReasons, rowsAt, liveAt}
+use Rattle.book.specs.Schedules.{scheduleReasons, scheduleOf}
+use Rattle.joins.specs.Joins.{joinIn, seat, seated, noRowFor, joinReasons, joinOf, askIn, asks, askReasons, askOf}
+use Rattle.joins.specs.Responses.{responses}
+
+-- what all calls that write a row rest on
+pub record Allowed (b : Stated) (unit time : ℕ) : Type 0 where
+  pub book : withinRule b ≡ true
+  pub of-unit : address unit ≡ true
+  pub order : inOrder (b .time) time ≡ true
+
+pub member-allowed : (b : Stated) (unit time : ℕ) (found : Bool) → first (memberReasons b unit time found) ≡ 0 → Allowed b unit time × (found ≡ true)
+member-allowed b unit time found e =
+    let n =
+    none-holds (memberReasons b unit time found)
+    (numbered _ 14 (λ z. omega arith), (numbered _ 4 (λ z. omega arith), (numbered _ 8 (λ z. omega arith), (numbered _ 13 (λ z. omega arith), tt)))) e in
+    (record { book = not-false _ (n .0); of-unit = not-false _ (n .1 .0); order = not-false _ (n .1 .1 .0) }, not-false found (n .1 .1 .1 .0))
+
+-- the responses to a request to join, and to a slot request, do not fit
+abbrev pub joinShort : Stated → List ℕ → ℕ → List ℕ → Bool
+joinShort b s time out =
+    let unit = joinIn s .node in
+    ltb (length out) (length (responses (b .plan) unit time (seat b unit time) (seated b unit time (joinIn s .slots))))
+
+abbrev pub askShort : Stated → List ℕ → ℕ → List ℕ → Bool
+askShort b s time out =
+    let at = rowFor (askIn s .node) (rowsAt b time) in
+    let own = asks (b .plan .«data_slots») (rowsAt b time) (getD (rowsAt b time) at emptyRow .slots) (askIn s .slots) in
+    ltb (length out) (length (responses (b .plan) (askIn s .node) time at own))
+
+pub join-allowed : (b : Stated) (s : List ℕ) (time : ℕ) (out : List ℕ) → joinOf b s time out .refused ≡ 0
+    → Allowed b (joinIn s .node) time × (noRowFor b (joinIn s .node) time ≡ false)
+unfolding joinOf
+join-allowed b s time out e =
+    let noRow = noRowFor b (joinIn s .node) time in
+    let short = joinShort b s time out in
+    let n =
+    none-holds (joinReasons b s time noRow short) (
+      numbered _ 14 (λ z. omega arith),
+      (
+        refusing-numbered (refusalAs joinRequest s),
+        (numbered _ 6 (λ z. omega arith), (numbered _ 15 (λ z. omega arith), (numbered _ 8 (λ z. omega arith), (numbered _ 12 (λ z. omega arith), (numbered _ 5 (λ z. omega arith), tt))))),
+      ),
+    ) e in (
+      record {
+        book = not-false _ (n .0);
+        of-unit = passed _ _ _ s (eqb-true (refusalAs joinRequest s) 0 (not-false _ (n .1 .0))) .kept;
+        order = not-false _ (n .1 .1 .1 .1 .0);
+      },
+      n .1 .1 .1 .1 .1 .0,
+    )
+
+pub ask-allowed : (b : Stated) (s : List ℕ) (time : ℕ) (out : List ℕ) → askOf b s time out .refused ≡ 0
+    → Allowed b (askIn s .node) time × (liveAt b (askIn s .node) time ≡ true)
+unfolding askOf
+ask-allowed b s time out e =
+    let live = liveAt b (askIn s .node) time in
+    let short = askShort b s time out in
+    let n =
+    none-holds (askReasons b s time live short) (
+      numbered _ 14 (λ z. omega arith),
+      (
+        refusing-numbered (refusalAs slotRequest s),
+        (numbered _ 6 (λ z. omega arith), (numbered _ 8 (λ z. omega arith), (numbered _ 13 (λ z. omega arith), (numbered _ 5 (λ z. omega arith), tt)))),
+      ),
+    ) e in (
+      record {
+        book = not-false _ (n .0);
+        of-unit = passed _ _ _ s (eqb-true (refusalAs slotRequest s) 0 (not-false _ (n .1 .0))) .kept;
+        order = not-false _ (n .1 .1 .1 .0);
+      },
+      not-false live (n .1 .1 .1 .1 .0),
+    )
+
+pub schedule-within : (b : Stated) (unit hop time : ℕ) (out : List ℕ) → scheduleOf b unit hop time out .said .refusal ≡ 0 → withinRule b ≡ true
+unfolding scheduleOf
+schedule-within b unit hop time out e =
+    let reasons = scheduleReasons b unit hop time (liveAt b unit time) (length out) in
+    let n =
+    none-holds reasons (
+      numbered _ 14 (λ z. omega arith),
+      (numbered _ 4 (λ z. omega arith), (numbered _ 8 (λ z. omega arith), (numbered _ 14 (λ z. omega arith), (numbered _ 13 (λ z. omega arith), (numbered _ 5 (λ z. omega arith), tt))))),
+    ) (sym (unless-number (first reasons) _) ∙ e) in
+    not-false (withinRule b) (n .0)

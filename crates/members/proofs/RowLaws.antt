@@ -1,0 +1,99 @@
+-- Rows one by one: a test that every row passes, silent rows dropped, one row written.
+-- Assumes nothing.
+use mathlib.Core.Path.{_≡_, refl, ap, ap₂}
+use mathlib.Core.Bool.{Bool, true, false, cond, and-eq-true-iff}
+use mathlib.Core.List.{List, [], _∷_, map}
+use Prim.Native.Nat.{ℕ, zero, suc}
+use lib.Dec.{leb}
+use lib.ListN.{length, set, drop, length-map}
+use Rattle.octets.specs.Lists.{every}
+use Rattle.moments.specs.Moments.{ageAt}
+use Rattle.members.specs.Members.{Row, emptyRow, kept, current}
+
+-- ---- every row
+-- what holds of every row by what held of it before
+pub every-on : (test test′ : Row → Bool) → ((r : Row) → test r ≡ true → test′ r ≡ true) → (rs : List Row) → every test rs ≡ true → every test′ rs ≡ true
+unfolding every
+every-on test test′ on [] e = refl
+every-on test test′ on (r ∷ rs) e =
+    let (here, later) = and-eq-true-iff (test r) (every test rs) .0 e in
+    and-eq-true-iff (test′ r) (every test′ rs) .1 (on r here, every-on test test′ on rs later)
+
+pub every-set : (test : Row → Bool) (rs : List Row) (at : ℕ) (r : Row) → test r ≡ true → every test rs ≡ true → every test (set rs at r) ≡ true
+unfolding every
+every-set test [] at r h e = refl
+every-set test (a ∷ rs) zero r h e = and-eq-true-iff (test r) (every test rs) .1 (h, and-eq-true-iff (test a) (every test rs) .0 e .1)
+every-set test (a ∷ rs) (suc at) r h e =
+    let (here, later) = and-eq-true-iff (test a) (every test rs) .0 e in
+    and-eq-true-iff (test a) (every test (set rs at r)) .1 (here, every-set test rs at r h later)
+
+-- ---- silent rows dropped
+-- what holds of a row and of an empty one holds of the row that is kept
+pub kept-either : (P : Row → Type 0) (time : ℕ) (r : Row) → P r → P emptyRow → P (kept time r)
+kept-either P time r p q = go (leb (ageAt time (r .time)) 300000)
+  where
+    go : (b : Bool) → P (cond b r emptyRow)
+    go true = p
+    go false = q
+
+every-dropped : (test : Row → Bool) → test emptyRow ≡ true → (time : ℕ) (rs : List Row) → every test rs ≡ true → every test (map (kept time) rs) ≡ true
+unfolding every
+every-dropped test empty time [] e = refl
+every-dropped test empty time (r ∷ rs) e =
+    let (here, later) = and-eq-true-iff (test r) (every test rs) .0 e in
+    and-eq-true-iff (test (kept time r)) (every test (map (kept time) rs)) .1
+    (kept-either (λ k. test k ≡ true) time r here empty, every-dropped test empty time rs later)
+
+pub every-current : (test : Row → Bool) → test emptyRow ≡ true → (time : ℕ) (rs : List Row) → every test rs ≡ true → every test (current time rs) ≡ true
+unfolding every current
+every-current test empty time [] e = refl
+every-current test empty time (r ∷ rs) e =
+    let (here, later) = and-eq-true-iff (test r) (every test rs) .0 e in
+    and-eq-true-iff (test r) (every test (map (kept time) rs)) .1 (here, every-dropped test empty time rs later)
+
+pub length-current : (time : ℕ) (rs : List Row) → length (current time rs) ≡ length rs
+unfolding current
+length-current time [] = refl
+length-current time (r ∷ rs) = ap suc (length-map rs (kept time))
+
+-- the rows behind a place stay as they must be
+pub every-behind : (test : Row → Bool) → test emptyRow ≡ true → (time n : ℕ) (rs : List Row) → every test (drop n rs) ≡ true → every test (drop n (current time rs)) ≡ true
+unfolding current
+every-behind test empty time zero rs e = every-current test empty time rs e
+every-behind test empty time (suc n) [] e = e
+every-behind test empty time (suc n) (r ∷ rs) e = go n rs e
+  where
+    go : (n : ℕ) (rs : List Row) → every test (drop n rs) ≡ true → every test (drop n (map (kept time) rs)) ≡ true
+    go zero rs e = every-dropped test empty time rs e
+    go (suc n) [] e = e
+    go (suc n) (r ∷ rs) e = go n rs e
+
+-- ---- dropped twice
+kept-empty : (time : ℕ) → kept time emptyRow ≡ emptyRow
+kept-empty time = kept-either (λ k. k ≡ emptyRow) time emptyRow refl refl
+
+kept-kept : (time : ℕ) (r : Row) → kept time (kept time r) ≡ kept time r
+kept-kept time r = go (leb (ageAt time (r .time)) 300000) refl
+  where
+    go : (b : Bool) → leb (ageAt time (r .time)) 300000 ≡ b → kept time (cond b r emptyRow) ≡ cond b r emptyRow
+    go true e = rw e
+    go false e = kept-empty time
+
+cons : {a b : Row} {l m : List Row} → a ≡ b → l ≡ m → a ∷ l ≡ b ∷ m
+cons p q = ap₂ _∷_ p q
+
+dropped-twice : (time : ℕ) (rs : List Row) → map (kept time) (map (kept time) rs) ≡ map (kept time) rs
+dropped-twice time [] = refl
+dropped-twice time (a ∷ rs) = cons (kept-kept time a) (dropped-twice time rs)
+
+dropped-set : (time : ℕ) (rs : List Row) (at : ℕ) (r : Row) → kept time r ≡ r → map (kept time) (set (map (kept time) rs) at r) ≡ set (map (kept time) rs) at r
+dropped-set time [] at r e = refl
+dropped-set time (a ∷ rs) zero r e = cons e (dropped-twice time rs)
+dropped-set time (a ∷ rs) (suc at) r e = cons (kept-kept time a) (dropped-set time rs at r e)
+
+-- of the rows at a time, one of them written that is not silent then, none is silent
+pub current-set : (time : ℕ) (rs : List Row) (at : ℕ) (r : Row) → kept time r ≡ r → current time (set (current time rs) at r) ≡ set (current time rs) at r
+unfolding current
+current-set time [] at r e = refl
+current-set time (a ∷ rs) zero r e = cons refl (dropped-twice time rs)
+current-set time (a ∷ rs) (suc at) r e = cons refl (dropped-set time rs at r e)

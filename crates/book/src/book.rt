@@ -22,7 +22,7 @@ pub struct Changed {
 }
 
 // The book that a call gives: the new one, or the old one with the number that refuses the call.
-pub(crate) fn settled(refused: u8, old: Book, new: Book) -> Changed
+pub fn settled(refused: u8, old: Book, new: Book) -> Changed
     ensures { λ r. ⌜ leftBy r ≡ left refused (stated old) (stated new) ⌝ }
 {
     if refused == 0 {
@@ -31,7 +31,8 @@ pub(crate) fn settled(refused: u8, old: Book, new: Book) -> Changed
     Changed { refused, book: old }
 }
 
-fn zeros() -> Book
+// The book that a refusal gives where there is none before it.
+pub fn zeros() -> Book
     ensures { λ r. ⌜ stated r ≡ noBook ⌝ }
 {
     Book {

@@ -10,16 +10,25 @@ use lib.Dec.{eqb, lit<}
 use lib.Pow.{pow-lt}
 use lib.Bits.{bitAnd, bitOr, and-le-l, and-mask}
 use lib.Count.{ones}
-use Rattle.slots.specs.Sets.{Slots, [], _∷_, has, count, isEmpty, fill, noSlots, allSlots, union, minus, disjoint, slotsOf, firsts}
+use Rattle.slots.specs.Sets.{Slots, [], _∷_, has, count, isEmpty, fill, noSlots, allSlots, union, minus, disjoint, slotsOf, maskOf, firsts}
 use Rattle.slots.specs.Laws.{MasksOneToOne}
 use Rattle.slots.proofs.SetLaws.{empty-is-nothing}
 use Rattle.slots.proofs.LowestLaws.{lowest-all, count-all}
 use Rattle.slots.proofs.DropLaws.{withoutLowest}
-use Rattle.slots.proofs.BitLaws.{bits-and, bits-or, bits-and-not, bits-count, bits-has, bits-one-to-one, bits-nothing, bits-below, bits-drop}
+use Rattle.slots.proofs.BitLaws.{bits-and, bits-or, bits-and-not, bits-count, bits-has, bits-one-to-one, bits-nothing, bits-below, bits-drop, mask-of-set, set-of-mask}
 
 pub masks-one-to-one : MasksOneToOne
 unfolding slotsOf
 masks-one-to-one a b p q e = bits-one-to-one 64 a b p q e
+
+-- a mask has one set, and a set one mask
+pub mask-back : (m : ℕ) → m < 2 ^ 64 → maskOf (slotsOf m) ≡ m
+unfolding slotsOf
+mask-back m h = mask-of-set 64 m h
+
+pub set-back : (s : Slots 64) → slotsOf (maskOf s) ≡ s
+unfolding slotsOf
+set-back s = set-of-mask 64 s .0
 
 -- ---- questions
 pub mask-size : (m : ℕ) → m < 2 ^ 64 → ones m ≡ count (slotsOf m)

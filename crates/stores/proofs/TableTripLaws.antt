@@ -2,23 +2,25 @@
 -- Assumes nothing.
 use mathlib.Core.Path.{_≡_, refl, sym, ap, ap₂, _∙_}
 use mathlib.Core.Bool.{Bool, true, false, _&&_, and-eq-true-iff}
-use mathlib.Core.List.{List, [], _∷_, _++_, map, append-assoc}
-use Prim.Native.Nat.{ℕ, zero, suc, _+_, _*_, _≤_}
+use mathlib.Core.List.{List, [], _∷_, map}
+use Prim.Native.Nat.{ℕ, _+_, _*_, _≤_, _<_}
 use native.Mathlib.Decide.{ℕ-discrete}
 use native.Mathlib.Omega.{arith}
 use borrow.Author.Tests.{eq-eqb, ne-eqb, eqb-true, leb-true}
 use lib.Dec.{eqb, leb}
-use lib.ListN.{length, getD, take, drop, length-append}
-use lib.Seq.{take-all, take-add, drop-drop}
+use lib.ListN.{length, getD, take, drop}
+use lib.Seq.{take-all, take-add}
 use Rattle.octets.specs.Layouts.{fields, bytes, Bytes}
 use Rattle.octets.specs.Lists.{tab, every}
 use Rattle.octets.specs.Numbers.{num}
 use Rattle.octets.proofs.LayoutLaws.{fields-bytes, bytes-fields}
+use Rattle.octets.proofs.ListLaws.{length-tab, getD-tab, every-at}
+use Rattle.octets.proofs.RunLaws.{run-read, run-kept}
 use Rattle.routes.specs.declared.row.Row.{Row}
 use Rattle.routes.specs.declared.table.Table.{Table}
 use Rattle.stores.specs.TableBytes.{flag, rowWidths, rowValues, rowFrom, rowAt, rowsBytes, headWidths, headValues, tableFrom, tableIn, tableBytes, flagsOk, isTable}
 use Rattle.stores.specs.TableTrips.{RowsFit, Sized, ReadsBack, WritesTables, WritesBack}
-use Rattle.stores.proofs.TableByteLaws.{length-row, length-head, length-table}
+use Rattle.stores.proofs.TableByteLaws.{rows-run, length-head, length-table}
 
 -- ---- flags
 flag-back : (b : Bool) → eqb (flag b) 1 ≡ b
@@ -43,19 +45,6 @@ flag-place s i =
     rw q
 
 -- ---- what was written, read
--- anything that is said of each row's numbers, one row behind the other
-rows-read : {A : Type 0} (say : List ℕ → A) (f : ℕ → A) (rs : List Row) (p : List ℕ) (n : ℕ) → length p ≡ n → RowsFit rs
-    → ((i : ℕ) → f i ≡ say (fields rowWidths (p ++ rowsBytes rs) (n + 11 * i))) → tab (length rs) f ≡ map (λ r. say (rowValues r)) rs
-unfolding tab
-rows-read say f [] p n l h e = refl
-rows-read {A} say f (r ∷ rs) p n l h e =
-    let b = bytes rowWidths (rowValues r) in
-    let z : n + 11 * 0 ≡ n = omega arith in
-    ap₂ {C = List A} (λ x xs. x ∷ xs)
-    (e 0 ∙ ap say (rw z (fields-bytes rowWidths (rowValues r) p (rowsBytes rs) n l (h .0))))
-    (rows-read say (λ i. f (suc i)) rs (p ++ b) (n + 11) (rw (length-append p b, l, length-row r)) (h .1)
-    (λ i. let q : n + 11 + 11 * i ≡ n + 11 * suc i = omega arith in e (suc i) ∙ rw (q, append-assoc p b (rowsBytes rs))))
-
 rows-back : (rs : List Row) → map (λ r. rowFrom (rowValues r)) rs ≡ rs
 rows-back [] = refl
 rows-back (r ∷ rs) = rw (flag-back (r .withdrawn), rows-back rs)
@@ -73,7 +62,8 @@ module _ (t : Table) (z : Sized t) where
   all-read : {A : Type 0} (say : List ℕ → A) (f : ℕ → A) → ((i : ℕ) → f i ≡ say (fields rowWidths (tableBytes t) (11 + 11 * i)))
       → tab 48 f ≡ map (λ r. say (rowValues r)) (t .rows)
   unfolding tableBytes
-  all-read say f e = rw (z .places) at (rows-read say f (t .rows) (bytes headWidths (headValues t)) 11 (length-head t) (z .fit) e)
+  all-read say f e =
+      rw (z .places) at (run-read rows-run RowsFit (λ r rs h. h) say f (t .rows) (bytes headWidths (headValues t)) 11 (length-head t) (z .fit) e)
 
 pub reads-back : ReadsBack
 unfolding tableIn rowAt
@@ -94,24 +84,17 @@ module _ (s : List ℕ) (b : Bytes s) where
       → bytes rowWidths (rowValues (rowFrom (fields rowWidths s at))) ≡ take 11 (drop at s)
   row-kept at l h = rw (flag-kept (getD (fields rowWidths s at) 5 0) h) (bytes-fields s b rowWidths at l)
 
-  rows-kept : (n at : ℕ) (f : ℕ → Row) (flags : ℕ → ℕ) → at + 11 * n ≤ length s
-      → ((i : ℕ) → f i ≡ rowFrom (fields rowWidths s (at + 11 * i))) → ((i : ℕ) → flags i ≡ getD (fields rowWidths s (at + 11 * i)) 5 0)
-      → every (λ v. leb v 1) (tab n flags) ≡ true → rowsBytes (tab n f) ≡ take (11 * n) (drop at s)
-  unfolding tab every
-  rows-kept zero at f flags l e q h = refl
-  rows-kept (suc n) at f flags l e q h =
-      let (here, later) = and-eq-true-iff (leb (flags 0) 1) (every (λ v. leb v 1) (tab n (λ i. flags (suc i)))) .0 h in
-      let z : at + 11 * 0 ≡ at = omega arith in
-      let m : 11 * suc n ≡ 11 + 11 * n = omega arith in
-      let on : (i : ℕ) → at + 11 * suc i ≡ at + 11 + 11 * i = λ i. omega arith in
-      let first = rw z at (e 0) in
-      let flagged = rw (q 0, z) at here in
-      let rest =
-      rows-kept n (at + 11) (λ i. f (suc i)) (λ i. flags (suc i)) (omega arith) (λ i. rw (on i) at (e (suc i))) (λ i. rw (on i) at (q (suc i))) later in
-      rw (first, row-kept at (omega arith) flagged, rest, m, take-add 11 (11 * n) (drop at s), drop-drop 11 at s)
+  flagged : (n : ℕ) → flagsOk n s ≡ true → (i : ℕ) → i < n → leb (getD (fields rowWidths s (11 + 11 * i)) 5 0) 1 ≡ true
+  flagged n h i l =
+      let flags : ℕ → ℕ = λ i. num 1 s (21 + 11 * i) in
+      rw (getD-tab n flags i 0 l, flag-place s i) at (every-at (λ v. leb v 1) (tab n flags) i 0 h (rw (length-tab n flags) l))
+
+  rows-kept : length s ≡ 539 → flagsOk 48 s ≡ true → rowsBytes (tab 48 (rowAt s)) ≡ take 528 (drop 11 s)
+  unfolding rowAt
+  rows-kept l h = run-kept rows-run s 48 11 (rowAt s) (λ i m. row-kept (11 + 11 * i) (omega arith) (flagged 48 h i m))
 
 pub writes-back : WritesBack
-unfolding isTable tableIn tableBytes rowAt
+unfolding isTable tableIn tableBytes
 writes-back s b h =
     let (front, rows) = and-eq-true-iff (eqb (length s) 539 && leb (num 1 s 6) 1) (flagsOk 48 s) .0 h in
     let (size, first) = and-eq-true-iff (eqb (length s) 539) (leb (num 1 s 6) 1) .0 front in
@@ -119,7 +102,7 @@ writes-back s b h =
     rw (
       flag-kept (num 1 s 6) first,
       bytes-fields s b headWidths 0 (omega arith),
-      rows-kept s b 48 11 (rowAt s) (λ i. num 1 s (21 + 11 * i)) (omega arith) (λ i. refl) (flag-place s) rows,
+      rows-kept s b l rows,
       ← take-add 11 528 s,
     )
     (take-all 539 s (omega arith))

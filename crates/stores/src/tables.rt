@@ -93,13 +93,13 @@ pub fn is_table(s: &[u8]) -> bool
 fn put_row(out: &mut [u8], place: u8, row: Row)
     ensures { λ _. ⌜ now (out .exit) ≡ sets (now (out .entry)) (11 + 11 * place) (bytes rowWidths (rowValues row)) ⌝ }
 {
-    let at = 11 + 11 * (place as usize);
-    put16(out, at, row.destination);
-    put16(out, at + 2, row.next_hop);
-    put8(out, at + 4, row.hops);
-    put8(out, at + 5, row.quality);
-    put32(out, at + 6, row.time);
-    put8(out, at + 10, flag(row.withdrawn));
+    let start = 11 + 11 * (place as usize);
+    put16(out, start, row.destination);
+    put16(out, start + 2, row.next_hop);
+    put8(out, start + 4, row.hops);
+    put8(out, start + 5, row.quality);
+    put32(out, start + 6, row.time);
+    put8(out, start + 10, flag(row.withdrawn));
 }
 
 fn put_rows(out: &mut [u8], rows: [Row; 48])

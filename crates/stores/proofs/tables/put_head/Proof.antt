@@ -1,8 +1,6 @@
 -- `put_head`: the numbers of the head, one behind the other.
 -- Assumes nothing.
-use mathlib.Core.Path.{_≡_, refl, ap, _∙_}
-use Prim.Native.Nat.{ℕ, _+_, _*_}
-use native.Mathlib.Omega.{arith}
+use mathlib.Core.Path.{refl}
 use denote.Ref.{now}
 use Rattle.octets.proofs.StoreLaws.{all-put, put, done}
 use Rattle.stores.specs.TableBytes.{headWidths, headValues}

@@ -5,8 +5,9 @@ use Prim.Native.Nat.{_+_, _*_, _≤_, _-_}
 use native.Mathlib.Omega.{arith}
 use lib.ListN.{length, drop, drop-of-length-le}
 use lib.Seq.{sets}
+use Rattle.octets.proofs.RunLaws.{run-turn}
 use Rattle.stores.specs.TableBytes.{rowsBytes}
-use Rattle.stores.proofs.TableByteLaws.{rows-turn}
+use Rattle.stores.proofs.TableByteLaws.{rows-run}
 use borrow.Author.Needs.{needs}
 use Rattle.stores.proofs.tables.put_rows.Statement.{statement}
 use Rattle.stores.proofs.tables.put_rows.Tie as tie
@@ -26,7 +27,7 @@ loop-again c =
     let rows = c .before .before .before .before .before .before .before .before .args .t2 in (
       search needs,
       c .before .before .put-row .kept .0 ∙ l .inv .1,
-      rw (c .before .before .put-row .ensures) (sym (rows-turn (l .out) rows (l .written) (search needs)) ∙ l .inv .2),
+      rw (c .before .before .put-row .ensures) (sym (run-turn rows-run (l .out) rows 11 (l .written) _ (search needs)) ∙ l .inv .2),
     )
 
 same-length : tie.Need-same-length Inv-loop μ-loop

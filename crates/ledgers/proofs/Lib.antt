@@ -1,0 +1,2 @@
+pub mod BookByteLaws
+pub mod TripLaws

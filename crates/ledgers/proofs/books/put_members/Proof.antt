@@ -1,0 +1,49 @@
+-- `put_members`'s loop: to write the rows that are left is to write them all.
+-- Assumes nothing.
+use mathlib.Core.Path.{_≡_, refl, sym, _∙_}
+use Prim.Native.Nat.{_+_, _*_, _≤_, _-_}
+use native.Mathlib.Omega.{arith}
+use lib.ListN.{length, drop, drop-of-length-le}
+use lib.Seq.{sets}
+use Rattle.members.specs.Members.{rowsOf}
+use Rattle.ledgers.specs.BookBytes.{rowsBytes}
+use Rattle.ledgers.proofs.BookByteLaws.{members-run}
+use Rattle.octets.proofs.RunLaws.{run-turn}
+use borrow.Author.Needs.{needs}
+use Rattle.ledgers.proofs.books.put_members.Statement.{statement}
+use Rattle.ledgers.proofs.books.put_members.Tie as tie
+
+abbrev Inv-loop : tie.InvT-loop
+Inv-loop out₀ rows written₀ out written =
+    (written ≤ 21) × (length out ≡ length out₀) × (sets out (13 + 14 * written) (rowsBytes (rowsOf (drop written rows))) ≡ sets out₀ 13 (rowsBytes (rowsOf rows)))
+
+abbrev μ-loop : tie.MeasureT-loop
+μ-loop out₀ rows written₀ out written = 21 - written
+
+loop-holds : tie.Need-loop-holds Inv-loop μ-loop
+loop-holds c = (search needs, refl, refl)
+
+loop-again : tie.Need-loop-again Inv-loop μ-loop
+loop-again c =
+    let l = c .before .before .before .before .before .before .loop in
+    let rows = c .before .before .before .before .before .before .before .before .args .t2 in (
+      search needs,
+      c .before .before .put-member .kept .0 ∙ l .inv .1,
+      rw (c .before .before .put-member .ensures) (sym (run-turn members-run (l .out) rows 13 (l .written) _ (search needs)) ∙ l .inv .2),
+    )
+
+same-length : tie.Need-same-length Inv-loop μ-loop
+same-length c = c .before .loop .inv .1
+
+returns : tie.Need-returns Inv-loop μ-loop
+unfolding rowsOf
+returns c =
+    let l = c .before .loop in
+    let rows = c .before .before .before .args .t2 in
+    let n : length rows ≡ 21 = search needs in
+    let h : length rows ≤ l .written = omega arith in
+    (rw (drop-of-length-le rows h) at (l .inv .2), n)
+
+pub put-members-spec : {M : Type 1} → statement M
+put-members-spec =
+    tie.close (tie.spec Inv-loop μ-loop loop-holds (λ c. search needs) (λ c. search needs) (λ c. search needs) (λ c κs. search needs) (λ c. search needs) (λ c. search needs) loop-again same-length returns)

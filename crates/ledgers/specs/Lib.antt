@@ -1,0 +1,3 @@
+pub mod BookBytes
+pub mod PlanBytes
+pub mod Trips

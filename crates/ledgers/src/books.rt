@@ -1,0 +1,90 @@
+// A book as 307 bytes, the lowest byte of a number first: the plan, the last accepted time, then 21 rows of 14.
+ghost use mathlib.Core.Path.{_≡_};
+ghost use lib.ListN.{length};
+ghost use lib.Seq.{sets};
+ghost use Prim.Native.Nat.{_+_, _*_};
+ghost use Rattle.octets.specs.Layouts.{bytes};
+ghost use Rattle.octets.specs.Lists.{tab};
+ghost use Rattle.members.specs.Members.{rowOf, rowsOf};
+ghost use Rattle.book.specs.Books.{stated};
+ghost use Rattle.ledgers.specs.BookBytes.{rowWidths, rowValues, rowAt, rowsBytes, bookIn, bookBytes};
+use crate::plans::plan_of;
+use crate::plans::put_plan;
+use book::book::Book;
+use members::member::Member;
+use octets::fixed::put16;
+use octets::fixed::put32;
+use octets::fixed::put64;
+use octets::numbers::number16;
+use octets::numbers::number32;
+use octets::numbers::number64;
+
+// The row at a place, counted from 0.
+fn member_at(s: &[u8], place: u8) -> Member
+    ensures { λ r. ⌜ rowOf r ≡ rowAt (now (s .entry)) place ⌝ }
+{
+    let at = 13 + 14 * (place as usize);
+    Member {
+        unit: number16(s, at),
+        slots: number64(s, at + 2),
+        time: number32(s, at + 10),
+    }
+}
+
+fn members_of(s: &[u8]) -> [Member; 21]
+    ensures { λ r. ⌜ rowsOf r ≡ tab 21 (rowAt (now (s .entry))) ⌝ }
+{
+    let mut rows = [Member {
+        unit: 0,
+        slots: 0,
+        time: 0,
+    }; 21];
+    let mut place: u8 = 0;
+    while place < 21 {
+        rows[place as usize] = member_at(s, place);
+        place += 1;
+    }
+    rows
+}
+
+// The book that the bytes say, within rule or not. A byte past the end is 0.
+pub fn book_of(s: &[u8]) -> Book
+    ensures { λ r. ⌜ stated r ≡ bookIn (now (s .entry)) ⌝ }
+{
+    let rows = members_of(s);
+    Book {
+        plan: plan_of(s, 0),
+        time: number32(s, 9),
+        rows,
+    }
+}
+
+fn put_member(out: &mut [u8], place: u8, member: Member)
+    ensures { λ _. ⌜ now (out .exit) ≡ sets (now (out .entry)) (13 + 14 * place) (bytes rowWidths (rowValues (rowOf member))) ⌝ }
+{
+    let start = 13 + 14 * (place as usize);
+    put16(out, start, member.unit);
+    put64(out, start + 2, member.slots);
+    put32(out, start + 10, member.time);
+}
+
+fn put_members(out: &mut [u8], rows: [Member; 21])
+    ensures { λ _. ⌜ (now (out .exit) ≡ sets (now (out .entry)) 13 (rowsBytes (rowsOf rows))) × (length rows ≡ 21) ⌝ }
+{
+    let mut written: u8 = 0;
+    while written < 21 {
+        let member = rows[written as usize];
+        put_member(out, written, member);
+        written += 1;
+    }
+}
+
+// The bytes of a book, as far as there is room.
+pub fn put_book(out: &mut [u8], book: Book)
+    ensures { λ _. ⌜ (now (out .exit) ≡ sets (now (out .entry)) 0 (bookBytes (stated book))) × (length (book .rows) ≡ 21) ⌝ }
+{
+    let rows = book.rows;
+    put_plan(out, 0, book.plan);
+    put32(out, 9, book.time);
+    put_members(out, rows);
+}

@@ -1,6 +1,6 @@
 -- The round trips of a plan and of a book and their bytes.
 -- Assumes nothing.
-use mathlib.Core.Path.{_≡_, refl, ap, _∙_}
+use mathlib.Core.Path.{_≡_, refl, ap, ap₂, _∙_}
 use mathlib.Core.List.{List, [], _∷_, _++_, map, append-assoc, append-nil}
 use Prim.Native.Nat.{ℕ, _+_, _*_, _≤_}
 use native.Mathlib.Omega.{arith}
@@ -11,6 +11,7 @@ use Rattle.octets.specs.Lists.{tab}
 use Rattle.octets.specs.Numbers.{num, digits}
 use Rattle.octets.proofs.LayoutLaws.{fields-bytes, bytes-fields}
 use Rattle.octets.proofs.NumberLaws.{num-lt, num-digits, digits-num}
+use Rattle.slots.specs.Sets.{Slots}
 use Rattle.slots.proofs.MaskLaws.{mask-back, set-back}
 use Rattle.site.specs.declared.plan.Plan.{Plan}
 use Rattle.site.specs.Plans.{planValues}
@@ -31,9 +32,12 @@ plan-read p q h = ap planFrom (fields-bytes planWidths (planValues p) [] q 0 ref
 pub plan-reads-back : PlanReadsBack
 plan-reads-back p h = rw (append-nil (planBytes p)) at (plan-read p [] h)
 
+row-back : (r : Row) → rowFrom (rowValues r) ≡ r
+row-back r = ap (λ (s : Slots 64). record { unit = r .unit; slots = s; time = r .time }) (set-back (r .slots))
+
 rows-back : (rs : List Row) → map (λ r. rowFrom (rowValues r)) rs ≡ rs
 rows-back [] = refl
-rows-back (r ∷ rs) = rw (set-back (r .slots), rows-back rs)
+rows-back (r ∷ rs) = ap₂ {C = List Row} (λ x xs. x ∷ xs) (row-back r) (rows-back rs)
 
 module _ (b : Stated) (z : Sized b) where
   time-read : num 4 (bookBytes b) 9 ≡ b .time

@@ -7,7 +7,7 @@ use Prim.Native.Nat.{ℕ}
 use native.Mathlib.Omega.{arith}
 use borrow.Author.Tests.{eqb-true, not-false}
 use lib.Dec.{ltb}
-use lib.ListN.{length, getD}
+use lib.ListN.{length}
 use Rattle.octets.specs.Answers.{first}
 use Rattle.octets.proofs.AnswerLaws.{numbered, refusing-numbered, none-holds, unless-number}
 use Rattle.moments.specs.Moments.{inOrder}
@@ -15,12 +15,14 @@ use Rattle.shapes.specs.Reading.{refusalAs}
 use Rattle.shapes.specs.Rules.{address}
 use Rattle.shapes.proofs.ReadingLaws.{passed}
 use Rattle.requests.specs.Requests.{joinRequest, slotRequest}
-use Rattle.site.specs.Plans.{slots}
-use Rattle.members.specs.Members.{emptyRow, rowFor}
+use Rattle.slots.specs.Sets.{Slots}
+use Rattle.members.specs.Members.{rowFor}
 use Rattle.book.specs.Books.{Stated, withinRule, memberReasons, rowsAt, liveAt}
-use Rattle.book.specs.Schedules.{scheduleReasons, scheduleOf}
+use Rattle.book.specs.Schedules.{scheduleRefusal, scheduleOf}
+use Rattle.book.proofs.ScheduleLaws.{Schedulable, schedulable}
 use Rattle.joins.specs.Joins.{joinIn, seat, seated, noRowFor, joinReasons, joinOf, askIn, asks, askReasons, askOf}
 use Rattle.joins.specs.Responses.{responses}
+use Rattle.keeping.specs.Laws.{holding}
 
 -- what all calls that write a row rest on
 pub record Allowed (b : Stated) (unit time : ℕ) : Type 0 where
@@ -35,26 +37,27 @@ member-allowed b unit time found e =
     (numbered _ 14 (λ z. omega arith), (numbered _ 4 (λ z. omega arith), (numbered _ 8 (λ z. omega arith), (numbered _ 13 (λ z. omega arith), tt)))) e in
     (record { book = not-false _ (n .0); of-unit = not-false _ (n .1 .0); order = not-false _ (n .1 .1 .0) }, not-false found (n .1 .1 .1 .0))
 
--- the responses to a request to join, and to a slot request, do not fit
-abbrev pub joinShort : Stated → List ℕ → ℕ → List ℕ → Bool
-joinShort b s time out =
-    let unit = joinIn s .node in
-    ltb (length out) (length (responses (b .plan) unit time (seat b unit time) (seated b unit time (joinIn s .slots))))
+-- what a unit that joins, and a member that asks, then holds
+abbrev pub joinedSlots : Stated → List ℕ → ℕ → Slots 64
+joinedSlots b s time = seated b (joinIn s .node) time (joinIn s .slots)
 
-abbrev pub askShort : Stated → List ℕ → ℕ → List ℕ → Bool
-askShort b s time out =
-    let at = rowFor (askIn s .node) (rowsAt b time) in
-    let own = asks (b .plan .«data_slots») (rowsAt b time) (getD (rowsAt b time) at emptyRow .slots) (askIn s .slots) in
-    ltb (length out) (length (responses (b .plan) (askIn s .node) time at own))
+abbrev pub askedSlots : Stated → List ℕ → ℕ → Slots 64
+askedSlots b s time = asks (b .plan .«data_slots») (rowsAt b time) (holding b (askIn s .node) time) (askIn s .slots)
+
+-- the responses do not fit
+abbrev short : Stated → ℕ → ℕ → ℕ → Slots 64 → List ℕ → Bool
+short b unit time at own out = ltb (length out) (length (responses (b .plan) unit time at own))
+
+abbrev pub joinShort : Stated → List ℕ → ℕ → List ℕ → Bool
+joinShort b s time out = short b (joinIn s .node) time (seat b (joinIn s .node) time) (joinedSlots b s time) out
 
 pub join-allowed : (b : Stated) (s : List ℕ) (time : ℕ) (out : List ℕ) → joinOf b s time out .refused ≡ 0
     → Allowed b (joinIn s .node) time × (noRowFor b (joinIn s .node) time ≡ false)
 unfolding joinOf
 join-allowed b s time out e =
     let noRow = noRowFor b (joinIn s .node) time in
-    let short = joinShort b s time out in
     let n =
-    none-holds (joinReasons b s time noRow short) (
+    none-holds (joinReasons b s time noRow (joinShort b s time out)) (
       numbered _ 14 (λ z. omega arith),
       (
         refusing-numbered (refusalAs joinRequest s),
@@ -74,9 +77,8 @@ pub ask-allowed : (b : Stated) (s : List ℕ) (time : ℕ) (out : List ℕ) → 
 unfolding askOf
 ask-allowed b s time out e =
     let live = liveAt b (askIn s .node) time in
-    let short = askShort b s time out in
     let n =
-    none-holds (askReasons b s time live short) (
+    none-holds (askReasons b s time live (short b (askIn s .node) time (rowFor (askIn s .node) (rowsAt b time)) (askedSlots b s time) out)) (
       numbered _ 14 (λ z. omega arith),
       (
         refusing-numbered (refusalAs slotRequest s),
@@ -91,13 +93,10 @@ ask-allowed b s time out e =
       not-false live (n .1 .1 .1 .1 .0),
     )
 
-pub schedule-within : (b : Stated) (unit hop time : ℕ) (out : List ℕ) → scheduleOf b unit hop time out .said .refusal ≡ 0 → withinRule b ≡ true
-unfolding scheduleOf
-schedule-within b unit hop time out e =
-    let reasons = scheduleReasons b unit hop time (liveAt b unit time) (length out) in
-    let n =
-    none-holds reasons (
-      numbered _ 14 (λ z. omega arith),
-      (numbered _ 4 (λ z. omega arith), (numbered _ 8 (λ z. omega arith), (numbered _ 14 (λ z. omega arith), (numbered _ 13 (λ z. omega arith), (numbered _ 5 (λ z. omega arith), tt))))),
-    ) (sym (unless-number (first reasons) _) ∙ e) in
-    not-false (withinRule b) (n .0)
+module _ (b : Stated) (unit hop time : ℕ) (out : List ℕ) (e : scheduleOf b unit hop time out .said .refusal ≡ 0) where
+  pub schedule-unrefused : scheduleRefusal b unit hop time (liveAt b unit time) (length out) ≡ 0
+  unfolding scheduleOf
+  schedule-unrefused = sym (unless-number _ _) ∙ e
+
+  pub schedule-allowed : Schedulable b unit hop time (liveAt b unit time) (length out)
+  schedule-allowed = schedulable b unit hop time (liveAt b unit time) (length out) schedule-unrefused

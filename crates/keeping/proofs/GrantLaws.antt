@@ -1,38 +1,33 @@
 -- How many slots are granted to a newcomer and to a member that asks, and where they come from.
 -- Assumes nothing.
-use mathlib.Core.Path.{_≡_, refl, sym, ap, _∙_}
-use mathlib.Core.Bool.{Bool, true, false, _||_, cond, or-true}
+use mathlib.Core.Path.{_≡_, refl, _∙_}
+use mathlib.Core.Bool.{Bool, true, false, cond}
 use mathlib.Core.List.{List}
 use Prim.Native.Nat.{ℕ, _+_, _-_, _≤_, min}
 use native.Mathlib.Omega.{arith}
 use borrow.Author.Tests.{leb-true, leb-false}
 use lib.Dec.{leb}
-use Rattle.slots.specs.Sets.{Slots, has, count, Subset, Apart, union, lowest, withoutHighest}
-use Rattle.slots.proofs.SetLaws.{union-has, disjoint-is-apart}
+use Rattle.slots.specs.Sets.{Slots, count, Subset, Apart, union, lowest, withoutHighest}
+use Rattle.slots.proofs.SetLaws.{disjoint-is-apart, in-left, in-right, in-union}
 use Rattle.slots.proofs.CountLaws.{count-of-union}
 use Rattle.slots.proofs.LowestLaws.{lowest-is, without-highest-inside, count-of-without-highest}
 use Rattle.members.specs.Members.{Row, free, vacant, spare}
 use Rattle.joins.specs.Joins.{wish, granted, brought}
 
--- ---- sets within a union
-module _ (s t : Slots 64) where
-  pub in-left : Subset s (union s t)
-  in-left i h = union-has 64 s t i ∙ ap (λ (b : Bool). b || has t i) h
+-- ---- the lesser of a wish and of what there is
+pub record Lesser (wished n there : ℕ) : Type 0 where
+  pub least : 1 ≤ n
+  pub within-wish : n ≤ wished
+  pub most : n ≤ 4
+  pub spared : n ≤ there
 
-  pub in-right : Subset t (union s t)
-  in-right i h = union-has 64 s t i ∙ (ap (λ (b : Bool). has s i || b) h ∙ or-true (has s i))
-
-  pub in-union : (u : Slots 64) → Subset s u → Subset t u → Subset (union s t) u
-  in-union u f g i h = go (has s i) refl (sym (union-has 64 s t i) ∙ h)
-    where
-      go : (b : Bool) → has s i ≡ b → (b || has t i) ≡ true → has u i ≡ true
-      go true q e = f i q
-      go false q e = g i e
+pub lesser : (asked n there : ℕ) → n ≡ min (wish asked) there → 1 ≤ there → Lesser (wish asked) n there
+lesser asked n there e h = go (wish asked) (omega arith) (omega arith) e
+  where
+    go : (wished : ℕ) → 1 ≤ wished → wished ≤ 4 → n ≡ min wished there → Lesser wished n there
+    go wished p q e = record { least = omega (arith, p, e, h); within-wish = omega (arith, e); most = omega (arith, q, e); spared = omega (arith, e) }
 
 -- ---- a newcomer
-pub wish-bounds : (asked : ℕ) → (1 ≤ wish asked) × (wish asked ≤ 4)
-wish-bounds asked = (omega arith, omega arith)
-
 module _ (dataSlots : ℕ) (rs : List Row) (asked : ℕ) where
   -- where a row is free, and each free row has a free slot, it gets what is due
   pub count-granted : 1 ≤ vacant rs → vacant rs ≤ count (free dataSlots rs) → count (granted dataSlots rs asked) ≡ min (wish asked) (spare dataSlots rs + 1)

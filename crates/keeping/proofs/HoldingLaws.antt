@@ -1,63 +1,42 @@
--- Who holds what: no slot is held by two, and a call changes no other unit's holding.
+-- Who holds what: no slot is held by two, a call changes no other unit's holding, and a live member that calls again keeps its own.
 -- Assumes nothing.
 use mathlib.Core.Path.{_≡_, refl, sym, ap, _∙_}
-use mathlib.Core.Bool.{true, false≢true, and-eq-true-iff, or-true}
-use mathlib.Core.List.{List, [], _∷_}
-use Prim.Native.Nat.{ℕ, zero, suc}
+use mathlib.Core.Bool.{true, false≢true}
+use mathlib.Core.List.{List}
+use Prim.Native.Nat.{ℕ}
 use native.Mathlib.Decide.{ℕ-discrete}
-use borrow.Author.Tests.{eq-eqb, ne-eqb}
-use lib.ListN.{length, set, length-set}
+use lib.ListN.{length, length-set}
+use lib.Seq.{getD-set-other}
 use Rattle.shapes.specs.Rules.{address}
-use Rattle.slots.specs.Sets.{has, noSlots, disjoint, Apart}
-use Rattle.slots.proofs.SetLaws.{nothing-has, union-has, disjoint-is-apart}
-use Rattle.members.specs.Members.{Row, emptyRow, kept, current, rowFor, held}
-use Rattle.members.specs.Rules.{apart}
-use Rattle.book.specs.Books.{Stated, rowsIn, rowsAt, withRow, heardOf, leaveOf}
-use Rattle.joins.specs.Joins.{joinOf, askOf}
+use Rattle.slots.specs.Sets.{Slots, Apart}
+use Rattle.slots.proofs.SetLaws.{nothing-has, disjoint-is-apart}
+use Rattle.members.specs.Members.{Row, emptyRow, kept, rowFor}
+use Rattle.members.proofs.RowLaws.{row, kept-empty}
+use Rattle.members.proofs.RowSums.{owns, passes-there, only-one}
+use Rattle.members.proofs.LookupLaws.{found-unit, found-other, found-same}
+use Rattle.members.proofs.RowRuleLaws.{Seat, address-some, ruled-current}
+use Rattle.book.specs.Books.{Stated, rowsAt, liveAt, withRow}
+use Rattle.joins.specs.Joins.{askIn, askOf}
 use Rattle.keeping.specs.Calls.{Call, join, ask, heard, leave, schedule, timeOf, unitOf, refusalOf, next}
-use Rattle.keeping.specs.Laws.{RefusedKeeps, SameHolding, OthersStay, HoldApart}
-use Rattle.keeping.proofs.LookupLaws.{row, row-there, row-set, row-kept, rows-differ, kept-zeros, of-current, current-set}
-use Rattle.keeping.proofs.ManagerLaws.{within, address-some}
-use Rattle.keeping.proofs.SeatLaws.{Seat, Renewed, rows-written, renewed, leave-seat, kept-fresh}
+use Rattle.keeping.specs.Laws.{SameHolding, OthersStay, repeats, KeepsOwn, holding, HoldApart}
+use Rattle.keeping.proofs.CallLaws.{Allowed}
+use Rattle.keeping.proofs.WithinLaws.{within}
+use Rattle.keeping.proofs.WrittenLaws.{kept-now, rows-at-written}
+use Rattle.keeping.proofs.TakingLaws.{ruled-rows, Taken, join-taken, ask-taken, heard-taken, taken-row, taken-live, taken-holding, leave-freed}
+use Rattle.keeping.proofs.RuleLaws.{refused-keeps}
 
--- ---- sets that are apart
-none-there : (s : ℕ) → has (noSlots {n = 64}) s ≡ true → ⊥
-none-there s e = false≢true (sym (nothing-has 64 s) ∙ e)
-
-held-has : (rs : List Row) (i s : ℕ) → has (row rs i .slots) s ≡ true → has (held rs) s ≡ true
-unfolding held
-held-has [] i s e = e
-held-has (r ∷ rs) zero s e = rw (union-has 64 (r .slots) (held rs) s, e)
-held-has (r ∷ rs) (suc i) s e = rw (union-has 64 (r .slots) (held rs) s, held-has rs i s e) (or-true (has (r .slots) s))
-
-rows-apart : (rs : List Row) → apart rs ≡ true → (i j : ℕ) → (i ≡ j → ⊥) → Apart (row rs i .slots) (row rs j .slots)
-rows-apart [] a i j n s p q = none-there s p
-rows-apart (r ∷ rs) a zero zero n s p q = n refl
-rows-apart (r ∷ rs) a zero (suc j) n s p q =
-    disjoint-is-apart 64 (r .slots) (held rs) .0 (and-eq-true-iff (disjoint (r .slots) (held rs)) (apart rs) .0 a .0) s p (held-has rs j s q)
-rows-apart (r ∷ rs) a (suc i) zero n s p q =
-    disjoint-is-apart 64 (r .slots) (held rs) .0 (and-eq-true-iff (disjoint (r .slots) (held rs)) (apart rs) .0 a .0) s q (held-has rs i s p)
-rows-apart (r ∷ rs) a (suc i) (suc j) n s p q =
-    rows-apart rs (and-eq-true-iff (disjoint (r .slots) (held rs)) (apart rs) .0 a .1) i j (λ e. n (ap suc e)) s p q
-
--- a slot of a row at a time is a slot of that row
-slots-then : (time : ℕ) (rs : List Row) (i s : ℕ) → has (row (current time rs) i .slots) s ≡ true → has (row rs i .slots) s ≡ true
-slots-then time rs i s =
-    of-current time (λ r. has (r .slots) s ≡ true → has (row rs i .slots) s ≡ true) rs i (λ e. e) (λ e. absurd (none-there s e))
-
+-- ---- no slot is held by two
 pub hold-apart : HoldApart
 hold-apart b time unit unit′ w n = disjoint-is-apart 64 _ _ .1 together
   where
-    together : Apart (row (rowsAt b time) (rowFor unit (rowsAt b time)) .slots) (row (rowsAt b time) (rowFor unit′ (rowsAt b time)) .slots)
+    together : Apart (holding b unit time) (holding b unit′ time)
     together s p q =
         let rs = rowsAt b time in
-        let i = rowFor unit rs in
-        let j = rowFor unit′ rs in
-        let there = row-there (λ r. has (r .slots) s ≡ true) (none-there s) rs in
-        rows-apart (rowsIn b) (within b w .apart-sets) i j (rows-differ rs unit unit′ (there i p) (there j q) n) s
-        (slots-then time (rowsIn b) i s p) (slots-then time (rowsIn b) j s q)
+        let at-most-one = ruled-current time (within b w .rows) .owners s in
+        let there = passes-there (owns s) (nothing-has 64 s) rs (rowFor unit rs) p in
+        n (found-same rs unit unit′ there (only-one (owns s) (nothing-has 64 s) rs at-most-one (rowFor unit rs) (rowFor unit′ rs) p q))
 
--- ---- calls about others
+-- ---- the same holding
 -- a unit has the same where it is found at the same place, in rows as many, with the same row there
 module _ (b : Stated) (time : ℕ) (b′ : Stated) (time′ : ℕ) (unit : ℕ) where
   abbrev now : List Row
@@ -69,47 +48,64 @@ module _ (b : Stated) (time : ℕ) (b′ : Stated) (time′ : ℕ) (unit : ℕ) 
   pub same-holding : length then ≡ length now → rowFor unit then ≡ rowFor unit now → row then (rowFor unit now) ≡ row now (rowFor unit now) → SameHolding b time b′ time′ unit
   same-holding l p r = record { live = rw (l, p); row = p; slots = ap (λ (i : ℕ). row then i .slots) p ∙ ap (λ (r : Row). r .slots) r }
 
--- a call that is refused leaves the book as it was
-refused-keeps : RefusedKeeps
-unfolding joinOf askOf heardOf leaveOf
-refused-keeps b (join s time out) z = rw (ne-eqb _ 0 z)
-refused-keeps b (ask s time out) z = rw (ne-eqb _ 0 z)
-refused-keeps b (heard unit time) z = rw (ne-eqb _ 0 z)
-refused-keeps b (leave unit time) z = rw (ne-eqb _ 0 z)
-refused-keeps b (schedule unit hop time out) z = refl
+-- what holds of the book as it was, and of the next where the call is accepted, holds of the next
+by-refusal : (P : Stated → Type 0) (b : Stated) (c : Call) → P b → (refusalOf b c ≡ 0 → P (next b c)) → P (next b c)
+by-refusal P b c old new = go (ℕ-discrete (refusalOf b c) 0)
+  where
+    go : Dec (refusalOf b c ≡ 0) → P (next b c)
+    go (yes z) = new z
+    go (no z) = rw (refused-keeps b c z) old
 
-same : (b : Stated) (time unit : ℕ) → SameHolding b time b time unit
-same b time unit = record { live = refl; row = refl; slots = refl }
+same-or : (b : Stated) (c : Call) (unit : ℕ) → (refusalOf b c ≡ 0 → SameHolding b (timeOf c) (next b c) (timeOf c) unit) → SameHolding b (timeOf c) (next b c) (timeOf c) unit
+same-or b c unit = by-refusal (λ new. SameHolding b (timeOf c) new (timeOf c) unit) b c (record { live = refl; row = refl; slots = refl })
 
-module _ (unit : ℕ) (a : address unit ≡ true) where
+-- ---- calls about others
+module _ (unit : ℕ) (is-address : address unit ≡ true) where
   -- a row written at another's place, or at a free one
-  other-written : (b : Stated) (caller time at : ℕ) → Seat b caller time at → (unit ≡ caller → ⊥) → (r : Row) → kept time r ≡ r → (r .unit ≡ unit → ⊥)
-      → SameHolding b time (withRow b time at r) time unit
-  other-written b caller time at p n r k new =
-      let now = rowsAt b time in
-      let some = address-some unit a in
-      let old : row now at .unit ≡ unit → ⊥ = λ e. n (sym e ∙ p .own (λ z. some (sym e ∙ z))) in
-      let rows : rowsAt (withRow b time at r) time ≡ set now at r = ap (current time) (rows-written b time at r) ∙ current-set time r k (rowsIn b) at in
+  other-written : {b : Stated} {caller time at : ℕ} (a : Allowed b caller time) → Seat (ruled-rows a) at caller → (unit ≡ caller → ⊥)
+      → (r : Row) → kept time r ≡ r → (r .unit ≡ unit → ⊥) → SameHolding b time (withRow b time at r) time unit
+  other-written {b} {caller} {time} {at} a p n r k new =
+      let rs = rowsAt b time in
+      let old : row rs at .unit ≡ unit → ⊥ = λ e. n (sym e ∙ p .own (λ z. address-some unit is-address (sym e ∙ z))) in
+      let elsewhere : rowFor unit rs ≡ at → ⊥ = λ e. old (rw e at (found-unit unit rs (rw e (p .there)))) in
+      let rows = rows-at-written b time at r (p .there) k in
       same-holding b time (withRow b time at r) time unit
-      (ap length rows ∙ length-set now at r)
-      (ap (rowFor unit) rows ∙ row-set unit r new now at old)
-      (ap (λ (rs : List Row). row rs (rowFor unit now)) rows ∙ row-kept unit r new now at old)
+      (ap length rows ∙ length-set rs at r)
+      (ap (rowFor unit) rows ∙ found-other unit rs at r old new)
+      (ap (λ (l : List Row). row l (rowFor unit rs)) rows ∙ getD-set-other rs at (rowFor unit rs) r emptyRow elsewhere)
 
-  other-renewed : (b : Stated) (c : Call) → (unit ≡ unitOf c → ⊥) → Renewed b c → SameHolding b (timeOf c) (next b c) (timeOf c) unit
-  other-renewed b c n w = rw (w .book) (other-written b (unitOf c) (timeOf c) (w .at) (w .place) n _ (kept-fresh (unitOf c) (w .slots) (timeOf c)) (λ e. n (sym e)))
+  other-taken : {b : Stated} {c : Call} {at : ℕ} {own : Slots 64} → (unit ≡ unitOf c → ⊥) → Taken b c at own → SameHolding b (timeOf c) (next b c) (timeOf c) unit
+  other-taken {b} {c} {at} {own} n t = rw (t .book) (other-written (t .allowed) (t .place) n _ (kept-now (unitOf c) (timeOf c) own) (λ e. n (sym e)))
 
   other-accepted : (b : Stated) (c : Call) → (unit ≡ unitOf c → ⊥) → refusalOf b c ≡ 0 → SameHolding b (timeOf c) (next b c) (timeOf c) unit
-  unfolding leaveOf
-  other-accepted b (join s time out) n z = other-renewed b (join s time out) n (renewed b (join s time out) refl z)
-  other-accepted b (ask s time out) n z = other-renewed b (ask s time out) n (renewed b (ask s time out) refl z)
-  other-accepted b (heard caller time) n z = other-renewed b (heard caller time) n (renewed b (heard caller time) refl z)
+  other-accepted b (join s time out) n z = other-taken n (join-taken b s time out z)
+  other-accepted b (ask s time out) n z = other-taken n (ask-taken b s time out z)
+  other-accepted b (heard caller time) n z = other-taken n (heard-taken b caller time z)
   other-accepted b (leave caller time) n z =
-      rw (eq-eqb _ 0 z) (other-written b caller time _ (leave-seat b caller time z) n emptyRow (kept-zeros time) (λ e. address-some unit a (sym e)))
-  other-accepted b (schedule caller hop time out) n z = same b time unit
+      let f = leave-freed b caller time z in
+      rw (f .book) (other-written (f .allowed) (f .place) n emptyRow (kept-empty time) (λ e. address-some unit is-address (sym e)))
+  other-accepted b (schedule caller hop time out) n z = record { live = refl; row = refl; slots = refl }
 
 pub others-stay : OthersStay
-others-stay b c unit a n = go (ℕ-discrete (refusalOf b c) 0)
+others-stay b c unit a n = same-or b c unit (other-accepted unit a b c n)
+
+-- ---- calls about itself
+own-taken : {b : Stated} {c : Call} → Taken b c (rowFor (unitOf c) (rowsAt b (timeOf c))) (holding b (unitOf c) (timeOf c)) → liveAt b (unitOf c) (timeOf c) ≡ true
+    → SameHolding b (timeOf c) (next b c) (timeOf c) (unitOf c)
+own-taken t live = record { live = taken-live t ∙ sym live; row = taken-row t; slots = taken-holding t }
+
+pub keeps-own : KeepsOwn
+keeps-own = (again, ask-again)
   where
-    go : Dec (refusalOf b c ≡ 0) → SameHolding b (timeOf c) (next b c) (timeOf c) unit
-    go (yes z) = other-accepted unit a b c n z
-    go (no z) = rw (refused-keeps b c z) (same b (timeOf c) unit)
+    again : (b : Stated) (c : Call) → repeats c ≡ true → liveAt b (unitOf c) (timeOf c) ≡ true → SameHolding b (timeOf c) (next b c) (timeOf c) (unitOf c)
+    again b (join s time out) e live = same-or b (join s time out) _ (λ z. own-taken (rw live at (join-taken b s time out z)) live)
+    again b (ask s time out) e live = absurd (false≢true e)
+    again b (heard unit time) e live = same-or b (heard unit time) _ (λ z. own-taken (heard-taken b unit time z) live)
+    again b (leave unit time) e live = absurd (false≢true e)
+    again b (schedule unit hop time out) e live = record { live = refl; row = refl; slots = refl }
+
+    ask-again : (b : Stated) (s : List ℕ) (time : ℕ) (out : List ℕ) → liveAt b (askIn s .node) time ≡ true
+        → rowFor (askIn s .node) (rowsAt (askOf b s time out .book) time) ≡ rowFor (askIn s .node) (rowsAt b time)
+    ask-again b s time out live =
+        let unit = askIn s .node in
+        by-refusal (λ new. rowFor unit (rowsAt new time) ≡ rowFor unit (rowsAt b time)) b (ask s time out) refl (λ z. taken-row (ask-taken b s time out z))

@@ -4,11 +4,10 @@ pub mod FreshLaws
 pub mod GrantLaws
 pub mod HoldingLaws
 pub mod JoinLaws
-pub mod LookupLaws
-pub mod ManagerLaws
 pub mod RuleLaws
-pub mod SeatLaws
 pub mod SendingLaws
 pub mod ShareLaws
 pub mod SilenceLaws
+pub mod TakingLaws
 pub mod WithinLaws
+pub mod WrittenLaws

@@ -1,6 +1,6 @@
 -- Who sends in a slot, by schedules from one book: the statements of specs/Laws on it, proved.
 -- Assumes nothing.
-use mathlib.Core.Path.{_≡_, refl, sym, ap, _∙_}
+use mathlib.Core.Path.{_≡_, refl, ap, _∙_}
 use mathlib.Core.Bool.{Bool, true, false, _||_, and-eq-true-iff}
 use mathlib.Core.List.{List, _++_}
 use Prim.Native.Nat.{ℕ, _<_, _≤_}
@@ -11,7 +11,6 @@ use lib.Dec.{leb, ltb}
 use lib.ListN.{length, getD, drop, List·getD-append}
 use lib.Seq.{sets, sets-eq}
 use Rattle.octets.specs.Lists.{tab}
-use Rattle.octets.proofs.AnswerLaws.{unless-number}
 use Rattle.octets.proofs.ListLaws.{length-tab, getD-tab}
 use Rattle.site.specs.declared.plan.Plan.{Plan}
 use Rattle.site.specs.Plans.{planRule, slots, controlAt, dataAt, discoveryAt}
@@ -19,12 +18,13 @@ use Rattle.site.specs.Schedules.{sleep, inControls, inData, kindOf}
 use Rattle.site.proofs.PlanLaws.{rule-bounds}
 use Rattle.site.proofs.SendingLaws.{one-sender-of-units, one-hop-of-units}
 use Rattle.members.specs.Members.{rowFor}
+use Rattle.members.proofs.LookupLaws.{found-same}
 use Rattle.book.specs.Books.{Stated, rowsAt, liveAt}
 use Rattle.book.specs.Schedules.{scheduleRefusal, scheduleOf}
-use Rattle.book.proofs.ScheduleLaws.{Schedulable, schedulable}
+use Rattle.book.proofs.ScheduleLaws.{Schedulable}
 use Rattle.keeping.specs.Laws.{holding, kindIn, OneSenderInBook, OneHopInBook}
-use Rattle.keeping.proofs.LookupLaws.{rows-differ}
-use Rattle.keeping.proofs.ManagerLaws.{within}
+use Rattle.keeping.proofs.CallLaws.{schedule-unrefused, schedule-allowed}
+use Rattle.keeping.proofs.WithinLaws.{within}
 use Rattle.keeping.proofs.HoldingLaws.{hold-apart}
 
 -- ---- a slot of a schedule that was written
@@ -37,12 +37,8 @@ stored n f out s d h l =
     ap (λ (t : List ℕ). getD t s d) whole ∙ List·getD-append (tab n f) rest d s (omega (arith, long)) ∙ getD-tab n f s d h
 
 module _ (b : Stated) (unit hop time : ℕ) (out : List ℕ) (e : scheduleOf b unit hop time out .said .refusal ≡ 0) where
-  unrefused : scheduleRefusal b unit hop time (liveAt b unit time) (length out) ≡ 0
-  unfolding scheduleOf
-  unrefused = sym (unless-number _ _) ∙ e
-
   may : Schedulable b unit hop time (liveAt b unit time) (length out)
-  may = schedulable b unit hop time (liveAt b unit time) (length out) unrefused
+  may = schedule-allowed b unit hop time out e
 
   plan-kept : planRule (b .plan) ≡ true
   plan-kept = within b (may .book) .plan
@@ -54,7 +50,7 @@ module _ (b : Stated) (unit hop time : ℕ) (out : List ℕ) (e : scheduleOf b u
       → kindIn (scheduleOf b unit hop time out .held) s ≡ kindOf (b .plan) (rowFor unit (rowsAt b time)) hop (holding b unit time) s
   unfolding scheduleOf
   kind-there s h =
-      rw (eq-eqb (scheduleRefusal b unit hop time (liveAt b unit time) (length out)) 0 unrefused)
+      rw (eq-eqb (scheduleRefusal b unit hop time (liveAt b unit time) (length out)) 0 (schedule-unrefused b unit hop time out e))
       (stored (slots (b .plan)) (kindOf (b .plan) (rowFor unit (rowsAt b time)) hop (holding b unit time)) out s sleep h (may .fits))
 
 -- ---- the regions are among the slots
@@ -75,7 +71,7 @@ one-sender-in-book b time unit unit′ hop hop′ out out′ e e′ n s region =
     let h = within-slots (b .plan) s (plan-kept b unit hop time out e) (before-discovery (b .plan) s region) in
     rw (kind-there b unit hop time out e s h, kind-there b unit′ hop′ time out′ e′ s h)
     (one-sender-of-units (b .plan) (rowFor unit rs) (rowFor unit′ rs) hop hop′ (holding b unit time) (holding b unit′ time)
-    (rows-differ rs unit unit′ (member-there b unit hop time out e) (member-there b unit′ hop′ time out′ e′) n)
+    (λ same. n (found-same rs unit unit′ (member-there b unit hop time out e) same))
     (hold-apart b time unit unit′ (may b unit hop time out e .book) n) s region)
 
 pub one-hop-in-book : OneHopInBook

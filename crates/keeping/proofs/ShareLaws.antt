@@ -4,42 +4,32 @@ use mathlib.Core.Path.{_≡_}
 use mathlib.Core.List.{List}
 use Prim.Native.Nat.{ℕ, _+_, _-_, _≤_, _<_, min}
 use native.Mathlib.Omega.{arith}
-use lib.ListN.{length, getD}
+use lib.ListN.{length}
 use Rattle.slots.specs.Sets.{Slots, count}
-use Rattle.members.specs.Members.{Row, emptyRow, vacantRow, rowFor, free, vacant, spare}
+use Rattle.slots.proofs.SetLaws.{in-left, in-right}
+use Rattle.members.specs.Members.{Row, vacantRow, rowFor, free, vacant, spare}
+use Rattle.members.proofs.RowLaws.{row}
 use Rattle.members.proofs.RowSums.{one}
 use Rattle.members.proofs.RowRuleLaws.{Ruled, Share, member-at, vacant-free}
 use Rattle.members.proofs.SeatLaws.{own-unfree, free-row}
 use Rattle.joins.specs.Joins.{wish, granted, asks}
-use Rattle.keeping.proofs.GrantLaws.{in-left, in-right, wish-bounds, count-granted, granted-free, count-brought, brought-from}
+use Rattle.keeping.proofs.GrantLaws.{lesser, count-granted, granted-free, count-brought, brought-from}
 
 -- a member's slots after its request are as many as it is due
-pub count-asks : (dataSlots : ℕ) (rs : List Row) (at asked : ℕ) → at < length rs → let own = getD rs at emptyRow .slots in
+pub count-asks : (dataSlots : ℕ) (rs : List Row) (at asked : ℕ) → at < length rs → let own = row rs at .slots in
     count (asks dataSlots rs own asked) ≡ min (wish asked) (count own + spare dataSlots rs)
 count-asks dataSlots rs at asked h =
-    let own = getD rs at emptyRow .slots in
+    let own = row rs at .slots in
     count-brought (min (wish asked) (count own + spare dataSlots rs)) own (free dataSlots rs) (own-unfree dataSlots rs at h)
     (enough (wish asked) (count own) (count (free dataSlots rs)) (vacant rs))
   where
     enough : (n c f v : ℕ) → min n (c + (f - v)) ≤ c + f
     enough n c f v = omega arith
 
--- the lesser of a wish and of what there is
-record Bounds (n there : ℕ) : Type 0 where
-  pub least : 1 ≤ n
-  pub most : n ≤ 4
-  pub spared : n ≤ there
-
-bounds : (asked n there : ℕ) → n ≡ min (wish asked) there → 1 ≤ there → Bounds n there
-bounds asked n there e h = go (wish asked) (wish-bounds asked .0) (wish-bounds asked .1) e
-  where
-    go : (w : ℕ) → 1 ≤ w → w ≤ 4 → n ≡ min w there → Bounds n there
-    go w p q e = record { least = omega (arith, p, e, h); most = omega (arith, q, e); spared = omega (arith, e) }
-
 module _ {manager dataSlots last : ℕ} {rs : List Row} (few : dataSlots ≤ 64) (g : Ruled manager dataSlots last rs) where
-  module _ (at : ℕ) (there : at < length rs) (used : getD rs at emptyRow .unit ≡ 0 → ⊥) where
+  module _ (at : ℕ) (there : at < length rs) (used : row rs at .unit ≡ 0 → ⊥) where
     abbrev own : Slots 64
-    own = getD rs at emptyRow .slots
+    own = row rs at .slots
 
     pub own-share : Share g at own
     own-share =
@@ -49,7 +39,7 @@ module _ {manager dataSlots last : ℕ} {rs : List Row} (few : dataSlots ≤ 64)
     pub asks-share : (asked : ℕ) → Share g at (asks dataSlots rs own asked)
     asks-share asked =
         let m = member-at g at there used in
-        let k = bounds asked _ (count own + spare dataSlots rs) (count-asks dataSlots rs at asked there) (omega (arith, m .least)) in
+        let k = lesser asked _ (count own + spare dataSlots rs) (count-asks dataSlots rs at asked there) (omega (arith, m .least)) in
         record {
           from = brought-from (min (wish asked) (count own + spare dataSlots rs)) own (free dataSlots rs);
           least = k .least;
@@ -59,8 +49,8 @@ module _ {manager dataSlots last : ℕ} {rs : List Row} (few : dataSlots ≤ 64)
 
   pub granted-share : (asked : ℕ) → 1 ≤ vacant rs → Share g (rowFor 0 rs) (granted dataSlots rs asked)
   granted-share asked some =
-      let old = getD rs (rowFor 0 rs) emptyRow in
-      let k = bounds asked _ (spare dataSlots rs + 1) (count-granted dataSlots rs asked some (vacant-free few g)) (omega arith) in
+      let old = row rs (rowFor 0 rs) in
+      let k = lesser asked _ (spare dataSlots rs + 1) (count-granted dataSlots rs asked some (vacant-free few g)) (omega arith) in
       let empty : one vacantRow old ≡ 1 = rw (free-row g some) in
       record {
         from = λ i h. in-right (old .slots) (free dataSlots rs) i (granted-free dataSlots rs asked i h);

@@ -1,22 +1,19 @@
--- A book within rule, in its parts, and the book after a call that writes one row.
+-- A book within rule, in its parts.
 -- Assumes nothing.
-use mathlib.Core.Path.{_≡_, ap, _∙_}
+use mathlib.Core.Path.{_≡_}
 use mathlib.Core.Bool.{Bool, true, _&&_, and-eq-true-iff}
 use mathlib.Core.List.{List}
-use Prim.Native.Nat.{ℕ, _≤_, _<_}
+use Prim.Native.Nat.{ℕ, _≤_}
 use native.Mathlib.Omega.{arith}
-use lib.ListN.{length, drop, set, length-take}
-use lib.Seq.{take-set-lt, drop-set-lt}
+use lib.ListN.{drop}
 use Rattle.octets.specs.Lists.{every}
 use Rattle.moments.specs.Moments.{inOrder}
 use Rattle.site.specs.Plans.{planRule}
 use Rattle.site.proofs.PlanLaws.{rule-bounds}
-use Rattle.members.specs.Members.{Row, kept, current}
+use Rattle.members.specs.Members.{Row}
 use Rattle.members.specs.Rules.{emptyIs, rowsRule}
-use Rattle.members.proofs.RowLaws.{length-current, every-behind, current-set}
-use Rattle.members.proofs.RowRuleLaws.{empty-is, Ruled, ruled, rules, ruled-current, ruled-later}
-use Rattle.book.specs.Books.{Stated, rowsIn, withinRule, rowsAt, placesAt, withRow}
-use Rattle.book.proofs.VisitLaws.{take-current}
+use Rattle.members.proofs.RowRuleLaws.{Ruled, ruled, rules, ruled-current, ruled-later}
+use Rattle.book.specs.Books.{Stated, rowsIn, withinRule, rowsAt}
 
 -- the rows of a book within rule, of a plan that they share
 abbrev pub RowsRuled : Stated → ℕ → List Row → Type 0
@@ -47,27 +44,3 @@ module _ (b : Stated) where
   -- its rows at a time that is accepted
   pub rows-then : Within b → (time : ℕ) → inOrder (b .time) time ≡ true → RowsRuled b time (rowsAt b time)
   rows-then w time h = ruled-later h (ruled-current time (w .rows))
-
--- ---- one row written
-module _ (b : Stated) (time at : ℕ) (r : Row) (there : at < length (rowsAt b time)) where
-  among-rows : at < b .plan .rows
-  among-rows = omega (arith, there, length-current time (rowsIn b), length-take (b .plan .rows) (b .places))
-
-  pub rows-written : rowsIn (withRow b time at r) ≡ set (rowsAt b time) at r
-  rows-written =
-      take-set-lt (b .plan .rows) (placesAt b time) at r among-rows ∙ ap (λ (rs : List Row). set rs at r) (take-current time (b .plan .rows) (b .places))
-
-  -- where the row is not silent, these are the rows at that time
-  pub rows-at-written : kept time r ≡ r → rowsAt (withRow b time at r) time ≡ set (rowsAt b time) at r
-  rows-at-written e = ap (current time) rows-written ∙ current-set time (rowsIn b) at r e
-
-  pub within-written : Within b → RowsRuled b time (set (rowsAt b time) at r) → withinRule (withRow b time at r) ≡ true
-  within-written w g =
-      by-parts (withRow b time at r) (record {
-        plan = w .plan;
-        few = w .few;
-        rows = rw rows-written g;
-        behind =
-            rw (drop-set-lt (b .plan .rows) (placesAt b time) at r among-rows)
-            (every-behind emptyIs empty-is time (b .plan .rows) (b .places) (w .behind));
-      })

@@ -1,14 +1,19 @@
--- Rows one by one: a test that every row passes, silent rows dropped, one row written.
+-- Rows one by one: a test that every row passes, silent rows dropped, one row written, the rows at a time.
 -- Assumes nothing.
-use mathlib.Core.Path.{_≡_, refl, ap, ap₂}
+use mathlib.Core.Path.{_≡_, refl, sym, ap, ap₂, _∙_}
 use mathlib.Core.Bool.{Bool, true, false, cond, and-eq-true-iff}
 use mathlib.Core.List.{List, [], _∷_, map}
 use Prim.Native.Nat.{ℕ, zero, suc}
+use native.Mathlib.Decide.{ℕ-discrete}
 use lib.Dec.{leb}
-use lib.ListN.{length, set, drop, length-map}
+use lib.ListN.{length, getD, set, drop, length-map, List·getD-map}
 use Rattle.octets.specs.Lists.{every}
 use Rattle.moments.specs.Moments.{ageAt}
 use Rattle.members.specs.Members.{Row, emptyRow, kept, current}
+
+-- the row at a place, zeros past the end
+abbrev pub row : List Row → ℕ → Row
+row rs i = getD rs i emptyRow
 
 -- ---- every row
 -- what holds of every row by what held of it before
@@ -28,13 +33,13 @@ every-set test (a ∷ rs) (suc at) r h e =
     and-eq-true-iff (test a) (every test (set rs at r)) .1 (here, every-set test rs at r h later)
 
 -- ---- silent rows dropped
--- what holds of a row and of an empty one holds of the row that is kept
-pub kept-either : (P : Row → Type 0) (time : ℕ) (r : Row) → P r → P emptyRow → P (kept time r)
-kept-either P time r p q = go (leb (ageAt time (r .time)) 300000)
+-- what holds of a row where it is live, and of an empty one, holds of the row that is kept
+pub kept-either : (P : Row → Type 0) (time : ℕ) (r : Row) → (leb (ageAt time (r .time)) 300000 ≡ true → P r) → P emptyRow → P (kept time r)
+kept-either P time r p q = go (leb (ageAt time (r .time)) 300000) refl
   where
-    go : (b : Bool) → P (cond b r emptyRow)
-    go true = p
-    go false = q
+    go : (b : Bool) → leb (ageAt time (r .time)) 300000 ≡ b → P (cond b r emptyRow)
+    go true e = p e
+    go false e = q
 
 every-dropped : (test : Row → Bool) → test emptyRow ≡ true → (time : ℕ) (rs : List Row) → every test rs ≡ true → every test (map (kept time) rs) ≡ true
 unfolding every
@@ -42,7 +47,7 @@ every-dropped test empty time [] e = refl
 every-dropped test empty time (r ∷ rs) e =
     let (here, later) = and-eq-true-iff (test r) (every test rs) .0 e in
     and-eq-true-iff (test (kept time r)) (every test (map (kept time) rs)) .1
-    (kept-either (λ k. test k ≡ true) time r here empty, every-dropped test empty time rs later)
+    (kept-either (λ k. test k ≡ true) time r (λ e. here) empty, every-dropped test empty time rs later)
 
 pub every-current : (test : Row → Bool) → test emptyRow ≡ true → (time : ℕ) (rs : List Row) → every test rs ≡ true → every test (current time rs) ≡ true
 unfolding every current
@@ -69,15 +74,11 @@ every-behind test empty time (suc n) (r ∷ rs) e = go n rs e
     go (suc n) (r ∷ rs) e = go n rs e
 
 -- ---- dropped twice
-kept-empty : (time : ℕ) → kept time emptyRow ≡ emptyRow
-kept-empty time = kept-either (λ k. k ≡ emptyRow) time emptyRow refl refl
+pub kept-empty : (time : ℕ) → kept time emptyRow ≡ emptyRow
+kept-empty time = kept-either (λ k. k ≡ emptyRow) time emptyRow (λ e. refl) refl
 
 kept-kept : (time : ℕ) (r : Row) → kept time (kept time r) ≡ kept time r
-kept-kept time r = go (leb (ageAt time (r .time)) 300000) refl
-  where
-    go : (b : Bool) → leb (ageAt time (r .time)) 300000 ≡ b → kept time (cond b r emptyRow) ≡ cond b r emptyRow
-    go true e = rw e
-    go false e = kept-empty time
+kept-kept time r = kept-either (λ k. kept time k ≡ k) time r (λ e. rw e) (kept-empty time)
 
 cons : {a b : Row} {l m : List Row} → a ≡ b → l ≡ m → a ∷ l ≡ b ∷ m
 cons p q = ap₂ _∷_ p q
@@ -97,3 +98,23 @@ unfolding current
 current-set time [] at r e = refl
 current-set time (a ∷ rs) zero r e = cons refl (dropped-twice time rs)
 current-set time (a ∷ rs) (suc at) r e = cons refl (dropped-set time rs at r e)
+
+-- ---- the row at a place, at a time
+pub first-stays : (time : ℕ) (rs : List Row) → row (current time rs) 0 ≡ row rs 0
+unfolding current
+first-stays time [] = refl
+first-stays time (r ∷ rs) = refl
+
+pub others-kept : (time : ℕ) (rs : List Row) (i : ℕ) → (i ≡ 0 → ⊥) → row (current time rs) i ≡ kept time (row rs i)
+unfolding current
+others-kept time [] i n = sym (kept-empty time)
+others-kept time (r ∷ rs) zero n = absurd (n refl)
+others-kept time (r ∷ rs) (suc i) n = ap (getD (map (kept time) rs) i) (sym (kept-empty time)) ∙ List·getD-map (kept time) rs i emptyRow
+
+-- one that is some unit's then is the row as it was
+pub still : (time : ℕ) (rs : List Row) (i : ℕ) → (row (current time rs) i .unit ≡ 0 → ⊥) → row (current time rs) i ≡ row rs i
+still time rs i = go (ℕ-discrete i 0)
+  where
+    go : Dec (i ≡ 0) → (row (current time rs) i .unit ≡ 0 → ⊥) → row (current time rs) i ≡ row rs i
+    go (yes z) = λ n. rw z (first-stays time rs)
+    go (no z) = rw (others-kept time rs i z) (kept-either (λ k. (k .unit ≡ 0 → ⊥) → k ≡ row rs i) time (row rs i) (λ e n. refl) (λ n. absurd (n refl)))

@@ -1,25 +1,25 @@
 -- The rule of rows as sums, and what keeps it: silent rows dropped, a member's row written, a row emptied.
 -- Assumes nothing.
 use mathlib.Core.Path.{_≡_, refl, sym, ap, _∙_}
-use mathlib.Core.Bool.{Bool, true, false, not, _&&_, _||_, cond, false≢true, and-eq-true-iff}
+use mathlib.Core.Bool.{Bool, true, false, _&&_, cond, false≢true, and-eq-true-iff}
 use mathlib.Core.List.{List, [], _∷_}
 use Prim.Native.Nat.{ℕ, zero, suc, _+_, _≤_, _<_}
 use native.Mathlib.Omega.{arith}
-use borrow.Author.Tests.{eq-eqb, ne-eqb, eqb-true, le-leb, leb-true, not-true}
+use borrow.Author.Tests.{eq-eqb, ne-eqb, eqb-true, le-leb, leb-true}
 use lib.Dec.{eqb, leb}
-use lib.ListN.{length, getD, set}
+use lib.ListN.{length, set}
 use Rattle.octets.specs.Lists.{every}
 use Rattle.octets.proofs.ListLaws.{every-at}
 use Rattle.moments.specs.Moments.{inOrder}
 use Rattle.moments.proofs.MomentLaws.{in-order-on}
 use Rattle.shapes.specs.Rules.{address}
-use Rattle.slots.specs.Sets.{Slots, has, count, isEmpty, Subset, noSlots, union, meet, minus, disjoint, firsts}
-use Rattle.slots.proofs.SetLaws.{same-slots, nothing-has, union-has, meet-has, minus-has, empty-is-nothing, subset-by-minus}
+use Rattle.slots.specs.Sets.{Slots, has, count, isEmpty, Subset, noSlots, union, minus, disjoint, firsts}
+use Rattle.slots.proofs.SetLaws.{nothing-has, empty-is-nothing, subset-by-minus, union-either, in-union, minus-both, meet-subset}
 use Rattle.slots.proofs.CountLaws.{empty-by-count, count-of-union, count-of-minus}
 use Rattle.slots.proofs.LowestLaws.{count-of-firsts}
-use Rattle.members.specs.Members.{Row, emptyRow, vacantRow, current, held, free, vacant, spare}
+use Rattle.members.specs.Members.{Row, emptyRow, vacantRow, current, rowFor, held, free, vacant, spare}
 use Rattle.members.specs.Rules.{emptyIs, rowRule, distinct, apart, ledBy, rowsRule}
-use Rattle.members.proofs.RowLaws.{every-on, every-current, every-set}
+use Rattle.members.proofs.RowLaws.{row, every-on, every-current, every-set}
 use Rattle.members.proofs.RowSums.{weigh, weigh-set, weigh-current, one, tally, ofUnit, owns, distinct-tally, tally-distinct, held-none, apart-tally, tally-apart}
 
 -- ---- one row
@@ -123,24 +123,10 @@ count-held (r ∷ rs) e =
 
 held-inside : (dataSlots last : ℕ) (rs : List Row) → every (rowRule dataSlots last) rs ≡ true → Subset (held rs) (firsts dataSlots)
 unfolding held every
-held-inside dataSlots last [] e i h = absurd (false≢true (sym (nothing-has 64 i) ∙ h))
-held-inside dataSlots last (r ∷ rs) e i h =
+held-inside dataSlots last [] e = λ i h. absurd (false≢true (sym (nothing-has 64 i) ∙ h))
+held-inside dataSlots last (r ∷ rs) e =
     let (here, later) = and-eq-true-iff (rowRule dataSlots last r) (every (rowRule dataSlots last) rs) .0 e in
-    go (has (r .slots) i) refl (rule-inside dataSlots last r here i) (held-inside dataSlots last rs later i) (sym (union-has 64 (r .slots) (held rs) i) ∙ h)
-  where
-    go : (b : Bool) → has (r .slots) i ≡ b → (has (r .slots) i ≡ true → has (firsts dataSlots) i ≡ true) → (has (held rs) i ≡ true → has (firsts dataSlots) i ≡ true)
-        → (has (r .slots) i || has (held rs) i) ≡ true → has (firsts dataSlots) i ≡ true
-    go true q f g u = f q
-    go false q f g u = g (rw q at u)
-
--- a set that lies in another is what both have
-meet-subset : (s t : Slots 64) → Subset t s → meet s t ≡ t
-meet-subset s t h = same-slots 64 (meet s t) t (λ i. meet-has 64 s t i ∙ go (has s i) (has t i) (h i))
-  where
-    go : (a b : Bool) → (b ≡ true → a ≡ true) → (a && b) ≡ b
-    go true b f = refl
-    go false true f = f refl
-    go false false f = refl
+    in-union (r .slots) (held rs) (firsts dataSlots) (rule-inside dataSlots last r here) (held-inside dataSlots last rs later)
 
 -- free slots and those held are all the data slots
 pub accounted : (dataSlots last : ℕ) (rs : List Row) → dataSlots ≤ 64 → every (rowRule dataSlots last) rs ≡ true → apart rs ≡ true
@@ -229,9 +215,9 @@ record Fits (manager dataSlots last : ℕ) (rs : List Row) (at : ℕ) (r : Row) 
   pub there : at < length rs
   pub leads : at ≡ 0 → r .unit ≡ manager
   pub rule : rowRule dataSlots last r ≡ true
-  pub units : (unit : ℕ) → (unit ≡ 0 → ⊥) → tally (ofUnit unit) rs + one (ofUnit unit) r ≤ 1 + one (ofUnit unit) (getD rs at emptyRow)
-  pub owners : (slot : ℕ) → tally (owns slot) rs + one (owns slot) r ≤ 1 + one (owns slot) (getD rs at emptyRow)
-  pub room : weigh needs rs + needs r ≤ dataSlots + needs (getD rs at emptyRow)
+  pub units : (unit : ℕ) → (unit ≡ 0 → ⊥) → tally (ofUnit unit) rs + one (ofUnit unit) r ≤ 1 + one (ofUnit unit) (row rs at)
+  pub owners : (slot : ℕ) → tally (owns slot) rs + one (owns slot) r ≤ 1 + one (owns slot) (row rs at)
+  pub room : weigh needs rs + needs r ≤ dataSlots + needs (row rs at)
 
 led-set : (manager : ℕ) (rs : List Row) (at : ℕ) (r : Row) → (at ≡ 0 → r .unit ≡ manager) → ledBy manager rs ≡ true → ledBy manager (set rs at r) ≡ true
 led-set manager [] at r h e = e
@@ -240,7 +226,7 @@ led-set manager (a ∷ rs) (suc at) r h e = e
 
 module _ {manager dataSlots last : ℕ} {rs : List Row} (g : Ruled manager dataSlots last rs) (at : ℕ) where
   abbrev old : Row
-  old = getD rs at emptyRow
+  old = row rs at
 
   pub rule-at : at < length rs → rowRule dataSlots last old ≡ true
   rule-at h = every-at (rowRule dataSlots last) rs at emptyRow (g .each) h
@@ -270,9 +256,11 @@ module _ {manager dataSlots last : ℕ} {rs : List Row} (g : Ruled manager dataS
         room = omega (arith, g .room, rule-needs dataSlots last old (rule-at h));
       })
 
-  -- a unit may have the row: it has no other
+  -- a unit may have the row: it is its own or free, and it has no other
   pub record Seat (unit : ℕ) : Type 0 where
     pub there : at < length rs
+    pub own : (old .unit ≡ 0 → ⊥) → old .unit ≡ unit
+    pub first : at ≤ rowFor unit rs
     pub leads : at ≡ 0 → unit ≡ manager
     pub alone : tally (ofUnit unit) rs ≤ one (ofUnit unit) old
 
@@ -286,14 +274,9 @@ module _ {manager dataSlots last : ℕ} {rs : List Row} (g : Ruled manager dataS
   module _ (small : dataSlots ≤ 64) (r : Row) (seat : Seat (r .unit)) (share : Share (r .slots)) (is-address : address (r .unit) ≡ true) (past : inOrder (r .time) last ≡ true) where
     -- a slot of it was the row's, or no one's
     taken : {P : Type 0} (i : ℕ) → has (r .slots) i ≡ true → (has (old .slots) i ≡ true → P) → (has (firsts dataSlots) i ≡ true → has (held rs) i ≡ false → P) → P
-    taken {P} i h f g = go (has (old .slots) i) (has (free dataSlots rs) i) refl refl (sym (union-has 64 (old .slots) (free dataSlots rs) i) ∙ share .from i h)
-      where
-        go : (a b : Bool) → has (old .slots) i ≡ a → has (free dataSlots rs) i ≡ b → (a || b) ≡ true → P
-        go true b p q e = f p
-        go false true p q e =
-            let (in-firsts, unheld) = and-eq-true-iff (has (firsts dataSlots) i) (not (has (held rs) i)) .0 (sym (minus-has 64 (firsts dataSlots) (held rs) i) ∙ q) in
-            g in-firsts (not-true (has (held rs) i) unheld)
-        go false false p q e = absurd (false≢true e)
+    taken i h f g =
+        union-either (old .slots) (free dataSlots rs) i (share .from i h) f
+        (λ e. let (in-firsts, unheld) = minus-both (firsts dataSlots) (held rs) i e in g in-firsts unheld)
 
     units-taken : (unit : ℕ) → (unit ≡ 0 → ⊥) → tally (ofUnit unit) rs + one (ofUnit unit) r ≤ 1 + one (ofUnit unit) old
     units-taken unit z = go (ofUnit unit r) refl

@@ -4,17 +4,17 @@ use mathlib.Core.Path.{_≡_, refl, sym, ap, _∙_}
 use mathlib.Core.Bool.{Bool, true, false, not, _&&_, _||_, cond, false≢true, and-eq-true-iff}
 use mathlib.Core.List.{List, [], _∷_, map}
 use Prim.Native.Nat.{ℕ, zero, suc, _+_, _≤_, _<_}
+use native.Mathlib.Decide.{ℕ-discrete}
 use native.Mathlib.Omega.{arith}
-use native.Mathlib.Numerals.{one-add}
-use borrow.Author.Tests.{eq-eqb, ne-eqb, eqb-true, eqb-false, lt-ltb, ltb-true, not-true, not-false}
-use lib.Dec.{eqb, ltb, leb·suc-suc}
-use lib.ListN.{length, getD, set}
+use borrow.Author.Tests.{eq-eqb, ne-eqb, eqb-true, eqb-false, not-true, not-false}
+use lib.Dec.{eqb}
+use lib.ListN.{length, set}
 use Rattle.octets.specs.Lists.{every}
 use Rattle.slots.specs.Sets.{has, Subset, disjoint}
 use Rattle.slots.proofs.SetLaws.{union-has, nothing-has, disjoint-is-apart}
-use Rattle.members.specs.Members.{Row, emptyRow, vacantRow, kept, current, rowFor, held, vacant}
+use Rattle.members.specs.Members.{Row, emptyRow, vacantRow, kept, current, held, vacant}
 use Rattle.members.specs.Rules.{unknownIn, distinct, apart}
-use Rattle.members.proofs.RowLaws.{kept-either}
+use Rattle.members.proofs.RowLaws.{row, kept-either}
 
 -- the weights of all rows together
 unfoldable pub weigh : (Row → ℕ) → List Row → ℕ
@@ -23,18 +23,27 @@ weigh w (r ∷ rs) = w r + weigh w rs
 
 -- to write a row changes its term
 pub weigh-set : (w : Row → ℕ) (rs : List Row) (at : ℕ) (r : Row) → at < length rs
-    → weigh w (set rs at r) + w (getD rs at emptyRow) ≡ weigh w rs + w r
+    → weigh w (set rs at r) + w (row rs at) ≡ weigh w rs + w r
 unfolding weigh
 weigh-set w [] at r h = absurd (omega arith)
 weigh-set w (a ∷ rs) zero r h = omega arith
 weigh-set w (a ∷ rs) (suc at) r h = omega (arith, weigh-set w rs at r (omega arith))
 
 -- each row's weight is among them
-pub weigh-at : (w : Row → ℕ) (rs : List Row) (at : ℕ) → at < length rs → w (getD rs at emptyRow) ≤ weigh w rs
+pub weigh-at : (w : Row → ℕ) (rs : List Row) (at : ℕ) → at < length rs → w (row rs at) ≤ weigh w rs
 unfolding weigh
 weigh-at w [] at h = absurd (omega arith)
 weigh-at w (a ∷ rs) zero h = omega arith
 weigh-at w (a ∷ rs) (suc at) h = omega (arith, weigh-at w rs at (omega arith))
+
+-- and so are those of two rows
+weigh-two : (w : Row → ℕ) (rs : List Row) (i j : ℕ) → (i ≡ j → ⊥) → i < length rs → j < length rs → w (row rs i) + w (row rs j) ≤ weigh w rs
+unfolding weigh
+weigh-two w [] i j n h l = absurd (omega arith)
+weigh-two w (a ∷ rs) zero zero n h l = absurd (n refl)
+weigh-two w (a ∷ rs) zero (suc j) n h l = omega (arith, weigh-at w rs j (omega arith))
+weigh-two w (a ∷ rs) (suc i) zero n h l = omega (arith, weigh-at w rs i (omega arith))
+weigh-two w (a ∷ rs) (suc i) (suc j) n h l = omega (arith, weigh-two w rs i j (λ e. n (ap suc e)) (omega arith) (omega arith))
 
 -- ---- silent rows dropped
 -- where no row weighs less than an empty one, dropping adds no weight
@@ -44,7 +53,7 @@ unfolding weigh every
 weigh-dropped w test least time [] e = omega arith
 weigh-dropped w test least time (r ∷ rs) e =
     let (here, later) = and-eq-true-iff (test r) (every test rs) .0 e in
-    let one : w (kept time r) ≤ w r = kept-either (λ k. w k ≤ w r) time r (omega arith) (least r here) in
+    let one : w (kept time r) ≤ w r = kept-either (λ k. w k ≤ w r) time r (λ e. omega arith) (least r here) in
     omega (arith, one, weigh-dropped w test least time rs later)
 
 pub weigh-current : (w : Row → ℕ) (test : Row → Bool) → ((r : Row) → test r ≡ true → w emptyRow ≤ w r)
@@ -86,8 +95,24 @@ module _ (test : Row → Bool) (r : Row) (rs : List Row) where
   unfolding weigh
   alone-behind l = omega arith
 
+-- where no empty row passes, the places that do are rows; and if at most one passes, they are one place
+module _ (test : Row → Bool) (empty : test emptyRow ≡ false) where
+  pub passes-there : (rs : List Row) (i : ℕ) → test (row rs i) ≡ true → i < length rs
+  passes-there [] i e = absurd (false≢true (sym empty ∙ e))
+  passes-there (r ∷ rs) zero e = omega arith
+  passes-there (r ∷ rs) (suc i) e = omega (arith, passes-there rs i e)
+
+  pub only-one : (rs : List Row) → tally test rs ≤ 1 → (i j : ℕ) → test (row rs i) ≡ true → test (row rs j) ≡ true → i ≡ j
+  only-one rs l i j p q = go (ℕ-discrete i j)
+    where
+      go : Dec (i ≡ j) → i ≡ j
+      go (yes e) = e
+      go (no n) =
+          let two : 1 + 1 ≤ tally test rs = rw (p, q) at (weigh-two (one test) rs i j n (passes-there rs i p) (passes-there rs j q)) in
+          absurd (omega (arith, two))
+
 -- a question that asks row by row whether one passes
-some-tally : (test : Row → Bool) (some : List Row → Bool) → some [] ≡ false → ((r : Row) (rs : List Row) → some (r ∷ rs) ≡ (test r || some rs))
+pub some-tally : (test : Row → Bool) (some : List Row → Bool) → some [] ≡ false → ((r : Row) (rs : List Row) → some (r ∷ rs) ≡ (test r || some rs))
     → (rs : List Row) → some rs ≡ not (eqb (tally test rs) 0)
 unfolding weigh
 some-tally test some none more [] = none
@@ -118,43 +143,6 @@ not-not false false e = refl
 
 pub unknown-tally : (unit : ℕ) (rs : List Row) → unknownIn unit rs ≡ eqb (tally (ofUnit unit) rs) 0
 unknown-tally unit rs = not-not _ _ (known-tally unit rs)
-
--- a unit is found exactly if it has a row
-pub found-tally : (unit : ℕ) (rs : List Row) → ltb (rowFor unit rs) (length rs) ≡ not (eqb (tally (ofUnit unit) rs) 0)
-unfolding rowFor
-found-tally unit = some-tally (ofUnit unit) (λ rs. ltb (rowFor unit rs) (length rs)) refl (λ r rs. go (ofUnit unit r) (rowFor unit rs) (length rs))
-  where
-    go : (b : Bool) (at n : ℕ) → ltb (cond b 0 (1 + at)) (suc n) ≡ (b || ltb at n)
-    go true at n = lt-ltb 0 (suc n) (omega arith)
-    go false at n = rw one-add (leb·suc-suc (suc at) n)
-
-module _ (unit : ℕ) (rs : List Row) where
-  pub found-one : 1 ≤ tally (ofUnit unit) rs → rowFor unit rs < length rs
-  found-one h = ltb-true (rowFor unit rs) (length rs) (found-tally unit rs ∙ ap not (ne-eqb (tally (ofUnit unit) rs) 0 (λ z. omega (arith, z))))
-
-  pub found-none : ltb (rowFor unit rs) (length rs) ≡ false → tally (ofUnit unit) rs ≡ 0
-  found-none e = eqb-true (tally (ofUnit unit) rs) 0 (not-false (eqb (tally (ofUnit unit) rs) 0) (sym (found-tally unit rs) ∙ e))
-
-pub found-unit : (unit : ℕ) (rs : List Row) → rowFor unit rs < length rs → getD rs (rowFor unit rs) emptyRow .unit ≡ unit
-unfolding rowFor
-found-unit unit [] h = absurd (omega arith)
-found-unit unit (r ∷ rs) h = go (ofUnit unit r) refl (found-unit unit rs) h
-  where
-    go : (b : Bool) → ofUnit unit r ≡ b → (rowFor unit rs < length rs → getD rs (rowFor unit rs) emptyRow .unit ≡ unit)
-        → cond b 0 (1 + rowFor unit rs) < length (r ∷ rs) → getD (r ∷ rs) (cond b 0 (1 + rowFor unit rs)) emptyRow .unit ≡ unit
-    go true e ih l = eqb-true (r .unit) unit e
-    go false e ih l = rw one-add (ih (omega arith))
-
--- where no row before has the unit, the row written is its row
-pub found-set : (unit : ℕ) (rs : List Row) (at : ℕ) (r : Row) → r .unit ≡ unit → at < length rs → at ≤ rowFor unit rs → rowFor unit (set rs at r) ≡ at
-unfolding rowFor
-found-set unit [] at r e h l = absurd (omega arith)
-found-set unit (a ∷ rs) zero r e h l = rw (eq-eqb (r .unit) unit e)
-found-set unit (a ∷ rs) (suc at) r e h l = go (ofUnit unit a) refl (found-set unit rs at r e (omega arith)) l
-  where
-    go : (b : Bool) → ofUnit unit a ≡ b → (at ≤ rowFor unit rs → rowFor unit (set rs at r) ≡ at) → suc at ≤ cond b 0 (1 + rowFor unit rs) → cond b 0 (1 + rowFor unit (set rs at r)) ≡ suc at
-    go true q ih l = absurd (omega arith)
-    go false q ih l = omega (arith, ih (omega arith))
 
 -- free rows are those of unit 0
 pub vacant-tally : (rs : List Row) → vacant rs ≡ tally (ofUnit 0) rs
@@ -205,7 +193,7 @@ module _ (slot : ℕ) (rs : List Row) where
   held-none e = eqb-true (tally (owns slot) rs) 0 (not-false (eqb (tally (owns slot) rs) 0) (sym (held-tally slot rs) ∙ e))
 
 -- what a row has is held
-pub own-held : (rs : List Row) (at : ℕ) → at < length rs → Subset (getD rs at emptyRow .slots) (held rs)
+pub own-held : (rs : List Row) (at : ℕ) → at < length rs → Subset (row rs at .slots) (held rs)
 own-held rs at h slot e =
     let one-owner : 1 ≤ tally (owns slot) rs = rw e at (weigh-at (one (owns slot)) rs at h) in
     held-tally slot rs ∙ ap not (ne-eqb (tally (owns slot) rs) 0 (λ z. omega (arith, z, one-owner)))

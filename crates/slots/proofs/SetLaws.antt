@@ -1,10 +1,11 @@
--- Which slots a set has: the statements of specs/Laws on that and on the tests, proved.
+-- Which slots a set has: the statements of specs/Laws on that and on the tests, proved, and sets within sets.
 -- Assumes nothing.
 use mathlib.Core.Path.{_≡_, refl, sym, ap, ap₂, _∙_}
-use mathlib.Core.Bool.{Bool, true, false, not, _&&_, _||_, false≢true, and-false}
+use mathlib.Core.Bool.{Bool, true, false, not, _&&_, _||_, false≢true, and-false, or-true, and-eq-true-iff}
 use Prim.Native.Nat.{ℕ, zero, suc}
+use borrow.Author.Tests.{not-true}
 use lib.Dec.{ltb, leb·zero, leb·suc-zero, leb·suc-suc}
-use Rattle.slots.specs.Sets.{Slots, [], _∷_, has, isEmpty, fill, slotwise, noSlots, allSlots, union, meet, minus, lowest, firsts}
+use Rattle.slots.specs.Sets.{Slots, [], _∷_, has, isEmpty, Subset, fill, slotwise, noSlots, allSlots, union, meet, minus, lowest, firsts}
 use Rattle.slots.specs.Laws.{SameSlots, NothingHas, UnionHas, MeetHas, MinusHas, FirstsHas, EmptyIsNothing, DisjointIsApart, SubsetByMinus}
 
 pub cons : {n : ℕ} {a b : Bool} {s t : Slots n} → a ≡ b → s ≡ t → a ∷ s ≡ b ∷ t
@@ -111,3 +112,35 @@ subset-by-minus n s t = (
   λ e i. only-with (has s i) (has t i) (sym (minus-has n s t i) ∙ empty-has (minus s t) e i),
   λ h. has-empty (minus s t) (λ i. minus-has n s t i ∙ never-without (has s i) (has t i) (h i)),
 )
+
+-- ---- what a slot of a union or a difference is in, and sets within sets
+module _ {n : ℕ} (s t : Slots n) where
+  pub union-either : {P : Type 0} (i : ℕ) → has (union s t) i ≡ true → (has s i ≡ true → P) → (has t i ≡ true → P) → P
+  union-either {P} i h f g = go (has s i) refl (sym (union-has n s t i) ∙ h)
+    where
+      go : (b : Bool) → has s i ≡ b → (b || has t i) ≡ true → P
+      go true q e = f q
+      go false q e = g e
+
+  pub in-union : (u : Slots n) → Subset s u → Subset t u → Subset (union s t) u
+  in-union u f g i h = union-either i h (f i) (g i)
+
+  pub in-left : Subset s (union s t)
+  in-left i h = union-has n s t i ∙ ap (λ (b : Bool). b || has t i) h
+
+  pub in-right : Subset t (union s t)
+  in-right i h = union-has n s t i ∙ (ap (λ (b : Bool). has s i || b) h ∙ or-true (has s i))
+
+  pub minus-both : (i : ℕ) → has (minus s t) i ≡ true → (has s i ≡ true) × (has t i ≡ false)
+  minus-both i h =
+      let (there, missing) = and-eq-true-iff (has s i) (not (has t i)) .0 (sym (minus-has n s t i) ∙ h) in
+      (there, not-true (has t i) missing)
+
+  -- a set that lies in another is what both have
+  pub meet-subset : Subset t s → meet s t ≡ t
+  meet-subset h = same-slots n (meet s t) t (λ i. meet-has n s t i ∙ go (has s i) (has t i) (h i))
+    where
+      go : (a b : Bool) → (b ≡ true → a ≡ true) → (a && b) ≡ b
+      go true b f = refl
+      go false true f = f refl
+      go false false f = refl

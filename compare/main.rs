@@ -1,22 +1,14 @@
 //! `compare` puts the same calls to the library and to an implementation written from the paper alone, subject by
 //! subject, and stops at the first difference. This file is the command line and the order of the subjects.
-//!
-//! The comparison of member books is built with `--cfg books` alone, until the library has the calls that it makes.
 
 #![deny(warnings)]
 
 mod bench;
-#[cfg(books)]
 mod book;
-#[cfg(books)]
 mod book_calls;
-#[cfg(books)]
 mod book_cases;
-#[cfg(books)]
 mod book_check;
-#[cfg(books)]
 mod book_drafts;
-#[cfg(books)]
 mod book_sweeps;
 mod boundary;
 mod clock;
@@ -35,7 +27,6 @@ mod routes_calls;
 mod routes_cases;
 mod routes_check;
 mod routes_drafts;
-#[cfg(books)]
 mod site;
 
 use report::{Difference, Progress, Tally};
@@ -73,7 +64,6 @@ pub struct Options {
     pub frames: u64,
     pub routes: u64,
     pub steps: u64,
-    #[cfg_attr(not(books), allow(dead_code))]
     pub books: u64,
     pub quiet: bool,
     pub help: bool,
@@ -90,7 +80,6 @@ const SUBJECTS: &[Subject] = &[
     Subject { name: "routes", check: routes_check::check },
     Subject { name: "life", check: life_check::check },
     Subject { name: "clock", check: clock_check::check },
-    #[cfg(books)]
     Subject { name: "books", check: book_check::check },
 ];
 

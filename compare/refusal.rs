@@ -26,10 +26,8 @@ pub enum Refusal {
     /// There is no usable route.
     NoRoute = 11,
     /// Every member row is live.
-    #[cfg_attr(not(books), allow(dead_code))]
     Full = 12,
     /// The unit is not a live member, or is the manager and asked to leave.
-    #[cfg_attr(not(books), allow(dead_code))]
     NotMember = 13,
     /// A plan, page, hop, superframe's length or clock's offset, or a table, book or state handed in, is out of rule.
     OutOfRule = 14,

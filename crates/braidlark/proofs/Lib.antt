@@ -1,4 +1,3 @@
-pub mod AnsweredLaws
 pub mod ClockCallLaws
 pub mod FrameCallLaws
 pub mod RelayCallLaws

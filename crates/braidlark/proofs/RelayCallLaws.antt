@@ -9,7 +9,7 @@ use borrow.Author.Tests.{ne-eqb, eqb-true}
 use lib.Dec.{eqb}
 use lib.ListN.{length, getD}
 use Rattle.octets.specs.Answers.{Said, accepted, refused}
-use Rattle.octets.proofs.CallLaws.{after-refused}
+use Rattle.octets.proofs.CallLaws.{after-refused, unfilled, filled}
 use Rattle.shapes.specs.Writing.{Wrote}
 use Rattle.frames.specs.declared.answers.Refusal.{Refusal}
 use Rattle.routes.specs.declared.table.Table.{Table}
@@ -20,10 +20,10 @@ use Rattle.relays.specs.declared.relaying.Relayed.{Relayed}
 use Rattle.relays.specs.Forwards.{Passed, passed, forwardOf}
 use Rattle.relays.specs.Relays.{dataIn, forUs, copyOf, relayRefusal, relayOf, relayed}
 use Rattle.relays.proofs.RelayLaws.{copy-short}
-use Rattle.stores.specs.TableBytes.{tableIn, isTable}
+use Rattle.stores.specs.TableBytes.{tableIn, tableBytes, isTable}
 use Rattle.braidlark.specs.RelayCalls.{relayLeft, relayCall, forwardLeft, forwardCall}
-use Rattle.braidlark.proofs.AnsweredLaws.{Valued, Answered, valued, answered, unwritten}
-use Rattle.braidlark.proofs.TableCallLaws.{WrittenBack, Left, changed}
+use Rattle.shapes.proofs.AnsweredLaws.{Valued, Answered, valued, answered, unwritten}
+use Rattle.braidlark.proofs.TableCallLaws.{WrittenBack, table-length, as-bytes}
 
 -- ---- relaying: one value is said of a payload for this unit, two of a copy
 abbrev Saying : Bool → ℕ → ℕ → ℕ → Said
@@ -113,19 +113,18 @@ module _ (s : List ℕ) (network : ℕ) (frame : List ℕ) (delay time : ℕ) (o
 
   module _ (known : isTable s ≡ true) (t : Table) (a : Forwarded) (held last : List ℕ) (status : ℕ) (r : t ≡ tableIn s)
       (e : passed a held ≡ forwardOf t network frame delay time out) (w : WrittenBack s last status (a .refused) (a .table)) where
-    left : Left (λ (x : Forwarded). x .refused) (λ (x : Forwarded). x .table) (λ (t : Table). forwardOf t network frame delay time out .answer) s last status
-        (forwardOf (tableIn s) network frame delay time out .answer)
-    left =
-        changed (λ (x : Forwarded). x .refused) (λ (x : Forwarded). x .table) (λ (t : Table). forwardOf t network frame delay time out .answer) s last true t a (a .refused) status (sym known) r (ap (λ (x : Passed). x .answer) e) refl w
+    of-table : passed a held ≡ forwardOf (tableIn s) network frame delay time out
+    of-table = rw r at e
 
     pub unforwarded : (status ≡ 0 → ⊥) → forwardLeft status last held written ≡ forwardCall s network frame delay time out written
     unfolding forwardCall
     unforwarded z =
         let kept : held ≡ out = ap (λ (x : Passed). x .held) e ∙ forward-kept t (λ q. z (w .0 ∙ (ap (λ (x : Passed). x .answer .refused) e ∙ q))) in
-        rw (← left .0, left .1, ← left .0, kept, ne-eqb status 0 z)
+        rw (← of-table) (unfilled forwardLeft s out written (isTable s) 539 last held status (a .refused) (tableBytes (a .table)) (a .written) known
+        (table-length s known) (as-bytes s last status (a .refused) (a .table) w) kept z)
 
     pub forwarded : status ≡ 0 → forwardLeft 0 last held (a .written) ≡ forwardCall s network frame delay time out written
     unfolding forwardCall
     forwarded z =
-        let f : passed a held ≡ forwardOf (tableIn s) network frame delay time out = rw r at e in
-        rw (left .1, ← left .0, z, ← f)
+        rw (← of-table) (filled forwardLeft s out written (isTable s) 539 last held status (a .refused) (tableBytes (a .table)) (a .written) known
+        (table-length s known) (as-bytes s last status (a .refused) (a .table) w) z)

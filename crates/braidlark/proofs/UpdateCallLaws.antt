@@ -2,13 +2,12 @@
 -- Assumes nothing.
 use mathlib.Core.Path.{_≡_, refl, sym, ap, _∙_}
 use mathlib.Core.Bool.{Bool, true, false, not, cond}
-use mathlib.Core.List.{List, [], _∷_}
+use mathlib.Core.List.{List, []}
 use Prim.Native.Nat.{ℕ, _≤_}
 use native.Mathlib.Omega.{arith}
-use lib.Dec.{eqb}
-use lib.ListN.{length, getD}
-use Rattle.octets.specs.Answers.{Said, accepted, refused, unless}
-use Rattle.octets.proofs.CallLaws.{after-refused}
+use lib.ListN.{length}
+use Rattle.octets.specs.Answers.{refused}
+use Rattle.octets.proofs.CallLaws.{after-refused, Left}
 use Rattle.shapes.specs.Writing.{Wrote}
 use Rattle.frames.specs.declared.answers.Refusal.{Refusal}
 use Rattle.frames.specs.declared.answers.Written.{Written}
@@ -18,18 +17,17 @@ use Rattle.merges.specs.declared.merging.Merged.{Merged}
 use Rattle.merges.specs.Merges.{mergeOf}
 use Rattle.relays.specs.Pages.{pageFrame, pageRefusal, pageOf}
 use Rattle.relays.proofs.PageLaws.{page-short}
-use Rattle.stores.specs.TableBytes.{tableIn, isTable}
+use Rattle.stores.specs.TableBytes.{tableIn, tableBytes, isTable}
 use Rattle.braidlark.specs.FrameCalls.{writeLeft}
 use Rattle.braidlark.specs.UpdateCalls.{mergeLeft, mergeCall, pageCall}
-use Rattle.braidlark.proofs.AnsweredLaws.{Answered, valued, answered, unwritten}
-use Rattle.braidlark.proofs.TableCallLaws.{WrittenBack, Left, changed}
+use Rattle.shapes.proofs.AnsweredLaws.{Answered, valued, said-value, answered, told-other, told-done, told-undone}
+use Rattle.braidlark.proofs.TableCallLaws.{WrittenBack, changed}
 
 -- ---- merging: the facts are what the callees ensure, in order
 module _ (s frame : List ℕ) (quality time skipped : ℕ) (last : List ℕ) (known : Bool) (t : Table) (a : Merged) (number status : ℕ)
     (k : known ≡ isTable s) (r : t ≡ tableIn s) (e : a ≡ mergeOf t frame quality time) (n : number ≡ cond (not known) 14 (a .refused))
     (w : WrittenBack s last status number (a .table)) where
-  left : Left (λ (x : Merged). x .refused) (λ (x : Merged). x .table) (λ (t : Table). mergeOf t frame quality time) s last status
-      (mergeOf (tableIn s) frame quality time)
+  left : Left (λ (x : Merged). x .refused) (λ (x : Merged). tableBytes (x .table)) (λ (t : Table). mergeOf t frame quality time) 539 s last (isTable s) (tableIn s) status
   left =
       changed (λ (x : Merged). x .refused) (λ (x : Merged). x .table) (λ (t : Table). mergeOf t frame quality time) s last known t a number status k r e n w
 
@@ -46,35 +44,28 @@ page-answered : (t : Table) (page time : ℕ) (out : List ℕ) → Answered out 
 unfolding pageOf
 page-answered t page time out = answered (pageRefusal t page time (length out)) _ out _ refl (valued (length (pageFrame t page time)) [])
 
--- the one value that is said where nothing refuses
-said-value : (n v w : ℕ) → accepted (w ∷ []) ≡ unless n (accepted (v ∷ [])) → w ≡ v
-said-value n v w = go (eqb n 0)
-  where
-    go : (b : Bool) → accepted (w ∷ []) ≡ cond b (accepted (v ∷ [])) (refused n) → w ≡ v
-    go true e = ap (λ (x : Said). getD (x .values) 0 0) e
-    go false e =
-        let l : _≡_ {A = ℕ} 1 0 = ap (λ (x : Said). length (x .values)) e in
-        omega arith
-
 module _ (s : List ℕ) (page time : ℕ) (out : List ℕ) (written : ℕ) where
   pub page-no-table : isTable s ≡ false → writeLeft 14 out written ≡ pageCall s page time out written
   unfolding pageCall
-  page-no-table e = rw e
+  page-no-table = told-other writeLeft out written (pageOf (tableIn s) page time out) (isTable s)
 
   module _ (w : Written) (held : List ℕ) (e : wrote w held ≡ pageOf (tableIn s) page time out) where
+    as-case : (x : Written) → w ≡ x → wrote x held ≡ pageOf (tableIn s) page time out
+    as-case x q = ap (λ (x : Written). wrote x held) (sym q) ∙ e
+
     pub page-size : (size : ℕ) → w ≡ Written.Done size → size ≤ 249
     unfolding pageOf
     page-size size q =
-        let same = said-value (pageRefusal (tableIn s) page time (length out)) (length (pageFrame (tableIn s) page time)) size (ap (λ (x : Wrote). x .said) (ap (λ (x : Written). wrote x held) (sym q) ∙ e)) in
+        let same = said-value (pageRefusal (tableIn s) page time (length out)) (length (pageFrame (tableIn s) page time)) size (ap (λ (x : Wrote). x .said) (as-case (Written.Done size) q)) in
         omega (arith, same, page-short (tableIn s) page time)
 
     module _ (known : isTable s ≡ true) where
       pub page-done : (size : ℕ) → w ≡ Written.Done size → writeLeft 0 held size ≡ pageCall s page time out written
       unfolding pageCall
-      page-done size q = rw (known, ← e, q)
+      page-done size q = told-done writeLeft out written (pageOf (tableIn s) page time out) (isTable s) known size held (as-case (Written.Done size) q)
 
       pub page-undone : (r : Refusal) → w ≡ Written.Refused r → writeLeft (r .number) held written ≡ pageCall s page time out written
       unfolding pageCall
       page-undone r q =
-          let (z, k) = unwritten out _ (page-answered (tableIn s) page time out) (r .number) held (ap (λ (x : Written). wrote x held) (sym q) ∙ e) in
-          rw (known, ← e, q, k, after-refused (r .number) out out z, after-refused (r .number) written 0 z)
+          told-undone writeLeft out written (pageOf (tableIn s) page time out) (isTable s) known (r .number) held (page-answered (tableIn s) page time out)
+          (as-case (Written.Refused r) q)

@@ -8,12 +8,12 @@ use native.Mathlib.Nat.{zero-add}
 use native.Mathlib.Numerals.{add-one}
 use native.Mathlib.Omega.{arith}
 use lib.ListN.{length, take, set, length-append, length-map}
-use lib.Seq.{sets, length-sets, take-all}
+use lib.Seq.{sets}
 use Rattle.octets.specs.Layouts.{bytes}
 use Rattle.octets.specs.Sums.{xors}
 use Rattle.octets.proofs.LayoutLaws.{length-bytes}
 use Rattle.octets.proofs.NumberLaws.{length-digits}
-use Rattle.octets.proofs.StoreLaws.{sets-append, take-sets}
+use Rattle.octets.proofs.StoreLaws.{sets-append, take-sets, sets-whole}
 use Rattle.shapes.proofs.SealLaws.{length-sealed}
 use Rattle.shapes.specs.Shape.{Kind, placeOf, sealed, frameOf}
 use Rattle.slots.specs.Sets.{Slots, has, count, [] as []ˢ, _∷_ as _∷ˢ_}
@@ -59,12 +59,6 @@ pub length-responses : (p : Plan) (unit time row : ℕ) (own : Slots 64) → len
 length-responses p unit time row own = length-told 64 p unit time row own
 
 -- ---- one frame
--- in room of its length: what fills a room is what it then holds
-fills : (vs room : List ℕ) → length vs ≡ length room → sets room 0 vs ≡ vs
-fills vs room e =
-    let n = length room in
-    sym (take-all n (sets room 0 vs) (omega (arith, length-sets room 0 vs))) ∙ take-sets room vs n e (omega arith)
-
 -- the type and the fields of a kind that has nothing behind them, and the checksum
 pub sealed-alone : (k : Kind) (vs room : List ℕ) (sum : ℕ) → length (k .widths) ≡ length vs → length room ≡ placeOf k + 1
     → sum ≡ xors 0 (take (placeOf k) (sets room 0 (bytes (1 ∷ k .widths) (k .code ∷ vs))))
@@ -77,7 +71,7 @@ sealed-alone k vs room sum v r e =
     let s : sum ≡ xors 0 bs = e ∙ ap (xors 0) (take-sets room bs n l (omega arith)) in
     let m = length-append bs (xors 0 bs ∷ []) in
     let w : sets room 0 (bs ++ (xors 0 bs ∷ [])) ≡ set (sets room 0 bs) n (xors 0 bs) = sets-append bs (xors 0 bs ∷ []) room 0 ∙ rw (zero-add, l) in
-    rw (append-nil bs, s) (sym w ∙ fills (bs ++ (xors 0 bs ∷ [])) room (omega arith))
+    rw (append-nil bs, s) (sym w ∙ sets-whole room (bs ++ (xors 0 bs ∷ [])) (omega arith))
 
 -- ---- the loop
 -- what is left to tell from a slot on

@@ -1,7 +1,7 @@
 -- Runs of stores: one behind the other, past the end, and a turn of each loop that makes one.
 -- Assumes nothing.
 use mathlib.Core.Path.{_≡_, refl, sym, ap, _∙_}
-use mathlib.Core.List.{List, [], _∷_, _++_}
+use mathlib.Core.List.{List, [], _∷_, _++_, append-nil}
 use Prim.Native.Nat.{ℕ, zero, suc, _+_, _-_, _*_, _^_, _/_, _%_, _≤_, _<_, min}
 use native.Mathlib.Nat.{add-zero, zero-add, add-suc, suc-add, mul-comm, pow-succ', div-one, div-div-eq-div-mul}
 use native.Mathlib.Numerals.{add-one}
@@ -27,6 +27,12 @@ module _ {A : Type 0} where
   -- what was stored from 0 on is what stands first
   pub take-sets : (l vs : List A) (n : ℕ) → length vs ≡ n → n ≤ length l → take n (sets l 0 vs) ≡ vs
   take-sets l vs n e h = rw (sets-eq vs l 0 (omega arith)) (take-at vs _ n e)
+
+  -- what is stored over as many places as it has is all that is then held
+  pub sets-whole : (l vs : List A) → length vs ≡ length l → sets l 0 vs ≡ vs
+  sets-whole l vs e =
+      let h : length l ≤ 0 + length vs = omega arith in
+      sets-eq vs l 0 (omega arith) ∙ rw (drop-of-length-le l h) (append-nil vs)
 
   -- a turn of a loop that copies s into l from `at` on
   pub copy-turn : (l s : List A) (at k : ℕ) (d : A) → k < length s

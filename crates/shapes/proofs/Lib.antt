@@ -1,2 +1,3 @@
+pub mod AnsweredLaws
 pub mod ReadingLaws
 pub mod SealLaws

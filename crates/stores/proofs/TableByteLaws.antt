@@ -1,11 +1,11 @@
 -- The bytes of a table: its rows one behind the other, how many they all are, the rows behind the head, and all of it stored.
 -- Assumes nothing.
 use mathlib.Core.Path.{_≡_, refl, sym, _∙_}
-use mathlib.Core.List.{List, append-nil}
-use Prim.Native.Nat.{ℕ, _+_, _≤_}
+use mathlib.Core.List.{List}
+use Prim.Native.Nat.{ℕ}
 use native.Mathlib.Omega.{arith}
-use lib.ListN.{length, length-append, drop-of-length-le}
-use lib.Seq.{sets, sets-eq}
+use lib.ListN.{length, length-append}
+use lib.Seq.{sets}
 use Rattle.octets.specs.Layouts.{bytes}
 use Rattle.octets.proofs.StoreLaws.{sets-append}
 use Rattle.octets.proofs.LayoutLaws.{length-bytes}
@@ -29,10 +29,3 @@ length-table t e =
 pub head-first : (l : List ℕ) (t : Table) → sets (sets l 0 (bytes headWidths (headValues t))) 11 (rowsBytes (t .rows)) ≡ sets l 0 (tableBytes t)
 unfolding tableBytes
 head-first l t = sym (sets-append (bytes headWidths (headValues t)) (rowsBytes (t .rows)) l 0 ∙ rw (length-head t))
-
--- a table that is stored over as many bytes as it has is all of them
-pub stored-whole : (s : List ℕ) (t : Table) → length s ≡ 539 → length (t .rows) ≡ 48 → sets s 0 (tableBytes t) ≡ tableBytes t
-stored-whole s t l e =
-    let n = length-table t e in
-    let h : length s ≤ 0 + length (tableBytes t) = omega arith in
-    sets-eq (tableBytes t) s 0 (omega arith) ∙ rw (drop-of-length-le s h) (append-nil (tableBytes t))

@@ -5,7 +5,8 @@ use borrow.Author.Tests.{eqb-true}
 use lib.Dec.{eqb}
 use lib.ListN.{length}
 use Rattle.braidlark.specs.TableCalls.{tableLeft, freshCall}
-use Rattle.braidlark.proofs.TableCallLaws.{written-back}
+use Rattle.octets.proofs.CallLaws.{written-back}
+use Rattle.braidlark.proofs.TableCallLaws.{as-bytes}
 use borrow.Author.Needs.{needs}
 use Rattle.braidlark.proofs.table_calls.braidlark_table_fresh.Statement.{statement}
 use Rattle.braidlark.proofs.table_calls.braidlark_table_fresh.Tie as tie
@@ -17,7 +18,8 @@ returns c =
     let fresh = back .before .before .before .before in
     let s = fresh .before .before .args .table .now in
     let (status, table) =
-    written-back s _ (fresh .fresh .result .refused) _ _ (fresh .fresh .result .table) (back .write-back .ensures) (eqb (length s) 539) (eqb-true (length s) 539) (back .before .before .refuse-if .ensures) in
+    written-back 539 s _ _ _ _ (as-bytes s _ _ _ (fresh .fresh .result .table) (back .write-back .ensures)) (eqb (length s) 539) (fresh .fresh .result .refused)
+    (eqb-true (length s) 539) (back .before .before .refuse-if .ensures) in
     rw (← fresh .fresh .ensures) (ap₂ tableLeft status table)
 
 pub braidlark-table-fresh-spec : {M : Type 1} → statement M

@@ -1,0 +1,128 @@
+-- The calls on a plan and on a stored book, from what the core answers.
+-- Assumes nothing.
+use mathlib.Core.Path.{_≡_, refl, sym, ap, ap₂, _∙_}
+use mathlib.Core.Bool.{Bool, true, false, not, cond}
+use mathlib.Core.List.{List, [], _∷_}
+use Prim.Native.Nat.{ℕ, _≤_}
+use native.Mathlib.Omega.{arith}
+use borrow.Author.Tests.{eq-eqb, ne-eqb, eqb-true}
+use lib.Dec.{eqb}
+use lib.ListN.{length, length-map}
+use lib.Seq.{sets}
+use Rattle.octets.specs.Answers.{reason, first}
+use Rattle.octets.specs.Calls.{after, stored}
+use Rattle.octets.proofs.CallLaws.{written-back, WrittenBack as BytesBack, changed as bytes-changed}
+use Rattle.octets.proofs.StoreLaws.{sets-whole}
+use Rattle.shapes.specs.Writing.{Wrote}
+use Rattle.shapes.proofs.AnsweredLaws.{Valued, Answered, valued, valued-unless, refused-by-some, said-value, answered, told-other, told-done, told-undone}
+use Rattle.frames.specs.declared.answers.Refusal.{Refusal}
+use Rattle.frames.specs.declared.answers.Written.{Written}
+use Rattle.frames.specs.Told.{wrote}
+use Rattle.site.specs.declared.plan.Plan.{Plan}
+use Rattle.site.specs.declared.plan.Made.{Made}
+use Rattle.site.specs.Plans.{planRule, slots, toldPlan, planOf}
+use Rattle.members.specs.Members.{rowOf, rowsOf}
+use Rattle.book.specs.declared.book.Book.{Book}
+use Rattle.book.specs.declared.book.Changed.{Changed}
+use Rattle.book.specs.Books.{Stated, stated, Left, leftBy, liveAt, freshOf}
+use Rattle.book.specs.Schedules.{scheduleRefusal, scheduleOf}
+use Rattle.book.proofs.ScheduleLaws.{few-slots}
+use Rattle.ledgers.specs.PlanBytes.{planSize, planBytes}
+use Rattle.ledgers.specs.BookBytes.{bookSize, bookIn, bookBytes}
+use Rattle.ledgers.proofs.BookByteLaws.{length-plan, length-book}
+use Rattle.manager.specs.BookCalls.{bookLeft, planCall, changedTo, writeLeft, scheduleCall}
+
+-- ---- a plan
+module _ (s : List ℕ) (network manager hops rows dataSlots ms : ℕ) where
+  plan-valued : Valued (planOf network manager hops rows dataSlots ms)
+  unfolding planOf
+  plan-valued =
+      let p : Plan = record { network = network; manager = manager; «max_hops» = hops; rows = rows; «data_slots» = dataSlots; «slot_ms» = ms } in
+      valued-unless (first (reason (not (planRule p)) 14 ∷ [])) _ (valued network (manager ∷ hops ∷ rows ∷ dataSlots ∷ ms ∷ []))
+
+  pub no-plan : (length s ≡ planSize → ⊥) → bookLeft 14 s ≡ planCall s network manager hops rows dataSlots ms
+  unfolding planCall
+  no-plan e = rw (ne-eqb (length s) planSize e)
+
+  module _ (l : length s ≡ planSize) (made : Made) (e : toldPlan made ≡ planOf network manager hops rows dataSlots ms) where
+    pub planned : (p : Plan) (last : List ℕ) → made ≡ Made.Plan p → last ≡ sets s 0 (planBytes p)
+        → bookLeft 0 last ≡ planCall s network manager hops rows dataSlots ms
+    unfolding planCall
+    planned p last q h = rw (eq-eqb (length s) planSize l, ← e, q, h, sets-whole s (planBytes p) (length-plan p ∙ sym l))
+
+    pub unplanned : (r : Refusal) → made ≡ Made.Refused r → bookLeft (r .number) s ≡ planCall s network manager hops rows dataSlots ms
+    unfolding planCall
+    unplanned r q =
+        let z = refused-by-some (r .number) _ plan-valued (sym (ap toldPlan q) ∙ e) in
+        rw (eq-eqb (length s) planSize l, ← e, q, ne-eqb (r .number) 0 z)
+
+-- ---- calls that change a book
+-- what `write_back` ensures
+abbrev pub WrittenBack : List ℕ → List ℕ → ℕ → ℕ → Book → Type 0
+WrittenBack s last status number new =
+    (status ≡ number) × (last ≡ after number s (sets s 0 (bookBytes (stated new)))) × (number ≡ 0 → length (new .rows) ≡ 21)
+
+pub as-bytes : (s last : List ℕ) (status number : ℕ) (new : Book) → WrittenBack s last status number new
+    → BytesBack bookSize s last status number (bookBytes (stated new))
+unfolding rowsOf
+as-bytes s last status number new w = (w .0, w .1, λ z. length-book (stated new) (length-map (new .rows) rowOf ∙ w .2 z))
+
+module _ (s last : List ℕ) (number status : ℕ) (a : Changed) (w : WrittenBack s last status number (a .book)) where
+  -- the facts are, in order, what `book_of`, the call, `refuse_if` and `write_back` ensure
+  pub changed : (call : Stated → Left) (b : Book) → stated b ≡ bookIn s → leftBy a ≡ call (stated b) → number ≡ cond (not (eqb (length s) bookSize)) 14 (a .refused)
+      → bookLeft status last ≡ changedTo s (stored bookSize s (call (bookIn s) .refused)) (call (bookIn s))
+  changed call b r e n =
+      let (x, y) =
+      bytes-changed (λ (c : Left). c .refused) (λ (c : Left). bookBytes (c .book)) call bookSize s last (eqb (length s) bookSize) (bookIn s) (eqb-true (length s) bookSize) _ (stated b) (leftBy a) number status refl r e n
+      (as-bytes s last status number (a .book) w) in
+      ap₂ bookLeft x y
+
+  -- of a stored plan, with the number that its length gives
+  pub opened : (plan : List ℕ) (p : Plan) (time said : ℕ) → leftBy a ≡ freshOf p time → said ≡ cond (not (eqb (length plan) planSize)) 14 (a .refused)
+      → number ≡ cond (not (eqb (length s) bookSize)) 14 said
+      → bookLeft status last ≡ changedTo s (stored bookSize s (stored planSize plan (freshOf p time .refused))) (freshOf p time)
+  opened plan p time said e m n =
+      let (x, y) = written-back bookSize s last status number _ (as-bytes s last status number (a .book) w) (eqb (length s) bookSize) said (eqb-true (length s) bookSize) n in
+      let f : said ≡ stored planSize plan (a .refused) = m ∙ turned (eqb (length plan) planSize) in
+      rw (← e, ← f) (ap₂ bookLeft x y)
+    where
+      turned : (b : Bool) → cond (not b) 14 (a .refused) ≡ cond b (a .refused) 14
+      turned true = refl
+      turned false = refl
+
+-- ---- a schedule
+schedule-answered : (b : Stated) (unit hop time : ℕ) (out : List ℕ) → Answered out (scheduleOf b unit hop time out)
+unfolding scheduleOf
+schedule-answered b unit hop time out =
+    answered (scheduleRefusal b unit hop time (liveAt b unit time) (length out)) _ out _ refl (valued (slots (b .plan)) [])
+
+module _ (s : List ℕ) (unit hop time : ℕ) (out : List ℕ) (written : ℕ) where
+  abbrev of-book : Wrote
+  of-book = scheduleOf (bookIn s) unit hop time out
+
+  pub schedule-no-book : (length s ≡ bookSize → ⊥) → writeLeft 14 out written ≡ scheduleCall s unit hop time out written
+  unfolding scheduleCall
+  schedule-no-book e = told-other writeLeft out written of-book (eqb (length s) bookSize) (ne-eqb (length s) bookSize e)
+
+  module _ (w : Written) (held : List ℕ) (e : wrote w held ≡ of-book) where
+    as-case : (x : Written) → w ≡ x → wrote x held ≡ of-book
+    as-case x q = ap (λ (x : Written). wrote x held) (sym q) ∙ e
+
+    pub schedule-size : (size : ℕ) → w ≡ Written.Done size → size ≤ 100
+    unfolding scheduleOf
+    schedule-size size q =
+        let b = bookIn s in
+        let same = said-value (scheduleRefusal b unit hop time (liveAt b unit time) (length out)) (slots (b .plan)) size (ap (λ (x : Wrote). x .said) (as-case (Written.Done size) q)) in
+        omega (arith, same, few-slots (b .plan))
+
+    module _ (l : length s ≡ bookSize) where
+      pub scheduled : (size : ℕ) → w ≡ Written.Done size → writeLeft 0 held size ≡ scheduleCall s unit hop time out written
+      unfolding scheduleCall
+      scheduled size q =
+          told-done writeLeft out written of-book (eqb (length s) bookSize) (eq-eqb (length s) bookSize l) size held (as-case (Written.Done size) q)
+
+      pub unscheduled : (r : Refusal) → w ≡ Written.Refused r → writeLeft (r .number) held written ≡ scheduleCall s unit hop time out written
+      unfolding scheduleCall
+      unscheduled r q =
+          told-undone writeLeft out written of-book (eqb (length s) bookSize) (eq-eqb (length s) bookSize l) (r .number) held
+          (schedule-answered (bookIn s) unit hop time out) (as-case (Written.Refused r) q)

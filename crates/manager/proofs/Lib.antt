@@ -1,0 +1,2 @@
+pub mod BookCallLaws
+pub mod RequestCallLaws

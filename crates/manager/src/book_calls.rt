@@ -1,0 +1,115 @@
+// A plan of 9 bytes and a member book of 307, kept by the caller: made, a member heard or gone, and its schedule.
+ghost use mathlib.Core.Path.{_≡_};
+ghost use lib.ListN.{length};
+ghost use lib.Seq.{sets};
+ghost use Rattle.octets.specs.Calls.{after};
+ghost use Rattle.book.specs.Books.{stated};
+ghost use Rattle.ledgers.specs.BookBytes.{bookBytes};
+ghost use Rattle.manager.specs.BookCalls.{bookLeft, planCall, freshCall, heardCall, leaveCall, writeLeft, scheduleCall};
+use book::book::Book;
+use frames::answers::Written;
+use ledgers::books::book_of;
+use ledgers::books::put_book;
+use ledgers::plans::plan_of;
+use ledgers::plans::put_plan;
+use octets::answers::refuse_if;
+use site::plan::Made;
+use site::plan::Plan;
+
+const PLAN_SIZE: usize = 9;
+
+pub(crate) const BOOK_SIZE: usize = 307;
+
+// The end of every call that changes a book: the new one is written where nothing refuses it.
+pub(crate) fn write_back(book: &mut [u8], refused: u8, next: Book) -> u8
+    ensures { λ r. ⌜ (r ≡ refused) × (now (book .exit) ≡ after refused (now (book .entry)) (sets (now (book .entry)) 0 (bookBytes (stated next)))) × (refused ≡ 0 → length (next .rows) ≡ 21) ⌝ }
+{
+    if refused != 0 {
+        return refused;
+    }
+    put_book(book, next);
+    0
+}
+
+// Makes a site's plan of its six numbers.
+#[no_mangle]
+pub extern "C" fn braidlark_plan(
+    plan: &mut [u8],
+    network: u16,
+    manager: u16,
+    max_hops: u8,
+    rows: u8,
+    data_slots: u8,
+    slot_ms: u16,
+) -> u8
+    ensures { λ r. ⌜ bookLeft r (now (plan .exit)) ≡ planCall (now (plan .entry)) network manager «max_hops» rows «data_slots» «slot_ms» ⌝ }
+{
+    if plan.len() != PLAN_SIZE {
+        return 14;
+    }
+    match Plan::new(network, manager, max_hops, rows, data_slots, slot_ms) {
+        Made::Plan(made) => {
+            put_plan(plan, 0, made);
+            0
+        }
+        Made::Refused(refusal) => refusal.number,
+    }
+}
+
+// Makes the book of a plan, with the manager in row 0 and this time as last accepted.
+#[no_mangle]
+pub extern "C" fn braidlark_book_fresh(book: &mut [u8], plan: &[u8], time: u32) -> u8
+    ensures { λ r. ⌜ bookLeft r (now (book .exit)) ≡ freshCall (now (book .entry)) (now (plan .entry)) time ⌝ }
+{
+    let fresh = Book::fresh(plan_of(plan, 0), time);
+    let next = fresh.book;
+    let refused = refuse_if(plan.len() != PLAN_SIZE, 14, fresh.refused);
+    let refused = refuse_if(book.len() != BOOK_SIZE, 14, refused);
+    write_back(book, refused, next)
+}
+
+// Renews a live member's time.
+#[no_mangle]
+pub extern "C" fn braidlark_heard(book: &mut [u8], unit: u16, time: u32) -> u8
+    ensures { λ r. ⌜ bookLeft r (now (book .exit)) ≡ heardCall (now (book .entry)) unit time ⌝ }
+{
+    let changed = book_of(&book[..]).heard(unit, time);
+    let next = changed.book;
+    let refused = refuse_if(book.len() != BOOK_SIZE, 14, changed.refused);
+    write_back(book, refused, next)
+}
+
+// Frees a live member's row and slots.
+#[no_mangle]
+pub extern "C" fn braidlark_leave(book: &mut [u8], unit: u16, time: u32) -> u8
+    ensures { λ r. ⌜ bookLeft r (now (book .exit)) ≡ leaveCall (now (book .entry)) unit time ⌝ }
+{
+    let changed = book_of(&book[..]).leave(unit, time);
+    let next = changed.book;
+    let refused = refuse_if(book.len() != BOOK_SIZE, 14, changed.refused);
+    write_back(book, refused, next)
+}
+
+// Writes a live member's schedule at a hop, one byte a slot, and says how many slots there are.
+#[no_mangle]
+pub extern "C" fn braidlark_schedule(
+    book: &[u8],
+    unit: u16,
+    hop: u8,
+    time: u32,
+    out: &mut [u8],
+    written: &mut u32,
+) -> u8
+    ensures { λ r. ⌜ writeLeft r (now (out .exit)) (now (written .exit)) ≡ scheduleCall (now (book .entry)) unit hop time (now (out .entry)) (now (written .entry)) ⌝ }
+{
+    if book.len() != BOOK_SIZE {
+        return 14;
+    }
+    match book_of(book).schedule(unit, hop, time, out) {
+        Written::Done(size) => {
+            *written = size as u32;
+            0
+        }
+        Written::Refused(refusal) => refusal.number,
+    }
+}

@@ -68,7 +68,7 @@ unfolding rowsOf
 as-bytes s last status number new w = (w .0, w .1, λ z. length-book (stated new) (length-map (new .rows) rowOf ∙ w .2 z))
 
 module _ (s last : List ℕ) (number status : ℕ) (a : Changed) (w : WrittenBack s last status number (a .book)) where
-  -- the facts are, in order, what `book_of`, the call, `refuse_if` and `write_back` ensure
+  -- the facts are, in order, what `write_back`, `book_of`, the call and `refuse_if` ensure
   pub changed : (call : Stated → Left) (b : Book) → stated b ≡ bookIn s → leftBy a ≡ call (stated b) → number ≡ cond (not (eqb (length s) bookSize)) 14 (a .refused)
       → bookLeft status last ≡ changedTo s (stored bookSize s (call (bookIn s) .refused)) (call (bookIn s))
   changed call b r e n =

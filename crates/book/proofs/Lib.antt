@@ -1,2 +1,3 @@
 pub mod ScheduleLaws
 pub mod VisitLaws
+pub mod WithinLaws

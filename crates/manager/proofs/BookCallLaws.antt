@@ -3,14 +3,15 @@
 use mathlib.Core.Path.{_≡_, refl, sym, ap, ap₂, _∙_}
 use mathlib.Core.Bool.{Bool, true, false, not, cond}
 use mathlib.Core.List.{List, [], _∷_}
-use Prim.Native.Nat.{ℕ, _≤_}
+use Prim.Native.Nat.{ℕ, _+_, _*_, _≤_}
 use native.Mathlib.Omega.{arith}
-use borrow.Author.Tests.{eq-eqb, ne-eqb, eqb-true}
+use borrow.Author.Tests.{eq-eqb, ne-eqb, eqb-true, not-false}
 use lib.Dec.{eqb}
 use lib.ListN.{length, length-map}
 use lib.Seq.{sets}
 use Rattle.octets.specs.Answers.{reason, first}
 use Rattle.octets.specs.Calls.{after, stored}
+use Rattle.octets.proofs.AnswerLaws.{numbered, none-holds, unless-number}
 use Rattle.octets.proofs.CallLaws.{written-back, WrittenBack as BytesBack, changed as bytes-changed}
 use Rattle.octets.proofs.StoreLaws.{sets-whole}
 use Rattle.shapes.specs.Writing.{Wrote}
@@ -24,13 +25,17 @@ use Rattle.site.specs.Plans.{planRule, slots, toldPlan, planOf}
 use Rattle.members.specs.Members.{rowOf, rowsOf}
 use Rattle.book.specs.declared.book.Book.{Book}
 use Rattle.book.specs.declared.book.Changed.{Changed}
-use Rattle.book.specs.Books.{Stated, stated, Left, leftBy, liveAt, freshOf}
+use Rattle.book.specs.Books.{Stated, stated, withinRule, Left, leftBy, liveAt, freshOf}
 use Rattle.book.specs.Schedules.{scheduleRefusal, scheduleOf}
+use Rattle.site.proofs.PlanLaws.{rule-bounds}
 use Rattle.book.proofs.ScheduleLaws.{few-slots}
+use Rattle.book.proofs.WithinLaws.{within}
+use Rattle.image.specs.Forms.{formSize}
+use Rattle.image.specs.Images.{sections, imageReasons, imageWritten}
 use Rattle.ledgers.specs.PlanBytes.{planSize, planBytes}
 use Rattle.ledgers.specs.BookBytes.{bookSize, bookIn, bookBytes}
 use Rattle.ledgers.proofs.BookByteLaws.{length-plan, length-book}
-use Rattle.manager.specs.BookCalls.{bookLeft, planCall, changedTo, writeLeft, scheduleCall}
+use Rattle.manager.specs.BookCalls.{bookLeft, planCall, changedTo, writeLeft, wroteTo}
 
 -- ---- a plan
 module _ (s : List ℕ) (network manager hops rows dataSlots ms : ℕ) where
@@ -90,39 +95,48 @@ module _ (s last : List ℕ) (number status : ℕ) (a : Changed) (w : WrittenBac
       turned true = refl
       turned false = refl
 
--- ---- a schedule
-schedule-answered : (b : Stated) (unit hop time : ℕ) (out : List ℕ) → Answered out (scheduleOf b unit hop time out)
+  -- of an image, which needs no book before it
+  pub restored : (new : Left) → leftBy a ≡ new → number ≡ cond (not (eqb (length s) bookSize)) 14 (a .refused)
+      → bookLeft status last ≡ changedTo s (stored bookSize s (new .refused)) new
+  restored new e n =
+      let (x, y) = written-back bookSize s last status number _ (as-bytes s last status number (a .book) w) (eqb (length s) bookSize) (a .refused) (eqb-true (length s) bookSize) n in
+      rw (← e) (ap₂ bookLeft x y)
+
+-- ---- calls that fill a buffer
+pub schedule-answered : (b : Stated) (unit hop time : ℕ) (out : List ℕ) → Answered out (scheduleOf b unit hop time out)
 unfolding scheduleOf
 schedule-answered b unit hop time out =
     answered (scheduleRefusal b unit hop time (liveAt b unit time) (length out)) _ out _ refl (valued (slots (b .plan)) [])
 
-module _ (s : List ℕ) (unit hop time : ℕ) (out : List ℕ) (written : ℕ) where
-  abbrev of-book : Wrote
-  of-book = scheduleOf (bookIn s) unit hop time out
+pub image-answered : (b : Stated) (time : ℕ) (out : List ℕ) → Answered out (imageWritten b time out)
+unfolding imageWritten
+image-answered b time out = answered (first (imageReasons b time (length out))) _ out _ refl (valued (formSize (sections (b .plan .rows))) [])
 
-  pub schedule-no-book : (length s ≡ bookSize → ⊥) → writeLeft 14 out written ≡ scheduleCall s unit hop time out written
-  unfolding scheduleCall
-  schedule-no-book e = told-other writeLeft out written of-book (eqb (length s) bookSize) (ne-eqb (length s) bookSize e)
+pub schedule-size : (b : Stated) (unit hop time : ℕ) (out : List ℕ) (size : ℕ) (held : List ℕ) → wrote (Written.Done size) held ≡ scheduleOf b unit hop time out → size ≤ 100
+unfolding scheduleOf
+schedule-size b unit hop time out size held e =
+    let same = said-value (scheduleRefusal b unit hop time (liveAt b unit time) (length out)) (slots (b .plan)) size (ap (λ (x : Wrote). x .said) e) in
+    omega (arith, same, few-slots (b .plan))
 
-  module _ (w : Written) (held : List ℕ) (e : wrote w held ≡ of-book) where
-    as-case : (x : Written) → w ≡ x → wrote x held ≡ of-book
-    as-case x q = ap (λ (x : Written). wrote x held) (sym q) ∙ e
+pub image-size : (b : Stated) (time : ℕ) (out : List ℕ) (size : ℕ) (held : List ℕ) → wrote (Written.Done size) held ≡ imageWritten b time out → size ≤ 230
+unfolding imageWritten
+image-size b time out size held e =
+    let reasons = imageReasons b time (length out) in
+    let same = said-value (first reasons) (formSize (sections (b .plan .rows))) size (ap (λ (x : Wrote). x .said) e) in
+    let none =
+    none-holds reasons (numbered _ 14 (λ z. omega arith), (numbered _ 8 (λ z. omega arith), (numbered _ 5 (λ z. omega arith), tt)))
+    (sym (unless-number (first reasons) _) ∙ sym (ap (λ (x : Wrote). x .said .refusal) e)) in
+    omega (arith, same, rule-bounds (b .plan) (within b (not-false (withinRule b) (none .0)) .plan) .few-rows)
 
-    pub schedule-size : (size : ℕ) → w ≡ Written.Done size → size ≤ 100
-    unfolding scheduleOf
-    schedule-size size q =
-        let b = bookIn s in
-        let same = said-value (scheduleRefusal b unit hop time (liveAt b unit time) (length out)) (slots (b .plan)) size (ap (λ (x : Wrote). x .said) (as-case (Written.Done size) q)) in
-        omega (arith, same, few-slots (b .plan))
+module _ (s out : List ℕ) (written : ℕ) (answer : Wrote) where
+  pub no-book : (length s ≡ bookSize → ⊥) → writeLeft 14 out written ≡ wroteTo s out written answer
+  no-book e = told-other writeLeft out written answer (eqb (length s) bookSize) (ne-eqb (length s) bookSize e)
 
-    module _ (l : length s ≡ bookSize) where
-      pub scheduled : (size : ℕ) → w ≡ Written.Done size → writeLeft 0 held size ≡ scheduleCall s unit hop time out written
-      unfolding scheduleCall
-      scheduled size q =
-          told-done writeLeft out written of-book (eqb (length s) bookSize) (eq-eqb (length s) bookSize l) size held (as-case (Written.Done size) q)
+  module _ (l : length s ≡ bookSize) (w : Written) (held : List ℕ) (e : wrote w held ≡ answer) where
+    pub filled : (size : ℕ) → w ≡ Written.Done size → writeLeft 0 held size ≡ wroteTo s out written answer
+    filled size q =
+        told-done writeLeft out written answer (eqb (length s) bookSize) (eq-eqb (length s) bookSize l) size held (ap (λ (x : Written). wrote x held) (sym q) ∙ e)
 
-      pub unscheduled : (r : Refusal) → w ≡ Written.Refused r → writeLeft (r .number) held written ≡ scheduleCall s unit hop time out written
-      unfolding scheduleCall
-      unscheduled r q =
-          told-undone writeLeft out written of-book (eqb (length s) bookSize) (eq-eqb (length s) bookSize l) (r .number) held
-          (schedule-answered (bookIn s) unit hop time out) (as-case (Written.Refused r) q)
+    pub unfilled : Answered out answer → (r : Refusal) → w ≡ Written.Refused r → writeLeft (r .number) held written ≡ wroteTo s out written answer
+    unfilled h r q =
+        told-undone writeLeft out written answer (eqb (length s) bookSize) (eq-eqb (length s) bookSize l) (r .number) held h (ap (λ (x : Written). wrote x held) (sym q) ∙ e)

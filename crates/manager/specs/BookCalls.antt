@@ -4,10 +4,12 @@ use Prim.Native.Nat.{ℕ}
 use mathlib.Core.List.{List}
 use lib.ListN.{getD}
 use Rattle.octets.specs.Calls.{after, stored}
+use Rattle.shapes.specs.Writing.{Wrote}
 use Rattle.site.specs.Plans.{planOf}
 use Rattle.book.specs.Books.{Left, freshOf, heardOf, leaveOf}
 use Rattle.book.specs.Schedules.{scheduleOf}
 use Rattle.joins.specs.Joins.{Answered, joinOf, askOf}
+use Rattle.image.specs.Images.{imageWritten, restoreOf}
 use Rattle.ledgers.specs.PlanBytes.{planSize, planFrom, planAt, planBytes}
 use Rattle.ledgers.specs.BookBytes.{bookSize, bookIn, bookBytes}
 
@@ -67,7 +69,7 @@ joinCall s frame time out written = answeredTo s out written (joinOf (bookIn s) 
 unfoldable pub slotRequestCall : List ℕ → List ℕ → ℕ → List ℕ → ℕ → RequestLeft
 slotRequestCall s frame time out written = answeredTo s out written (askOf (bookIn s) frame time out)
 
--- ---- a schedule: the status, the buffer, and the number of bytes written
+-- ---- a schedule or an image: the status, the buffer, and the number of bytes written
 pub record WriteLeft : Type 0 where
   pub status : ℕ
   pub out : List ℕ
@@ -76,8 +78,19 @@ pub record WriteLeft : Type 0 where
 abbrev pub writeLeft : ℕ → List ℕ → ℕ → WriteLeft
 writeLeft status out written = record { status = status; out = out; written = written }
 
-unfoldable pub scheduleCall : List ℕ → ℕ → ℕ → ℕ → List ℕ → ℕ → WriteLeft
-scheduleCall s unit hop time out written =
-    let wrote = scheduleOf (bookIn s) unit hop time out in
+abbrev pub wroteTo : List ℕ → List ℕ → ℕ → Wrote → WriteLeft
+wroteTo s out written wrote =
     let status = stored bookSize s (wrote .said .refusal) in
     writeLeft status (after status out (wrote .held)) (after status written (getD (wrote .said .values) 0 0))
+
+unfoldable pub scheduleCall : List ℕ → ℕ → ℕ → ℕ → List ℕ → ℕ → WriteLeft
+scheduleCall s unit hop time out written = wroteTo s out written (scheduleOf (bookIn s) unit hop time out)
+
+unfoldable pub imageCall : List ℕ → ℕ → List ℕ → ℕ → WriteLeft
+imageCall s time out written = wroteTo s out written (imageWritten (bookIn s) time out)
+
+-- ---- a restore: only the number of the book's bytes matters, not what they were
+unfoldable pub restoreCall : List ℕ → List ℕ → ℕ → BookLeft
+restoreCall s image time =
+    let restored = restoreOf image time in
+    changedTo s (stored bookSize s (restored .refused)) restored

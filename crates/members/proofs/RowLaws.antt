@@ -16,7 +16,14 @@ abbrev pub row : List Row → ℕ → Row
 row rs i = getD rs i emptyRow
 
 -- ---- every row
--- what holds of every row by what held of it before
+-- what holds of every row, changed or not, by what held of it before
+pub every-map : (test test′ : Row → Bool) (f : Row → Row) → ((r : Row) → test r ≡ true → test′ (f r) ≡ true) → (rs : List Row) → every test rs ≡ true → every test′ (map f rs) ≡ true
+unfolding every
+every-map test test′ f on [] e = refl
+every-map test test′ f on (r ∷ rs) e =
+    let (here, later) = and-eq-true-iff (test r) (every test rs) .0 e in
+    and-eq-true-iff (test′ (f r)) (every test′ (map f rs)) .1 (on r here, every-map test test′ f on rs later)
+
 pub every-on : (test test′ : Row → Bool) → ((r : Row) → test r ≡ true → test′ r ≡ true) → (rs : List Row) → every test rs ≡ true → every test′ rs ≡ true
 unfolding every
 every-on test test′ on [] e = refl
@@ -42,12 +49,7 @@ kept-either P time r p q = go (leb (ageAt time (r .time)) 300000) refl
     go false e = q
 
 every-dropped : (test : Row → Bool) → test emptyRow ≡ true → (time : ℕ) (rs : List Row) → every test rs ≡ true → every test (map (kept time) rs) ≡ true
-unfolding every
-every-dropped test empty time [] e = refl
-every-dropped test empty time (r ∷ rs) e =
-    let (here, later) = and-eq-true-iff (test r) (every test rs) .0 e in
-    and-eq-true-iff (test (kept time r)) (every test (map (kept time) rs)) .1
-    (kept-either (λ k. test k ≡ true) time r (λ e. here) empty, every-dropped test empty time rs later)
+every-dropped test empty time = every-map test test (kept time) (λ r here. kept-either (λ k. test k ≡ true) time r (λ e. here) empty)
 
 pub every-current : (test : Row → Bool) → test emptyRow ≡ true → (time : ℕ) (rs : List Row) → every test rs ≡ true → every test (current time rs) ≡ true
 unfolding every current

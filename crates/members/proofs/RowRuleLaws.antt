@@ -37,6 +37,9 @@ address-some unit e z = omega (arith, leb-true 1 unit (and-eq-true-iff (leb 1 un
 pub no-count : count (noSlots {n = 64}) ≡ 0
 no-count = eqb-true (count (noSlots {n = 64})) 0 (sym (empty-by-count 64 noSlots) ∙ empty-is-nothing 64 noSlots .1 refl)
 
+row-zeros : (unit : ℕ) (slots : Slots 64) (time : ℕ) → unit ≡ 0 → slots ≡ noSlots → time ≡ 0 → _≡_ {A = Row} (record { unit = unit; slots = slots; time = time }) emptyRow
+row-zeros unit slots time a b c = rw (a, b, c)
+
 module _ (dataSlots last : ℕ) (r : Row) where
   pub member-rule : MemberRow dataSlots last r → rowRule dataSlots last r ≡ true
   member-rule m =
@@ -60,10 +63,14 @@ module _ (dataSlots last : ℕ) (r : Row) where
         past = past;
       }
 
-  pub rule-vacant : rowRule dataSlots last r ≡ true → vacantRow r ≡ true → r .slots ≡ noSlots
-  rule-vacant e t =
+  pub rule-zeros : rowRule dataSlots last r ≡ true → vacantRow r ≡ true → r ≡ emptyRow
+  rule-zeros e t =
       let all : (isEmpty (r .slots) && eqb (r .time) 0) ≡ true = rw t at e in
-      empty-is-nothing 64 (r .slots) .0 (and-eq-true-iff (isEmpty (r .slots)) (eqb (r .time) 0) .0 all .0)
+      let (none, never) = and-eq-true-iff (isEmpty (r .slots)) (eqb (r .time) 0) .0 all in
+      row-zeros (r .unit) (r .slots) (r .time) (eqb-true (r .unit) 0 t) (empty-is-nothing 64 (r .slots) .0 none) (eqb-true (r .time) 0 never)
+
+  pub rule-vacant : rowRule dataSlots last r ≡ true → vacantRow r ≡ true → r .slots ≡ noSlots
+  rule-vacant e t = ap (λ (a : Row). a .slots) (rule-zeros e t)
 
   -- a row is free or a member's
   pub rule-either : {P : Type 0} → rowRule dataSlots last r ≡ true → (vacantRow r ≡ true → r .slots ≡ noSlots → P) → (vacantRow r ≡ false → MemberRow dataSlots last r → P) → P

@@ -1,6 +1,6 @@
 -- Sums over the rows of a book. Rows that are free, slots held, rows of a unit, owners of a slot are each a sum, and to write a row changes one term.
 -- Assumes nothing.
-use mathlib.Core.Path.{_≡_, refl, sym, ap, _∙_}
+use mathlib.Core.Path.{_≡_, refl, sym, ap, ap₂, _∙_}
 use mathlib.Core.Bool.{Bool, true, false, not, _&&_, _||_, cond, false≢true, and-eq-true-iff}
 use mathlib.Core.List.{List, [], _∷_, map}
 use Prim.Native.Nat.{ℕ, zero, suc, _+_, _≤_, _<_}
@@ -45,6 +45,12 @@ weigh-two w (a ∷ rs) zero (suc j) n h l = omega (arith, weigh-at w rs j (omega
 weigh-two w (a ∷ rs) (suc i) zero n h l = omega (arith, weigh-at w rs i (omega arith))
 weigh-two w (a ∷ rs) (suc i) (suc j) n h l = omega (arith, weigh-two w rs i j (λ e. n (ap suc e)) (omega arith) (omega arith))
 
+-- rows changed in what has no weight
+pub weigh-map : (w : Row → ℕ) (f : Row → Row) → ((r : Row) → w (f r) ≡ w r) → (rs : List Row) → weigh w (map f rs) ≡ weigh w rs
+unfolding weigh
+weigh-map w f h [] = refl
+weigh-map w f h (r ∷ rs) = ap₂ _+_ (h r) (weigh-map w f h rs)
+
 -- ---- silent rows dropped
 -- where no row weighs less than an empty one, dropping adds no weight
 weigh-dropped : (w : Row → ℕ) (test : Row → Bool) → ((r : Row) → test r ≡ true → w emptyRow ≤ w r)
@@ -81,17 +87,17 @@ module _ (test : Row → Bool) (r : Row) (rs : List Row) where
   tally-skip e = rw e (omega arith)
 
   -- at most one passes: if it is this one, none behind it
-  alone-more : (test r ≡ true → tally test rs ≡ 0) → tally test rs ≤ 1 → tally test (r ∷ rs) ≤ 1
+  pub alone-more : (test r ≡ true → tally test rs ≡ 0) → tally test rs ≤ 1 → tally test (r ∷ rs) ≤ 1
   alone-more h l = go (test r) refl
     where
       go : (b : Bool) → test r ≡ b → tally test (r ∷ rs) ≤ 1
       go true e = omega (arith, tally-pass e, h e)
       go false e = omega (arith, tally-skip e)
 
-  alone-here : tally test (r ∷ rs) ≤ 1 → test r ≡ true → tally test rs ≡ 0
+  pub alone-here : tally test (r ∷ rs) ≤ 1 → test r ≡ true → tally test rs ≡ 0
   alone-here l e = omega (arith, tally-pass e)
 
-  alone-behind : tally test (r ∷ rs) ≤ 1 → tally test rs ≤ 1
+  pub alone-behind : tally test (r ∷ rs) ≤ 1 → tally test rs ≤ 1
   unfolding weigh
   alone-behind l = omega arith
 

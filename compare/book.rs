@@ -160,7 +160,7 @@ impl Book {
         (1 << self.plan.data_slots) - 1
     }
 
-    fn accept_time(&self, time: u32) -> Result<(), Refusal> {
+    pub fn accept_time(&self, time: u32) -> Result<(), Refusal> {
         match time < self.time {
             true => Err(Refusal::Early),
             false => Ok(()),
@@ -188,7 +188,7 @@ impl Book {
         }
     }
 
-    fn is_live(&self, place: usize, time: u32) -> bool {
+    pub fn is_live(&self, place: usize, time: u32) -> bool {
         let row = &self.rows[place];
         place == 0 || row.unit != 0 && time - row.time <= LIVE_AGE
     }

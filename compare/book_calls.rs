@@ -153,32 +153,50 @@ impl BookAnswer {
 }
 
 /// The buffers of one call, each lent with filler around it.
-struct Lending {
-    book: Lent<u8>,
-    input: Lent<u8>,
-    out: Lent<u8>,
-    written: Lent<u32>,
+pub struct Lending {
+    pub book: Lent<u8>,
+    pub input: Lent<u8>,
+    pub out: Lent<u8>,
+    pub written: Lent<u32>,
 }
 
 impl Lending {
-    fn new(call: &BookCall) -> Lending {
+    pub fn new(book: &[u8], input: &[u8], room: usize) -> Lending {
         Lending {
-            book: Lent::input(call.book),
-            input: Lent::input(call.ask.input()),
-            out: Lent::output(call.ask.room()),
+            book: Lent::input(book),
+            input: Lent::input(input),
+            out: Lent::output(room),
             written: Lent::output(1),
         }
     }
 
+    /// What there is after the call, to which this input was lent.
+    pub fn answer(&self, status: u8, input: &[u8]) -> BookAnswer {
+        BookAnswer {
+            status,
+            disturbed: names_of(&[
+                ("around book", self.book.is_overrun()),
+                ("frame, plan or image", self.input.is_changed(input)),
+                ("around out", self.out.is_overrun()),
+                ("around written", self.written.is_overrun()),
+            ]),
+            book: self.book.contents().to_vec(),
+            out: self.out.contents().to_vec(),
+            written: self.written.contents()[0],
+        }
+    }
+}
+
+impl BookCall<'_> {
     #[rustfmt::skip] // It would give each argument a line.
-    fn status(&mut self, call: &BookCall) -> u8 {
-        let (book, book_length) = (self.book.address(call.empty), call.book.len());
-        let (input, input_length) = (self.input.address(call.empty), call.ask.input().len());
-        let (out, out_length) = (self.out.address(call.empty), call.ask.room());
-        let written = self.written.address(call.empty);
+    fn status(&self, lending: &mut Lending) -> u8 {
+        let (book, book_length) = (lending.book.address(self.empty), self.book.len());
+        let (input, input_length) = (lending.input.address(self.empty), self.ask.input().len());
+        let (out, out_length) = (lending.out.address(self.empty), self.ask.room());
+        let written = lending.written.address(self.empty);
         // SAFETY: each address is that of a live buffer of the length given with it, or NULL with length 0.
         unsafe {
-            match *call.ask {
+            match *self.ask {
                 Ask::Plan { numbers: Plan { network, manager, max_hops, rows, data_slots, slot_ms } } =>
                     braidlark_plan(book, book_length, network, manager, max_hops, rows, data_slots, slot_ms),
                 Ask::Fresh { time, .. } => braidlark_book_fresh(book, book_length, input, input_length, time),
@@ -193,30 +211,15 @@ impl Lending {
             }
         }
     }
-
-    fn disturbed(&self, call: &BookCall) -> Vec<&'static str> {
-        names_of(&[
-            ("around book", self.book.is_overrun()),
-            ("frame or plan", self.input.is_changed(call.ask.input())),
-            ("around out", self.out.is_overrun()),
-            ("around written", self.written.is_overrun()),
-        ])
-    }
 }
 
 impl Call for BookCall<'_> {
     type Answer = BookAnswer;
 
     fn make(&self) -> BookAnswer {
-        let mut lending = Lending::new(self);
-        let status = lending.status(self);
-        BookAnswer {
-            status,
-            disturbed: lending.disturbed(self),
-            book: lending.book.contents().to_vec(),
-            out: lending.out.contents().to_vec(),
-            written: lending.written.contents()[0],
-        }
+        let mut lending = Lending::new(self.book, self.ask.input(), self.ask.room());
+        let status = self.status(&mut lending);
+        lending.answer(status, self.ask.input())
     }
 }
 

@@ -8,7 +8,7 @@ use crate::book_drafts::{join_request, plan_bytes, slot_request};
 use crate::frames::{self, ACCEPTED, JOIN_RESPONSE};
 use crate::relays::seal;
 use crate::report::Difference;
-use crate::site::*;
+use crate::site::{self, *};
 
 const NETWORK: u16 = 1;
 const MANAGER: u16 = 0x0100;
@@ -272,8 +272,7 @@ impl Story<'_> {
     /// A member's schedule is this, in the paper's letters.
     fn shows(&mut self, unit: u16, hop: u8, letters: &str) -> Agreement {
         let kinds = self.kinds(unit, hop)?;
-        let shown: String = kinds.iter().map(|kind| char::from(b"TRBbCcDd."[usize::from(*kind)])).collect();
-        assert_eq!(shown, letters);
+        assert_eq!(site::letters(&kinds), letters);
         Ok(())
     }
 }

@@ -202,7 +202,7 @@ impl Drawing<'_> {
 
 /// The arguments.
 impl Drawing<'_> {
-    fn slip(&mut self) -> bool {
+    pub fn slip(&mut self) -> bool {
         self.random.below(24) < self.slips
     }
 
@@ -250,7 +250,7 @@ impl Drawing<'_> {
     }
 
     /// The length of an output buffer: what is needed or more, unless by a slip.
-    fn room(&mut self, needed: usize) -> usize {
+    pub fn room(&mut self, needed: usize) -> usize {
         let less = self.random.below(needed);
         match self.slip() {
             true => self.random.one_of(&[needed - 1, needed - 1, less]),

@@ -159,11 +159,18 @@ fn spread_book() -> Book {
     book
 }
 
-fn books_with_one_rule_broken(check: &mut Check) -> Agreement {
+/// `spread_book` after each of those changes: the change in words, the book, and what calls on it are answered.
+pub fn books_by_rule() -> impl Iterator<Item = (&'static str, Book, u8)> {
     let changes = ALLOWED.iter().map(|change| (change, 0)).chain(BROKEN.iter().map(|change| (change, 14)));
-    for ((words, change), status) in changes {
+    changes.map(|((words, change), status)| {
         let mut book = spread_book();
         change(&mut book);
+        (*words, book, status)
+    })
+}
+
+fn books_with_one_rule_broken(check: &mut Check) -> Agreement {
+    for (words, book, status) in books_by_rule() {
         let bytes = book_bytes(&book);
         let room = 100;
         let asks = [

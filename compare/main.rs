@@ -16,6 +16,12 @@ mod clock_check;
 mod frames;
 mod frames_check;
 mod frames_drafts;
+mod image;
+mod image_calls;
+mod image_cases;
+mod image_check;
+mod image_drafts;
+mod image_files;
 mod life;
 mod life_check;
 mod random;
@@ -34,8 +40,9 @@ use std::process::ExitCode;
 
 const USAGE: &str = "\
 usage: compare [--seed N] [--frames N] [--routes N] [--steps N] [--books N]
-               [--quiet] [--help]
+               [--images N] [--quiet] [--help]
        compare bench [CASE [TIMES]]
+       compare images FOLDER
 
 Compares the library, call by call, with an independent implementation.
 
@@ -44,6 +51,7 @@ Compares the library, call by call, with an independent implementation.
   --routes N  random calls on tables of routes to compare (2100000)
   --steps N   random steps of a unit's state, and as many of its clock (1000000)
   --books N   random calls on member books to compare (2100000)
+  --images N  random stored images to compare, each in several calls (520000)
   --quiet     no progress on standard error
   --help      this text
 
@@ -52,7 +60,10 @@ first difference (seed, call and both answers on standard error), 2 if used wron
 
 bench merges updates TIMES times (200000) by the library and by the independent
 table. CASE is library-24, bytes-24, memory-24, library-0, bytes-0 or memory-0;
-without one it is all of them.";
+without one it is all of them.
+
+images writes stored images into a folder that is there, and the drawing of each:
+NAME.image and NAME.text. compare/slotview puts them to the program slotview.";
 
 const AGREED: u8 = 0;
 const DIFFERED: u8 = 1;
@@ -65,6 +76,7 @@ pub struct Options {
     pub routes: u64,
     pub steps: u64,
     pub books: u64,
+    pub images: u64,
     pub quiet: bool,
     pub help: bool,
 }
@@ -81,6 +93,7 @@ const SUBJECTS: &[Subject] = &[
     Subject { name: "life", check: life_check::check },
     Subject { name: "clock", check: clock_check::check },
     Subject { name: "books", check: book_check::check },
+    Subject { name: "images", check: image_check::check },
 ];
 
 fn main() -> ExitCode {
@@ -88,6 +101,7 @@ fn main() -> ExitCode {
         std::env::args_os().skip(1).map(|argument| argument.to_string_lossy().into_owned()).collect();
     let result = match arguments.split_first() {
         Some((first, rest)) if first == "bench" => bench::run(rest).map(|()| AGREED),
+        Some((first, rest)) if first == "images" => image_files::run(rest).map(|()| AGREED),
         _ => parse(arguments.into_iter()).map(|options| obey(&options)),
     };
     ExitCode::from(result.unwrap_or_else(|message| {
@@ -107,8 +121,8 @@ fn obey(options: &Options) -> u8 {
 }
 
 fn parse(mut arguments: impl Iterator<Item = String>) -> Result<Options, String> {
-    let (frames, routes, steps, books) = (300_000, 2_100_000, 1_000_000, 2_100_000);
-    let mut options = Options { seed: 1, frames, routes, steps, books, quiet: false, help: false };
+    let (frames, routes, steps, books, images) = (300_000, 2_100_000, 1_000_000, 2_100_000, 520_000);
+    let mut options = Options { seed: 1, frames, routes, steps, books, images, quiet: false, help: false };
     while let Some(argument) = arguments.next() {
         match argument.as_str() {
             "--seed" => options.seed = number(&argument, arguments.next())?,
@@ -116,6 +130,7 @@ fn parse(mut arguments: impl Iterator<Item = String>) -> Result<Options, String>
             "--routes" => options.routes = number(&argument, arguments.next())?,
             "--steps" => options.steps = number(&argument, arguments.next())?,
             "--books" => options.books = number(&argument, arguments.next())?,
+            "--images" => options.images = number(&argument, arguments.next())?,
             "--quiet" => options.quiet = true,
             "--help" => options.help = true,
             _ => return Err(format!("unknown argument '{}'", argument)),

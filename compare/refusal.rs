@@ -29,7 +29,8 @@ pub enum Refusal {
     Full = 12,
     /// The unit is not a live member, or is the manager and asked to leave.
     NotMember = 13,
-    /// A plan, page, hop, superframe's length or clock's offset, or a table, book or state handed in, is out of rule.
+    /// A plan, image, page, hop, superframe's length or clock's offset, or a table, book or state handed in, is out of
+    /// rule.
     OutOfRule = 14,
     /// The network is not the book's or the caller's.
     Network = 15,

@@ -23,6 +23,11 @@ pub const DISCOVERY_TX: u8 = 6;
 pub const DISCOVERY_RX: u8 = 7;
 pub const SLEEP: u8 = 8;
 
+/// The paper's letters for what a unit does.
+pub fn letters(kinds: &[u8]) -> String {
+    kinds.iter().map(|kind| char::from(b"TRBbCcDd."[usize::from(*kind)])).collect()
+}
+
 /// The numbers of a plan, within rule or not.
 #[derive(Clone, Copy, Debug, PartialEq, Eq)]
 pub struct Plan {

@@ -1,0 +1,279 @@
+/*
+ * Braidlark: the node core of a LoRa mesh for greenhouses.
+ *
+ * Every call returns 0, or one of the refusal numbers below: the first that applies, in the order that the call's
+ * comment gives. What a call answers goes to the caller's buffers and out parameters; a refused call changes none of
+ * them. Bytes of a buffer past those written stay as they were. A buffer is a pointer and its length; with length 0
+ * the pointer may be NULL. Buffers and out parameters of one call must not overlap. Nothing is kept between calls: a
+ * table, a state, a plan and a book are bytes that the caller owns and hands in again.
+ *
+ * Times are milliseconds of 32 bits. Addresses of units are 1 to 0xFFFE.
+ */
+#ifndef BRAIDLARK_H
+#define BRAIDLARK_H
+
+#include <stddef.h>
+#include <stdint.h>
+
+#ifdef __cplusplus
+extern "C" {
+#endif
+
+/* ---- refusals */
+#define BRAIDLARK_ACCEPTED 0
+#define BRAIDLARK_BAD_LENGTH 1     /* frame empty, over 255 bytes, or not as long as its type and count say */
+#define BRAIDLARK_BAD_TYPE 2       /* type unknown, or not one that the call wants */
+#define BRAIDLARK_BAD_CHECKSUM 3   /* checksum */
+#define BRAIDLARK_BAD_FIELD 4      /* a field rule broken, or a sum of delays over 2^32 - 1 */
+#define BRAIDLARK_NO_SPACE 5       /* output buffer shorter than what would be written */
+#define BRAIDLARK_OWN_UNIT 6       /* the frame's sender, or the unit to forget, is this unit */
+#define BRAIDLARK_NOT_ALLOWED 7    /* event not allowed in this state */
+#define BRAIDLARK_TOO_EARLY 8      /* time earlier than the last accepted one */
+#define BRAIDLARK_LOW_QUALITY 9    /* link quality under 40 */
+#define BRAIDLARK_TTL_OVER 10      /* ttl 0 or 1 and not for this unit */
+#define BRAIDLARK_NO_ROUTE 11      /* no usable route */
+#define BRAIDLARK_FULL 12          /* every member row live */
+#define BRAIDLARK_NO_MEMBER 13     /* not a live member, or the manager asked to leave */
+#define BRAIDLARK_OUT_OF_RULE 14   /* plan, image, page, hop, offset, superframe length, or a stored value, out of rule */
+#define BRAIDLARK_OTHER_NETWORK 15 /* not the book's or the caller's network */
+#define BRAIDLARK_NOT_OURS 16      /* beacon not ours to forward */
+
+/* ---- lengths, in bytes unless said otherwise */
+#define BRAIDLARK_MOST_FRAME 255
+#define BRAIDLARK_MOST_PAYLOAD 245
+#define BRAIDLARK_MOST_ENTRIES 24
+#define BRAIDLARK_ENTRY_SIZE 10
+#define BRAIDLARK_MOST_FIELDS 15 /* numbers of the frame with the most, a beacon: its type and 14 fields */
+#define BRAIDLARK_TABLE_SIZE 539
+#define BRAIDLARK_STATE_SIZE 13
+#define BRAIDLARK_PLAN_SIZE 9
+#define BRAIDLARK_BOOK_SIZE 307
+#define BRAIDLARK_MOST_RESPONSES 65 /* of a join or a slot request: five frames of 13 */
+#define BRAIDLARK_MOST_SLOTS 100    /* slots of a superframe, which are the bytes of a schedule */
+#define BRAIDLARK_MOST_IMAGE 230
+
+/* ---- kinds of frames, the number at index 0 of a frame's fields */
+#define BRAIDLARK_DATA 0x11
+#define BRAIDLARK_JOIN_REQUEST 0x21
+#define BRAIDLARK_JOIN_RESPONSE 0x22
+#define BRAIDLARK_SLOT_REQUEST 0x23
+#define BRAIDLARK_DISCOVERY_REQUEST 0x24
+#define BRAIDLARK_DISCOVERY_RESPONSE 0x25
+#define BRAIDLARK_UPDATE 0x31
+#define BRAIDLARK_BEACON 0x46
+
+/* ---- where each field stands among a frame's numbers, and how many numbers there are */
+enum { BRAIDLARK_TYPE };
+enum {
+    BRAIDLARK_DATA_SOURCE = 1,
+    BRAIDLARK_DATA_DESTINATION,
+    BRAIDLARK_DATA_TTL,
+    BRAIDLARK_DATA_SEQUENCE,
+    BRAIDLARK_DATA_COUNT, /* bytes of the payload */
+    BRAIDLARK_DATA_FIELDS
+};
+enum {
+    BRAIDLARK_JOIN_REQUEST_NODE = 1,
+    BRAIDLARK_JOIN_REQUEST_CAPABILITIES,
+    BRAIDLARK_JOIN_REQUEST_NETWORK, /* 0 is any */
+    BRAIDLARK_JOIN_REQUEST_SLOTS,
+    BRAIDLARK_JOIN_REQUEST_FIELDS
+};
+enum {
+    BRAIDLARK_JOIN_RESPONSE_NODE = 1,
+    BRAIDLARK_JOIN_RESPONSE_STATUS,
+    BRAIDLARK_JOIN_RESPONSE_SLOT,
+    BRAIDLARK_JOIN_RESPONSE_SUPERFRAME_TIME,
+    BRAIDLARK_JOIN_RESPONSE_NETWORK,
+    BRAIDLARK_JOIN_RESPONSE_FIELDS
+};
+enum {
+    BRAIDLARK_SLOT_REQUEST_NODE = 1,
+    BRAIDLARK_SLOT_REQUEST_SLOTS,
+    BRAIDLARK_SLOT_REQUEST_PRIORITY,
+    BRAIDLARK_SLOT_REQUEST_REASON,
+    BRAIDLARK_SLOT_REQUEST_FIELDS
+};
+enum {
+    BRAIDLARK_DISCOVERY_REQUEST_NODE = 1,
+    BRAIDLARK_DISCOVERY_REQUEST_CAPABILITIES,
+    BRAIDLARK_DISCOVERY_REQUEST_ROLE,
+    BRAIDLARK_DISCOVERY_REQUEST_MAX_HOPS,
+    BRAIDLARK_DISCOVERY_REQUEST_FIELDS
+};
+enum {
+    BRAIDLARK_DISCOVERY_RESPONSE_MANAGER = 1,
+    BRAIDLARK_DISCOVERY_RESPONSE_NETWORK,
+    BRAIDLARK_DISCOVERY_RESPONSE_SIZE,
+    BRAIDLARK_DISCOVERY_RESPONSE_FREE,
+    BRAIDLARK_DISCOVERY_RESPONSE_QUALITY,
+    BRAIDLARK_DISCOVERY_RESPONSE_UPTIME,
+    BRAIDLARK_DISCOVERY_RESPONSE_FIELDS
+};
+enum {
+    BRAIDLARK_UPDATE_ORIGIN = 1,
+    BRAIDLARK_UPDATE_COUNT, /* entries */
+    BRAIDLARK_UPDATE_TIME,
+    BRAIDLARK_UPDATE_FIELDS
+};
+enum {
+    BRAIDLARK_BEACON_DESTINATION = 1,
+    BRAIDLARK_BEACON_SOURCE,
+    BRAIDLARK_BEACON_SIZE,
+    BRAIDLARK_BEACON_NETWORK,
+    BRAIDLARK_BEACON_SUPERFRAME_NUMBER,
+    BRAIDLARK_BEACON_SUPERFRAME_MS,
+    BRAIDLARK_BEACON_TOTAL_SLOTS,
+    BRAIDLARK_BEACON_SLOT_MS,
+    BRAIDLARK_BEACON_ORIGINAL_SOURCE,
+    BRAIDLARK_BEACON_HOP,
+    BRAIDLARK_BEACON_ORIGINAL_TIME,
+    BRAIDLARK_BEACON_DELAY,
+    BRAIDLARK_BEACON_MAX_HOPS,
+    BRAIDLARK_BEACON_SEQUENCE,
+    BRAIDLARK_BEACON_FIELDS
+};
+
+/* ---- states, the first byte of a stored state, and events */
+enum {
+    BRAIDLARK_INITIALIZING,
+    BRAIDLARK_DISCOVERY,
+    BRAIDLARK_JOINING,
+    BRAIDLARK_NORMAL,
+    BRAIDLARK_MANAGER,
+    BRAIDLARK_RECOVERY,
+    BRAIDLARK_STOPPED
+};
+enum {
+    BRAIDLARK_READY,
+    BRAIDLARK_FAILED,
+    BRAIDLARK_BEACON_HEARD,
+    BRAIDLARK_JOIN_ACCEPTED,
+    BRAIDLARK_JOIN_DENIED,
+    BRAIDLARK_FAULT,
+    BRAIDLARK_ELECTED,
+    BRAIDLARK_ROLE_CHANGE,
+    BRAIDLARK_RECOVERED
+};
+
+/* ---- kinds of slots, the bytes of a schedule */
+enum {
+    BRAIDLARK_TX,
+    BRAIDLARK_RX,
+    BRAIDLARK_BEACON_TX,
+    BRAIDLARK_BEACON_RX,
+    BRAIDLARK_CONTROL_TX,
+    BRAIDLARK_CONTROL_RX,
+    BRAIDLARK_DISCOVERY_TX,
+    BRAIDLARK_DISCOVERY_RX,
+    BRAIDLARK_SLEEP
+};
+
+/* ---- frames */
+
+/* Reads a frame of any kind: its numbers, the type first, and where the bytes behind its fields (a payload, or the
+ * entries of an update) start and how many they are. Refusals: 1 2 1 3 4 5. */
+uint8_t braidlark_read(const uint8_t *frame, size_t frame_length, uint32_t *fields, size_t fields_length,
+                       uint32_t *part_place, uint32_t *part_length);
+
+/* Writes the frame with these numbers and these bytes behind its fields, and says how many bytes it has.
+ * Refusals: 2 1 4 5. */
+uint8_t braidlark_write(const uint32_t *fields, size_t fields_length, const uint8_t *part, size_t part_length,
+                        uint8_t *out, size_t out_length, uint32_t *written);
+
+/* ---- a unit's table of routes, BRAIDLARK_TABLE_SIZE bytes */
+
+/* Makes the empty table of a unit, with this time as last accepted. Refusals: 14 (the buffer's length) 4. */
+uint8_t braidlark_table_fresh(uint8_t *table, size_t table_length, uint16_t own, uint32_t time);
+
+/* Merges an update that was heard with this quality, and says how many candidates found no room.
+ * Refusals: 14 1 2 1 3 4 6 8 9. */
+uint8_t braidlark_merge(uint8_t *table, size_t table_length, const uint8_t *frame, size_t frame_length, uint8_t quality,
+                        uint32_t time, uint8_t *skipped);
+
+/* Withdraws all usable routes to a unit or through it. Refusals: 14 4 6 8. */
+uint8_t braidlark_forget(uint8_t *table, size_t table_length, uint16_t unit, uint32_t time);
+
+/* Answers the next hop to a destination, and how many hops it is away. Refusals: 14 4 8 11. */
+uint8_t braidlark_lookup(const uint8_t *table, size_t table_length, uint16_t destination, uint32_t time,
+                         uint16_t *next_hop, uint8_t *hops);
+
+/* Writes a page, counted from 0, of this unit's own update, and says how many bytes it has. Refusals: 14 8 14 5. */
+uint8_t braidlark_page(const uint8_t *table, size_t table_length, uint32_t page, uint32_t time, uint8_t *out,
+                       size_t out_length, uint32_t *written);
+
+/* Relays a data frame. One for this unit answers next hop 0 and the place and length of its payload in the frame;
+ * any other is written with its ttl one less, and answers the next hop, place 0 and the number of bytes written.
+ * Refusals: 14 1 2 1 3 4 6 8 10 11 5. */
+uint8_t braidlark_relay(const uint8_t *table, size_t table_length, const uint8_t *frame, size_t frame_length,
+                        uint32_t time, uint8_t *out, size_t out_length, uint16_t *next_hop, uint32_t *place,
+                        uint32_t *length);
+
+/* Forwards a beacon of this network with this delay added, and says how many bytes were written.
+ * Refusals: 14 1 2 1 3 4 6 15 8 11 16 4 5. */
+uint8_t braidlark_forward(uint8_t *table, size_t table_length, uint16_t network, const uint8_t *frame,
+                          size_t frame_length, uint32_t delay, uint32_t time, uint8_t *out, size_t out_length,
+                          uint32_t *written);
+
+/* ---- a unit's state, BRAIDLARK_STATE_SIZE bytes */
+
+/* A fresh state: Initializing, entered at this time. Refusals: 14 (the buffer's length). */
+uint8_t braidlark_state_fresh(uint8_t *state, size_t state_length, uint32_t time);
+
+/* The event with this number, at a time. Refusals: 14 8 7. */
+uint8_t braidlark_state_event(uint8_t *state, size_t state_length, uint8_t event, uint32_t time);
+
+/* A tick at a time, with the superframe's length, 1 to 6,553,500 ms. Refusals: 14 8 14 (the length). */
+uint8_t braidlark_state_tick(uint8_t *state, size_t state_length, uint32_t superframe_ms, uint32_t time);
+
+/* ---- a unit's clock */
+
+/* Steps the offset from local to network time by a beacon of this network that came in at a local time.
+ * Refusals: 1 2 1 3 4 15 14 (an offset beyond 2^34 either way). */
+uint8_t braidlark_clock_step(int64_t *offset, uint32_t local_time, uint16_t network, const uint8_t *frame,
+                             size_t frame_length);
+
+/* ---- the manager's plan, BRAIDLARK_PLAN_SIZE bytes, and book, BRAIDLARK_BOOK_SIZE bytes */
+
+/* Makes the plan of a site. Refusals: 14 (the buffer's length, or any rule of a plan). */
+uint8_t braidlark_plan(uint8_t *plan, size_t plan_length, uint16_t network, uint16_t manager, uint8_t max_hops,
+                       uint8_t rows, uint8_t data_slots, uint16_t slot_ms);
+
+/* Makes the book of a plan: the manager alone, with the lowest data slot. Refusals: 14. */
+uint8_t braidlark_book_fresh(uint8_t *book, size_t book_length, const uint8_t *plan, size_t plan_length, uint32_t time);
+
+/* Lets a unit join: writes a response for its control slot and for each data slot that it then holds, ascending, and
+ * says how many bytes they have. Refusals: 14 1 2 1 3 4 6 15 8 12 5. */
+uint8_t braidlark_join(uint8_t *book, size_t book_length, const uint8_t *frame, size_t frame_length, uint32_t time,
+                       uint8_t *out, size_t out_length, uint32_t *written);
+
+/* Brings a member's slots to what it asks for, as far as there are spare ones, and answers as braidlark_join does.
+ * Refusals: 14 1 2 1 3 4 6 8 13 5. */
+uint8_t braidlark_slot_request(uint8_t *book, size_t book_length, const uint8_t *frame, size_t frame_length,
+                               uint32_t time, uint8_t *out, size_t out_length, uint32_t *written);
+
+/* Renews a live member's time: it stays live up to 300,000 ms. Refusals: 14 4 8 13. */
+uint8_t braidlark_heard(uint8_t *book, size_t book_length, uint16_t unit, uint32_t time);
+
+/* Frees a live member's row and slots; the manager cannot leave. Refusals: 14 4 8 13. */
+uint8_t braidlark_leave(uint8_t *book, size_t book_length, uint16_t unit, uint32_t time);
+
+/* Writes a live member's schedule, one byte a slot, and says how many slots there are. The manager is at hop 0, others
+ * at 1 to the plan's most. Refusals: 14 4 8 14 (the hop) 13 5. */
+uint8_t braidlark_schedule(const uint8_t *book, size_t book_length, uint16_t unit, uint8_t hop, uint32_t time,
+                           uint8_t *out, size_t out_length, uint32_t *written);
+
+/* ---- the stored image of a book, at most BRAIDLARK_MOST_IMAGE bytes */
+
+/* Writes the image of a book, its live members alone, and says how many bytes it has. Refusals: 14 8 5. */
+uint8_t braidlark_image(const uint8_t *book, size_t book_length, uint32_t time, uint8_t *out, size_t out_length,
+                        uint32_t *written);
+
+/* Makes the book of an image, every time the given one. Refusals: 14 (the buffer's length, or the image). */
+uint8_t braidlark_restore(uint8_t *book, size_t book_length, const uint8_t *image, size_t image_length, uint32_t time);
+
+#ifdef __cplusplus
+}
+#endif
+
+#endif

@@ -1,0 +1,332 @@
+/*
+ * What the greenhouse is made of: its units and links, what is in the air, the manager's side, and the record of the
+ * night. All of it is one `struct site`, which every function is handed. The subjects are a file each; what they offer
+ * one another stands at the end.
+ */
+#ifndef GREENHOUSE_H
+#define GREENHOUSE_H
+
+#include <stdbool.h>
+#include <stddef.h>
+#include <stdint.h>
+#include <stdio.h>
+
+#include "braidlark.h"
+
+/* The plan: 12 rows, and 13 units that will want one. Slots of 200 ms leave room for the 50 ms by which the
+ * clock step lets a unit's clock be off, on either side of 100 ms of air. */
+enum {
+    NETWORK = 1,
+    MOST_HOPS = 4,
+    MEMBER_ROWS = 12,
+    DATA_SLOTS = 20,
+    SLOT_MS = 200,
+    SUPERFRAME_MS = BRAIDLARK_MOST_SLOTS * SLOT_MS,
+    SILENCE_MS = 300000, /* how long a route is used, and a member kept, without a word: document 01's number */
+    CLOCK_TOLERANCE_MS = 60
+};
+
+/* The units, in the order of their places in the struct. */
+enum {
+    OFFICE,
+    MIDDLE_RELAY,
+    NORTH_RELAY,
+    BACK_RELAY,
+    BENCH_1,
+    BENCH_2,
+    BENCH_3,
+    BENCH_4,
+    BENCH_5,
+    BENCH_6,
+    BENCH_7,
+    BENCH_8,
+    BENCH_9,
+    UNITS,
+    NOBODY = -1
+};
+
+enum {
+    EVERYBODY = 0xFFFF, /* as the receiver of a packet */
+    QUEUE_LENGTH = 24,
+    MOST_IN_AIR = 64,
+    MOST_ORDERS = 96,
+    MOST_CARRIERS = 8,
+    MOST_CHANGES = 256,
+    MOST_MARKS = 192,
+    MOST_HELD = 4,
+    RESPONSE_LENGTH = BRAIDLARK_MOST_RESPONSES / 5,
+    MOST_PAYLOAD = 1 + BRAIDLARK_MOST_RESPONSES
+};
+
+/* What the payload of a data frame is, its first byte; the frames of a request or of its answer follow theirs. */
+enum { ORDER = 1, REPORT, REQUEST, ANSWER };
+
+/* What goes from one unit to another, or to all: a frame, or the responses to one request in a row. A slot has room
+ * for BRAIDLARK_MOST_FRAME bytes of them. */
+struct packet {
+    uint16_t to;
+    uint8_t length;
+    uint8_t frame_length; /* of each frame in it */
+    uint8_t bytes[BRAIDLARK_MOST_FRAME];
+};
+
+/* What braidlark_read makes of a frame: its numbers, and where the bytes behind them are. */
+struct frame {
+    uint32_t fields[BRAIDLARK_MOST_FIELDS];
+    uint32_t place;
+    uint32_t part_length;
+};
+
+struct queue {
+    struct packet waiting[QUEUE_LENGTH];
+    int count;
+};
+
+/* What a unit was told it holds, and until when in network time it may count on that. */
+struct holding {
+    bool held;
+    uint16_t control_slot;
+    uint16_t data_slots[MOST_HELD];
+    int data_count;
+    uint32_t told;
+    int64_t end;
+};
+
+struct unit {
+    const char *name;
+    uint16_t address;
+    uint8_t wanted_slots;
+    bool powered;
+    int32_t skew_ms;
+    int32_t drift_ppm;
+    uint8_t state[BRAIDLARK_STATE_SIZE];
+    uint8_t table[BRAIDLARK_TABLE_SIZE];
+    int64_t offset;
+    struct holding holding;
+    bool was_refused;
+    bool beacon_heard; /* in this superframe */
+    uint16_t sponsor;  /* whose beacon came first, so from the fewest hops away, in the last superframe that had one */
+    int asks_in_slot;  /* the discovery slot in which a unit that is no member asks next, or NOBODY */
+    uint32_t next_request;
+    uint32_t next_update;
+    uint32_t next_report;
+    uint16_t sequence;
+    struct queue control;
+    struct queue data;
+    struct packet beacon;
+    int beacon_slot; /* of the beacon that waits, or NOBODY */
+    uint16_t last_order;
+    uint8_t setting;
+    bool was_told[UNITS];         /* whether an update of that unit was ever accepted since power came */
+    uint32_t update_taken[UNITS]; /* and the local time of the last one */
+};
+
+struct order {
+    int head;
+    uint8_t setting;
+    uint32_t given;
+    uint32_t next_try;
+    int lost_at_silent;
+    bool arrived;
+    bool confirmed;
+    bool replaced; /* by a later order for the same head */
+    bool waits_for_route;
+    uint32_t arrival;
+    int carriers[MOST_CARRIERS];
+    int carrier_count;
+};
+
+/* The slots of the plan, as the manager's own schedule shows them. */
+struct regions {
+    int slots;
+    int control;
+    int data;
+    int discovery;
+    int end;
+};
+
+struct manager {
+    bool running;
+    uint8_t plan[BRAIDLARK_PLAN_SIZE];
+    uint8_t book[BRAIDLARK_BOOK_SIZE];
+    struct regions regions;
+    uint32_t superframe_number;
+    uint32_t last_word[UNITS]; /* when a frame of that unit came in last */
+    struct order orders[MOST_ORDERS];
+    int order_count;
+};
+
+struct change {
+    uint32_t time;
+    int unit;
+};
+
+/* A value over the night: each change with its time. */
+struct record {
+    struct change changes[MOST_CHANGES];
+    int count;
+};
+
+/* An order that arrived, or was handed to a unit that was gone. */
+struct mark {
+    uint32_t time;
+    bool lost;
+};
+
+/* Orders that arrived as they should while nothing else happened; they are told in one line. */
+struct quiet {
+    int count;
+    uint32_t since;
+    uint32_t slowest_ms;
+};
+
+struct on_air {
+    int sender;
+    struct packet packet;
+};
+
+/* When what happens, in ms from the start. */
+struct script {
+    uint32_t orders_begin;
+    uint32_t new_head;
+    uint32_t unbolted; /* then, or soon after */
+    uint32_t returned;
+    uint32_t taken_out;
+    uint32_t end;
+};
+
+struct tally {
+    uint32_t packets;
+    uint32_t lost_on_links;
+    uint32_t handed_over;
+    uint32_t without_route;
+    uint32_t routes;
+    uint32_t schedules;
+    uint32_t refused_joins;
+    uint32_t started_over;
+    uint32_t oldest_word_ms;
+    uint32_t worst_clock_ms;
+};
+
+struct site {
+    uint32_t now;
+    uint32_t random;
+    struct script script;
+    struct unit units[UNITS];
+    uint8_t quality[UNITS][UNITS]; /* of the link between two units, 0 where there is none */
+    struct manager manager;
+    struct on_air air[MOST_IN_AIR];
+    int air_count;
+    bool live[UNITS];     /* as the schedules said last */
+    uint32_t held[UNITS]; /* data slots, one bit each, as the schedules said last */
+    int row[UNITS];       /* of the book, by the control slot in the schedule */
+    uint32_t middle_held; /* what the middle relay held when it fell silent */
+    int middle_row;
+    uint32_t next_order;
+    int orders_given;
+    struct record slot_holders[DATA_SLOTS];
+    struct record next_hops[UNITS]; /* the manager's next hop to each unit */
+    struct mark marks[MOST_MARKS];
+    int mark_count;
+    struct quiet quiet;
+    struct tally tally;
+};
+
+/* layout.c: the units, their links, and the times of the story */
+void layout_set(struct site *site, uint32_t seed, uint32_t length_ms);
+int layout_find(const struct site *site, uint16_t address);
+
+/* medium.c: what is in the air in a slot and who hears it */
+uint32_t medium_random(struct site *site, uint32_t below);
+void medium_send(struct site *site, int sender, const struct packet *packet);
+void medium_deliver(struct site *site);
+
+/* packet.c: frames in packets, and packets that wait for a slot */
+void packet_set(struct packet *packet, uint16_t to, const uint8_t *bytes, size_t length, size_t frame_length);
+void packet_write(struct site *site, struct packet *packet, uint16_t to, const uint32_t *fields, size_t count,
+                  const uint8_t *part, size_t part_length);
+void frame_read(struct site *site, const uint8_t *bytes, size_t length, struct frame *frame);
+void queue_put(struct queue *queue, const struct packet *packet);
+bool queue_take(struct queue *queue, size_t room, struct packet *packet);
+
+/* unit.c: a unit's power, time, state, clock, beacons and routing updates */
+void unit_power_on(struct site *site, int unit);
+void unit_power_off(struct site *site, int unit);
+uint32_t unit_time(const struct site *site, int unit);
+int64_t unit_network_time(const struct site *site, int unit);
+bool unit_sends(const struct site *site, int unit);
+void unit_tell(struct site *site, int unit, uint8_t event);
+void unit_begin(struct site *site, int unit);
+void unit_tick(struct site *site, int unit);
+bool unit_turn(struct site *site, int unit, int slot, size_t room, struct packet *packet);
+void unit_hear(struct site *site, int unit, int sender, uint8_t quality, const struct packet *packet);
+
+/* membership.c: asking for a place in the book, carrying such requests for others, and what was granted */
+void membership_drop(struct unit *unit);
+bool membership_counts(const struct site *site, int unit);
+void membership_begin(struct site *site, int unit);
+void membership_ask(struct site *site, int unit, struct packet *packet);
+void membership_sponsor(struct site *site, int unit, const struct packet *packet, uint16_t node);
+void membership_answer(struct site *site, int unit, const uint8_t *bytes, size_t length);
+
+/* traffic.c: data frames, hop by hop */
+void traffic_send(struct site *site, int unit, uint16_t destination, uint8_t kind, const uint8_t *rest, size_t length);
+bool traffic_turn(struct site *site, int unit, size_t room, struct packet *packet);
+void traffic_hear(struct site *site, int unit, const struct packet *packet, const struct frame *frame);
+void traffic_report(struct site *site, int unit);
+
+/* manager.c: the plan, the book, the answers and the beacon */
+void manager_begin(struct site *site);
+size_t manager_answer(struct site *site, const uint8_t *request, size_t length, uint8_t *out, size_t room);
+void manager_hears(struct site *site, uint16_t address);
+void manager_takes_out(struct site *site, int unit);
+
+/* orders.c: the orders for the valves */
+void orders_give(struct site *site, int head, uint8_t setting);
+void orders_repeat(struct site *site);
+void orders_arrive(struct site *site, int unit, const uint8_t *words);
+void orders_confirm(struct site *site, int unit, const uint8_t *words);
+void orders_carried(struct site *site, int carrier, const struct packet *packet);
+
+/* routes.c: the office's ways over the night */
+void routes_watch(struct site *site);
+
+/* story.c: what happens when */
+void story_slot(struct site *site);
+void story_orders(struct site *site);
+bool story_is_quiet(const struct site *site);
+
+/* superframes.c: time */
+void superframes_run(struct site *site);
+
+/* checks.c: what the program holds the library and itself to */
+#define REFUSAL(number) (1u << (number))
+void check_status(struct site *site, const char *call, uint8_t status, uint32_t refusals);
+void check_next_hop(struct site *site, int unit, uint16_t next_hop);
+void check_routes(struct site *site);
+void check_air(struct site *site, int slot);
+void check_schedules(struct site *site);
+void check_clocks(struct site *site);
+void check_end(struct site *site);
+
+/* timeline.c: the lines for the grower */
+#ifdef __GNUC__
+#define LIKE_PRINTF __attribute__((format(printf, 2, 3)))
+#else
+#define LIKE_PRINTF
+#endif
+void say(struct site *site, const char *format, ...) LIKE_PRINTF;
+void fail(struct site *site, const char *format, ...) LIKE_PRINTF;
+void clock_words(uint32_t time, char words[9]);
+void number_words(uint32_t numbers, char words[80]);
+void timeline_quiet(struct site *site, uint32_t took_ms);
+void timeline_summary(struct site *site);
+
+/* record.c: values over the night */
+void record_note(struct record *record, uint32_t time, int unit);
+void record_order(struct site *site, bool lost);
+
+/* drawing.c: the night as one picture */
+void drawing_write(const struct site *site, FILE *file);
+
+#endif

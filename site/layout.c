@@ -1,0 +1,100 @@
+/*
+ * The site itself: who stands where, who hears whom how well, and when what happens in the night.
+ *
+ *     benches 6, 7, 8 --- office
+ *                        /      \
+ *        bench 5 --- middle    north --- bench 9
+ *                    /   \      /        /
+ *               bench 4 --- back -------+
+ *                            |
+ *                     benches 1, 2, 3
+ *
+ * The middle relay is the way of orders to the back, the shorter way to bench 4, and the only one to bench 5. The way
+ * round it goes by the north relay.
+ */
+#include <string.h>
+
+#include "greenhouse.h"
+
+struct place {
+    const char *name;
+    uint16_t address;
+    uint8_t wanted_slots;
+};
+
+static const struct place PLACES[UNITS] = {
+    [OFFICE] = {"the office", 0x0100, 1},
+    [MIDDLE_RELAY] = {"the middle relay", 0x0201, 3},
+    [NORTH_RELAY] = {"the north relay", 0x0202, 3},
+    [BACK_RELAY] = {"the back relay", 0x0203, 3},
+    [BENCH_1] = {"bench 1", 0x0301, 1},
+    [BENCH_2] = {"bench 2", 0x0302, 1},
+    [BENCH_3] = {"bench 3", 0x0303, 1},
+    [BENCH_4] = {"bench 4", 0x0304, 1},
+    [BENCH_5] = {"bench 5", 0x0305, 1},
+    [BENCH_6] = {"bench 6", 0x0306, 1},
+    [BENCH_7] = {"bench 7", 0x0307, 1},
+    [BENCH_8] = {"bench 8", 0x0308, 1},
+    [BENCH_9] = {"bench 9", 0x0309, 2},
+};
+
+struct link {
+    int one;
+    int other;
+    uint8_t quality;
+};
+
+/* A route's quality halves towards its near end, so that orders to the back prefer the middle relay, whose link to the
+ * office is the better one, and reports from the back the north relay, whose link to the back is. */
+static const struct link LINKS[] = {
+    {OFFICE, MIDDLE_RELAY, 90},    {OFFICE, NORTH_RELAY, 70},  {MIDDLE_RELAY, BACK_RELAY, 60},
+    {NORTH_RELAY, BACK_RELAY, 85}, {BACK_RELAY, BENCH_1, 88},  {BACK_RELAY, BENCH_2, 86},
+    {BACK_RELAY, BENCH_3, 84},     {BACK_RELAY, BENCH_4, 80},  {MIDDLE_RELAY, BENCH_4, 85},
+    {MIDDLE_RELAY, BENCH_5, 82},   {OFFICE, BENCH_6, 86},      {OFFICE, BENCH_7, 84},
+    {OFFICE, BENCH_8, 88},         {NORTH_RELAY, BENCH_9, 78}, {BACK_RELAY, BENCH_9, 74},
+};
+
+enum { MINUTE = 60000 };
+
+/* The first quarter of an hour is the same in every run, and the relay is away for all but the rest. */
+static void set_script(struct script *script, uint32_t length_ms)
+{
+    script->orders_begin = 13 * MINUTE;
+    script->new_head = 14 * MINUTE;
+    script->unbolted = 19 * MINUTE;
+    script->returned = length_ms - 20 * MINUTE;
+    script->taken_out = length_ms - 12 * MINUTE;
+    script->end = length_ms;
+}
+
+void layout_set(struct site *site, uint32_t seed, uint32_t length_ms)
+{
+    memset(site, 0, sizeof *site);
+    site->random = seed;
+    site->middle_row = NOBODY;
+    set_script(&site->script, length_ms);
+    for (int index = 0; index < UNITS; index++) {
+        struct unit *unit = &site->units[index];
+        unit->name = PLACES[index].name;
+        unit->address = PLACES[index].address;
+        unit->wanted_slots = PLACES[index].wanted_slots;
+        /* Every crystal but the manager's, which is the network's time, is off and runs off, some fast, some slow. */
+        unit->skew_ms = index * 1370;
+        unit->drift_ppm = index == OFFICE ? 0 : (index % 2 ? 1 : -1) * (10 + 3 * index);
+    }
+    for (size_t index = 0; index < sizeof LINKS / sizeof LINKS[0]; index++) {
+        site->quality[LINKS[index].one][LINKS[index].other] = LINKS[index].quality;
+        site->quality[LINKS[index].other][LINKS[index].one] = LINKS[index].quality;
+    }
+}
+
+/* The unit with an address, or NOBODY. */
+int layout_find(const struct site *site, uint16_t address)
+{
+    for (int index = 0; index < UNITS; index++) {
+        if (site->units[index].address == address) {
+            return index;
+        }
+    }
+    return NOBODY;
+}

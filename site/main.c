@@ -1,0 +1,98 @@
+/*
+ * A night in a greenhouse, played with real frames over lossy links through the calls of braidlark.h: what the program
+ * is asked for, and its parts in order.
+ */
+#include <stdlib.h>
+#include <string.h>
+
+#include "greenhouse.h"
+
+struct wishes {
+    uint32_t length_ms;
+    uint32_t seed;
+    const char *drawing;
+};
+
+static const char USAGE[] =
+    "usage: greenhouse [--hours N | --short] [--seed N] [--svg FILE] [--help]\n"
+    "\n"
+    "Plays a night in a greenhouse whose middle relay is unbolted, and checks what happens.\n"
+    "\n"
+    "  --hours N    the night has N hours, 1 to 12 (9 if nothing is said)\n"
+    "  --short      the night has 52 minutes, for a quick test\n"
+    "  --seed N     which packets are lost: the same for the same number, 0 to 4294967295 (7 if nothing is said)\n"
+    "  --svg FILE   also draws the night: who held which slots, and the ways of the orders\n"
+    "  --help       this text\n"
+    "\n"
+    "Status 0: every check held. 1: one did not, or the drawing could not be written. 2: a bad argument.\n";
+
+static void refuse(const char *reason, const char *argument)
+{
+    fprintf(stderr, "greenhouse: %s%s\n%s", reason, argument, USAGE);
+    exit(2);
+}
+
+static uint32_t number_of(const char *words, uint32_t least, uint32_t most)
+{
+    size_t digits = strspn(words, "0123456789");
+    unsigned long long value = strtoull(words, NULL, 10);
+    if (digits == 0 || digits > 10 || words[digits] != '\0' || value < least || value > most) {
+        refuse("not a number that will do: ", words);
+    }
+    return (uint32_t)value;
+}
+
+static struct wishes read_wishes(int count, char **words)
+{
+    enum { MINUTE = 60000, HOUR = 60 * MINUTE };
+    struct wishes wishes = {.length_ms = 9 * HOUR, .seed = 7, .drawing = NULL};
+    for (int index = 1; index < count; index++) {
+        const char *word = words[index];
+        if (strcmp(word, "--help") == 0) {
+            fputs(USAGE, stdout);
+            exit(EXIT_SUCCESS);
+        } else if (strcmp(word, "--short") == 0) {
+            wishes.length_ms = 52 * MINUTE;
+        } else if (strcmp(word, "--hours") != 0 && strcmp(word, "--seed") != 0 && strcmp(word, "--svg") != 0) {
+            refuse("not known here: ", word);
+        } else if (++index == count) {
+            refuse("nothing follows ", word);
+        } else if (strcmp(word, "--hours") == 0) {
+            wishes.length_ms = number_of(words[index], 1, 12) * HOUR;
+        } else if (strcmp(word, "--seed") == 0) {
+            wishes.seed = number_of(words[index], 0, UINT32_MAX);
+        } else {
+            wishes.drawing = words[index];
+        }
+    }
+    return wishes;
+}
+
+/* Whether all that was printed or drawn has reached its file. */
+static bool is_written(FILE *file)
+{
+    return fflush(file) == 0 && ferror(file) == 0;
+}
+
+int main(int count, char **words)
+{
+    static struct site site;
+    struct wishes wishes = read_wishes(count, words);
+    FILE *drawing = wishes.drawing == NULL ? NULL : fopen(wishes.drawing, "w");
+    if (wishes.drawing != NULL && drawing == NULL) {
+        fprintf(stderr, "greenhouse: %s cannot be written\n", wishes.drawing);
+        return EXIT_FAILURE;
+    }
+    layout_set(&site, wishes.seed, wishes.length_ms);
+    superframes_run(&site);
+    check_end(&site);
+    timeline_summary(&site);
+    if (drawing != NULL) {
+        drawing_write(&site, drawing);
+    }
+    if (!is_written(stdout) || (drawing != NULL && (!is_written(drawing) || fclose(drawing) != 0))) {
+        fprintf(stderr, "greenhouse: not everything could be written\n");
+        return EXIT_FAILURE;
+    }
+    return EXIT_SUCCESS;
+}

@@ -1,0 +1,167 @@
+/*
+ * The manager's side: the plan, the book, the answers to requests, and the beacon. Of the book it knows only what the
+ * calls answer.
+ */
+#include "greenhouse.h"
+
+/* The regions of the superframe show in the manager's own schedule: the first slot of each kind. */
+static void find_regions(struct site *site)
+{
+    struct manager *manager = &site->manager;
+    uint8_t kinds[BRAIDLARK_MOST_SLOTS];
+    uint32_t slots = 0;
+    uint8_t status = braidlark_schedule(manager->book, sizeof manager->book, site->units[OFFICE].address, 0, site->now,
+                                        kinds, sizeof kinds, &slots);
+    check_status(site, "braidlark_schedule of the manager", status, 0);
+    struct regions *regions = &manager->regions;
+    regions->slots = (int)slots;
+    if (slots * SLOT_MS != SUPERFRAME_MS) {
+        fail(site, "the plan has %u slots, and the site counts on %d", (unsigned)slots, BRAIDLARK_MOST_SLOTS);
+    }
+    for (int slot = (int)slots - 1; slot >= 0; slot--) {
+        if (kinds[slot] == BRAIDLARK_DISCOVERY_TX) {
+            regions->discovery = slot;
+        } else if (kinds[slot] == BRAIDLARK_TX || kinds[slot] == BRAIDLARK_RX) {
+            regions->data = slot;
+        } else if (kinds[slot] == BRAIDLARK_CONTROL_TX || kinds[slot] == BRAIDLARK_CONTROL_RX) {
+            regions->control = slot;
+        }
+        if (regions->end == 0 && kinds[slot] != BRAIDLARK_SLEEP) {
+            regions->end = slot + 1;
+        }
+    }
+}
+
+static void start(struct site *site)
+{
+    struct manager *manager = &site->manager;
+    struct unit *office = &site->units[OFFICE];
+    uint8_t status = braidlark_plan(manager->plan, sizeof manager->plan, NETWORK, office->address, MOST_HOPS,
+                                    MEMBER_ROWS, DATA_SLOTS, SLOT_MS);
+    check_status(site, "braidlark_plan", status, 0);
+    status = braidlark_book_fresh(manager->book, sizeof manager->book, manager->plan, sizeof manager->plan, site->now);
+    check_status(site, "braidlark_book_fresh", status, 0);
+    find_regions(site);
+    const struct regions *regions = &manager->regions;
+    office->holding = (struct holding){.held = true,
+                                       .control_slot = (uint16_t)regions->control,
+                                       .data_slots = {(uint16_t)regions->data},
+                                       .data_count = 1};
+    manager->running = true;
+    say(site, "the office heard no other manager for 30 s and manages: %d slots of %d ms, room for %d members",
+        regions->slots, SLOT_MS, MEMBER_ROWS);
+}
+
+/* The beacon of the superframe that begins now. */
+static void write_beacon(struct site *site, struct packet *packet)
+{
+    struct manager *manager = &site->manager;
+    uint32_t slots = (uint32_t)manager->regions.slots;
+    uint32_t fields[BRAIDLARK_BEACON_FIELDS] = {
+        [BRAIDLARK_TYPE] = BRAIDLARK_BEACON,
+        [BRAIDLARK_BEACON_DESTINATION] = EVERYBODY,
+        [BRAIDLARK_BEACON_SOURCE] = site->units[OFFICE].address,
+        [BRAIDLARK_BEACON_SIZE] = 27,
+        [BRAIDLARK_BEACON_NETWORK] = NETWORK,
+        [BRAIDLARK_BEACON_SUPERFRAME_NUMBER] = manager->superframe_number,
+        [BRAIDLARK_BEACON_SUPERFRAME_MS] = slots * SLOT_MS,
+        [BRAIDLARK_BEACON_TOTAL_SLOTS] = slots,
+        [BRAIDLARK_BEACON_SLOT_MS] = SLOT_MS,
+        [BRAIDLARK_BEACON_ORIGINAL_SOURCE] = site->units[OFFICE].address,
+        [BRAIDLARK_BEACON_ORIGINAL_TIME] = site->now,
+        [BRAIDLARK_BEACON_MAX_HOPS] = MOST_HOPS,
+        [BRAIDLARK_BEACON_SEQUENCE] = manager->superframe_number & 0xFFFF,
+    };
+    packet_write(site, packet, EVERYBODY, fields, BRAIDLARK_BEACON_FIELDS, NULL, 0);
+    manager->superframe_number++;
+}
+
+/* The start of a superframe: the first time a plan and a book, every time a beacon in slot 0. */
+void manager_begin(struct site *site)
+{
+    if (!site->manager.running) {
+        start(site);
+    }
+    write_beacon(site, &site->units[OFFICE].beacon);
+    site->units[OFFICE].beacon_slot = 0;
+}
+
+/* The response that says no. */
+static size_t write_denial(struct site *site, uint32_t node, uint8_t *out, size_t room)
+{
+    uint32_t fields[BRAIDLARK_JOIN_RESPONSE_FIELDS] = {[BRAIDLARK_TYPE] = BRAIDLARK_JOIN_RESPONSE,
+                                                       [BRAIDLARK_JOIN_RESPONSE_NODE] = node,
+                                                       [BRAIDLARK_JOIN_RESPONSE_STATUS] = 1,
+                                                       [BRAIDLARK_JOIN_RESPONSE_SLOT] = 0xFFFF,
+                                                       [BRAIDLARK_JOIN_RESPONSE_SUPERFRAME_TIME] = site->now,
+                                                       [BRAIDLARK_JOIN_RESPONSE_NETWORK] = NETWORK};
+    uint32_t written = 0;
+    uint8_t status = braidlark_write(fields, BRAIDLARK_JOIN_RESPONSE_FIELDS, NULL, 0, out, room, &written);
+    check_status(site, "braidlark_write", status, 0);
+    return written;
+}
+
+/* Each refusal for want of a row counts; the first that a unit meets is told. */
+static void note_refusal(struct site *site, int unit, uint8_t status)
+{
+    struct unit *asker = &site->units[unit];
+    if (status != BRAIDLARK_FULL) {
+        return;
+    }
+    site->tally.refused_joins++;
+    if (!asker->was_refused) {
+        say(site, "%s asks to join and is refused: all %d rows of the book are taken (12)", asker->name, MEMBER_ROWS);
+    }
+    asker->was_refused = true;
+}
+
+/* Answers a join or slot request: the bytes of the responses, and how many. */
+size_t manager_answer(struct site *site, const uint8_t *request, size_t length, uint8_t *out, size_t room)
+{
+    struct manager *manager = &site->manager;
+    struct frame frame;
+    frame_read(site, request, length, &frame);
+    bool joins = frame.fields[BRAIDLARK_TYPE] == BRAIDLARK_JOIN_REQUEST;
+    uint32_t node = frame.fields[joins ? BRAIDLARK_JOIN_REQUEST_NODE : BRAIDLARK_SLOT_REQUEST_NODE], written = 0;
+    int unit = layout_find(site, (uint16_t)node);
+    uint8_t status;
+    if (joins) {
+        status = braidlark_join(manager->book, sizeof manager->book, request, length, site->now, out, room, &written);
+        check_status(site, "braidlark_join", status, REFUSAL(BRAIDLARK_FULL));
+    } else {
+        status = braidlark_slot_request(manager->book, sizeof manager->book, request, length, site->now, out, room,
+                                        &written);
+        check_status(site, "braidlark_slot_request", status, REFUSAL(BRAIDLARK_NO_MEMBER));
+    }
+    if (status != BRAIDLARK_ACCEPTED) {
+        note_refusal(site, unit, status);
+        return write_denial(site, node, out, room);
+    }
+    manager->last_word[unit] = site->now;
+    check_schedules(site);
+    return written;
+}
+
+/* A frame of this unit reached the manager. */
+void manager_hears(struct site *site, uint16_t address)
+{
+    struct manager *manager = &site->manager;
+    uint8_t status = braidlark_heard(manager->book, sizeof manager->book, address, site->now);
+    check_status(site, "braidlark_heard", status, REFUSAL(BRAIDLARK_NO_MEMBER));
+    manager->last_word[layout_find(site, address)] = site->now;
+}
+
+/* A unit is taken out with a word to the manager: its row and slots are free at once, and so are the routes. */
+void manager_takes_out(struct site *site, int unit)
+{
+    struct manager *manager = &site->manager;
+    struct unit *office = &site->units[OFFICE];
+    uint16_t address = site->units[unit].address;
+    uint8_t status = braidlark_leave(manager->book, sizeof manager->book, address, site->now);
+    check_status(site, "braidlark_leave", status, 0);
+    site->live[unit] = false;
+    status = braidlark_forget(office->table, sizeof office->table, address, site->now);
+    check_status(site, "braidlark_forget", status, 0);
+    unit_power_off(site, unit);
+    check_schedules(site);
+}

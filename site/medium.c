@@ -1,0 +1,80 @@
+/*
+ * The air: what is sent in a slot, and who hears it. A packet is lost on a link the more often the poorer the link is;
+ * of several that reach a unit in one slot it hears the strongest.
+ */
+#include "greenhouse.h"
+
+/* A number below a bound, the same ones for the same seed: steps of an odd number, whose bits are then well stirred. */
+uint32_t medium_random(struct site *site, uint32_t below)
+{
+    site->random += 0x9E3779B9u;
+    uint32_t word = site->random;
+    for (int turn = 0; turn < 3; turn++) {
+        word = (word ^ word >> 16) * 0x45D9F3BDu;
+    }
+    return (uint32_t)((uint64_t)(word ^ word >> 16) * below >> 32);
+}
+
+void medium_send(struct site *site, int sender, const struct packet *packet)
+{
+    if (site->air_count == MOST_IN_AIR) {
+        fail(site, "more than %d packets in one slot", MOST_IN_AIR);
+    }
+    site->air[site->air_count].sender = sender;
+    site->air[site->air_count].packet = *packet;
+    site->air_count++;
+    site->tally.packets++;
+    orders_carried(site, sender, packet);
+}
+
+/* At quality 100 nothing is lost, at 60 one packet in twenty. */
+static bool comes_through(struct site *site, uint8_t quality)
+{
+    if (medium_random(site, 800) >= (uint32_t)(100 - quality)) {
+        return true;
+    }
+    site->tally.lost_on_links++;
+    return false;
+}
+
+/* Whom a unit hears in this slot: the sender with the best link to it, or NOBODY; one that sends hears nobody. */
+static int strongest(const struct site *site, int unit)
+{
+    int best = NOBODY;
+    uint8_t best_quality = 0;
+    for (int index = 0; index < site->air_count; index++) {
+        int sender = site->air[index].sender;
+        if (sender == unit) {
+            return NOBODY;
+        }
+        if (site->quality[sender][unit] > best_quality) {
+            best = sender;
+            best_quality = site->quality[sender][unit];
+        }
+    }
+    return best;
+}
+
+static void listen(struct site *site, int unit)
+{
+    int sender = strongest(site, unit);
+    for (int index = 0; sender != NOBODY && index < site->air_count; index++) {
+        const struct on_air *air = &site->air[index];
+        uint8_t quality = site->quality[sender][unit];
+        bool for_unit = air->packet.to == EVERYBODY || air->packet.to == site->units[unit].address;
+        if (air->sender == sender && for_unit && comes_through(site, quality)) {
+            unit_hear(site, unit, sender, quality, &air->packet);
+        }
+    }
+}
+
+/* The slot is over: whoever has power and does not send itself hears what reaches it. */
+void medium_deliver(struct site *site)
+{
+    for (int unit = 0; unit < UNITS && site->air_count > 0; unit++) {
+        if (site->units[unit].powered) {
+            listen(site, unit);
+        }
+    }
+    site->air_count = 0;
+}

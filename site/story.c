@@ -1,0 +1,93 @@
+/*
+ * What happens when: the units are switched on, the night's orders begin, a head too many comes, the middle relay is
+ * unbolted, and in the morning it is back.
+ */
+#include "greenhouse.h"
+
+enum { SECOND = 1000, MINUTE = 60 * SECOND };
+
+/* Whether a moment falls into the slot that begins now. */
+static bool due(const struct site *site, uint32_t moment)
+{
+    return moment <= site->now && site->now - moment < SLOT_MS;
+}
+
+static void switch_on(struct site *site)
+{
+    static const uint32_t RELAYS_FROM = 60 * SECOND, RELAYS_EVERY = 60 * SECOND;
+    static const uint32_t HEADS_FROM = 300 * SECOND, HEADS_EVERY = 40 * SECOND;
+    if (due(site, 0)) {
+        unit_power_on(site, OFFICE);
+        say(site, "night falls; the office is switched on, then the relays and the valve heads of eight benches");
+    }
+    for (int unit = MIDDLE_RELAY; unit <= BENCH_8; unit++) {
+        uint32_t moment = unit < BENCH_1 ? RELAYS_FROM + RELAYS_EVERY * (uint32_t)(unit - MIDDLE_RELAY)
+                                         : HEADS_FROM + HEADS_EVERY * (uint32_t)(unit - BENCH_1);
+        if (due(site, moment)) {
+            unit_power_on(site, unit);
+        }
+    }
+    if (due(site, site->script.new_head)) {
+        say(site, "a new head is put up at bench 9");
+        unit_power_on(site, BENCH_9);
+    }
+}
+
+/* The relay falls silent at once and with it bench 5, which only it can hear. That happens right after a word of bench
+ * 5 came through, so that the relay's is the first time to run out. */
+static void unbolt(struct site *site)
+{
+    const uint32_t *last_word = site->manager.last_word;
+    if (site->middle_row != NOBODY || site->now < site->script.unbolted ||
+        last_word[BENCH_5] < last_word[MIDDLE_RELAY]) {
+        return;
+    }
+    char slots[80];
+    number_words(site->held[MIDDLE_RELAY], slots);
+    site->script.unbolted = site->now;
+    site->middle_row = site->row[MIDDLE_RELAY];
+    site->middle_held = site->held[MIDDLE_RELAY];
+    unit_power_off(site, MIDDLE_RELAY);
+    say(site, "SOMEBODY UNBOLTS THE MIDDLE RELAY, which holds row %d and data slots %s", site->middle_row, slots);
+    say(site, "nobody knows yet: orders by it are lost until its routes are 300 s old, but not longer");
+}
+
+/* What happens to units in the slot that begins now. */
+void story_slot(struct site *site)
+{
+    switch_on(site);
+    unbolt(site);
+    if (due(site, site->script.returned)) {
+        say(site, "in the morning the middle relay is bolted on again");
+        unit_power_on(site, MIDDLE_RELAY);
+    }
+    if (due(site, site->script.taken_out)) {
+        say(site, "the grower takes out the head of bench 8 and tells the office so: its row is free at once");
+        manager_takes_out(site, BENCH_8);
+    }
+}
+
+/* Whether the relay's going and coming are both some time away. */
+bool story_is_quiet(const struct site *site)
+{
+    const struct script *script = &site->script;
+    return site->now >= script->unbolted + 11 * MINUTE && site->now + 5 * MINUTE <= script->returned;
+}
+
+/* Orders come every 20 minutes, and more often while there is something to see. */
+void story_orders(struct site *site)
+{
+    static const int HEADS[] = {BENCH_1, BENCH_4, BENCH_6, BENCH_5, BENCH_2, BENCH_3, BENCH_7, BENCH_9, BENCH_8};
+    const struct script *script = &site->script;
+    if (site->now < script->orders_begin || site->now < site->next_order || site->now + 6 * MINUTE > script->end) {
+        return;
+    }
+    site->next_order = site->now + (story_is_quiet(site) ? 20 * MINUTE : 100 * SECOND);
+    int count = (int)(sizeof HEADS / sizeof HEADS[0]);
+    int head = HEADS[site->orders_given % count];
+    int setting = 20 + 10 * (site->orders_given % 7);
+    site->orders_given++;
+    if (site->units[head].powered && (head != BENCH_9 || site->live[head])) {
+        orders_give(site, head, (uint8_t)setting);
+    }
+}

@@ -1,0 +1,66 @@
+/*
+ * Time: superframe by superframe, and slot by slot in each.
+ */
+#include "greenhouse.h"
+
+/* First every unit looks at what is due; then all that can be seen of the site is checked, and orders go out. */
+static void begin_superframe(struct site *site)
+{
+    for (int unit = 0; unit < UNITS; unit++) {
+        if (site->units[unit].powered) {
+            unit_begin(site, unit);
+        }
+    }
+    if (site->manager.running) {
+        check_schedules(site);
+        check_routes(site);
+        check_clocks(site);
+        routes_watch(site);
+        story_orders(site);
+        orders_repeat(site);
+    }
+}
+
+static void tick_units(struct site *site)
+{
+    for (int unit = 0; unit < UNITS; unit++) {
+        if (site->units[unit].powered) {
+            unit_tick(site, unit);
+        }
+    }
+}
+
+/* Each unit fills the slot as far as it may send in it; then all others have heard it. */
+static void run_slot(struct site *site, int slot)
+{
+    for (int unit = 0; unit < UNITS; unit++) {
+        size_t room = BRAIDLARK_MOST_FRAME;
+        struct packet packet;
+        while (site->units[unit].powered && unit_turn(site, unit, slot, room, &packet)) {
+            medium_send(site, unit, &packet);
+            room -= packet.length;
+        }
+    }
+    check_air(site, slot);
+    medium_deliver(site);
+}
+
+/* The whole night. */
+void superframes_run(struct site *site)
+{
+    for (uint32_t start = 0; start < site->script.end; start += SUPERFRAME_MS) {
+        for (int slot = 0; slot < BRAIDLARK_MOST_SLOTS; slot++) {
+            site->now = start + (uint32_t)(slot * SLOT_MS);
+            story_slot(site);
+            if (slot == 0) {
+                begin_superframe(site);
+            }
+            if (slot < site->manager.regions.end) {
+                run_slot(site, slot);
+            }
+            if (slot == BRAIDLARK_MOST_SLOTS / 2) {
+                tick_units(site);
+            }
+        }
+    }
+}

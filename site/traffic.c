@@ -1,0 +1,130 @@
+/*
+ * Data frames, hop by hop. A frame waits as it came and its way is chosen when the unit's slot comes, so that no frame
+ * goes to a next hop that was good only when it was queued.
+ */
+#include <string.h>
+
+#include "greenhouse.h"
+
+enum { TIME_TO_LIVE = 8 };
+
+/* Puts a frame of the unit's own in the queue: what its payload is, and the rest of it. */
+void traffic_send(struct site *site, int unit, uint16_t destination, uint8_t kind, const uint8_t *rest, size_t length)
+{
+    struct unit *self = &site->units[unit];
+    uint8_t payload[MOST_PAYLOAD] = {kind};
+    memcpy(payload + 1, rest, length);
+    uint32_t fields[BRAIDLARK_DATA_FIELDS] = {
+        [BRAIDLARK_TYPE] = BRAIDLARK_DATA,          [BRAIDLARK_DATA_SOURCE] = self->address,
+        [BRAIDLARK_DATA_DESTINATION] = destination, [BRAIDLARK_DATA_TTL] = TIME_TO_LIVE,
+        [BRAIDLARK_DATA_SEQUENCE] = self->sequence, [BRAIDLARK_DATA_COUNT] = (uint32_t)length + 1};
+    struct packet packet;
+    packet_write(site, &packet, 0, fields, BRAIDLARK_DATA_FIELDS, payload, length + 1);
+    self->sequence++;
+    queue_put(&self->data, &packet);
+}
+
+/* What a head or a relay reports: that it is there, and the last order it followed. */
+void traffic_report(struct site *site, int unit)
+{
+    const struct unit *self = &site->units[unit];
+    uint8_t report[] = {(uint8_t)self->last_order, (uint8_t)(self->last_order >> 8), self->setting};
+    traffic_send(site, unit, site->units[OFFICE].address, REPORT, report, sizeof report);
+}
+
+/* Chooses the way of a frame of the unit's own. */
+static uint8_t route_own(struct site *site, int unit, const struct packet *waiting, struct packet *packet)
+{
+    const struct unit *self = &site->units[unit];
+    struct frame frame;
+    frame_read(site, waiting->bytes, waiting->length, &frame);
+    uint16_t next_hop = 0;
+    uint8_t hops = 0;
+    uint8_t status =
+        braidlark_lookup(self->table, sizeof self->table, (uint16_t)frame.fields[BRAIDLARK_DATA_DESTINATION],
+                         unit_time(site, unit), &next_hop, &hops);
+    check_status(site, "braidlark_lookup", status, REFUSAL(BRAIDLARK_NO_ROUTE));
+    if (status == BRAIDLARK_ACCEPTED) {
+        *packet = *waiting;
+        packet->to = next_hop;
+    }
+    return status;
+}
+
+/* Chooses the way of another unit's frame, with its time to live one less. */
+static uint8_t route_other(struct site *site, int unit, const struct packet *waiting, struct packet *packet)
+{
+    const struct unit *self = &site->units[unit];
+    uint16_t next_hop = 0;
+    uint32_t place = 0, length = 0;
+    uint8_t status =
+        braidlark_relay(self->table, sizeof self->table, waiting->bytes, waiting->length, unit_time(site, unit),
+                        packet->bytes, sizeof packet->bytes, &next_hop, &place, &length);
+    check_status(site, "braidlark_relay", status,
+                 REFUSAL(BRAIDLARK_OWN_UNIT) | REFUSAL(BRAIDLARK_TTL_OVER) | REFUSAL(BRAIDLARK_NO_ROUTE));
+    if (status == BRAIDLARK_ACCEPTED) {
+        packet->to = next_hop;
+        packet->length = packet->frame_length = (uint8_t)length;
+    }
+    return status;
+}
+
+/* In the unit's slot the first waiting frame that has a way goes out; those before it that have none are lost. */
+bool traffic_turn(struct site *site, int unit, size_t room, struct packet *packet)
+{
+    struct unit *self = &site->units[unit];
+    struct packet waiting;
+    while (queue_take(&self->data, room, &waiting)) {
+        uint8_t status =
+            waiting.to == 0 ? route_own(site, unit, &waiting, packet) : route_other(site, unit, &waiting, packet);
+        if (status == BRAIDLARK_ACCEPTED) {
+            check_next_hop(site, unit, packet->to);
+            return true;
+        }
+        site->tally.without_route++;
+    }
+    return false;
+}
+
+/* What came for this unit itself. */
+static void take_payload(struct site *site, int unit, uint16_t source, const uint8_t *payload, size_t length)
+{
+    uint8_t answer[BRAIDLARK_MOST_RESPONSES];
+    const uint8_t *rest = payload + 1;
+    switch (payload[0]) {
+    case ORDER:
+        orders_arrive(site, unit, rest);
+        break;
+    case REPORT:
+        orders_confirm(site, layout_find(site, source), rest);
+        break;
+    case REQUEST:
+        traffic_send(site, unit, source, ANSWER, answer, manager_answer(site, rest, length - 1, answer, sizeof answer));
+        break;
+    case ANSWER:
+        membership_answer(site, unit, rest, length - 1);
+        break;
+    }
+}
+
+/* A frame that was heard is for this unit, or waits for its slot. Only a member has one. */
+void traffic_hear(struct site *site, int unit, const struct packet *packet, const struct frame *frame)
+{
+    struct unit *self = &site->units[unit];
+    if (frame->fields[BRAIDLARK_DATA_DESTINATION] != self->address) {
+        if (unit_sends(site, unit)) {
+            queue_put(&self->data, packet);
+        }
+        return;
+    }
+    uint16_t next_hop = 1;
+    uint32_t place = 0, length = 0;
+    uint8_t status = braidlark_relay(self->table, sizeof self->table, packet->bytes, packet->length,
+                                     unit_time(site, unit), NULL, 0, &next_hop, &place, &length);
+    check_status(site, "braidlark_relay", status, 0);
+    uint16_t source = (uint16_t)frame->fields[BRAIDLARK_DATA_SOURCE];
+    if (unit == OFFICE) {
+        manager_hears(site, source);
+    }
+    take_payload(site, unit, source, packet->bytes + place, length);
+}

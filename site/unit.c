@@ -1,0 +1,261 @@
+/*
+ * What the firmware of one unit does with its power, its time, its state, its clock, beacons and routing updates.
+ */
+#include <string.h>
+
+#include "greenhouse.h"
+
+enum { UPDATE_EVERY_MS = 60000, REPORT_EVERY_MS = 120000 };
+
+/* The unit's own milliseconds: off from the start, and running off. */
+uint32_t unit_time(const struct site *site, int unit)
+{
+    const struct unit *self = &site->units[unit];
+    return (uint32_t)((int64_t)site->now + self->skew_ms + (int64_t)site->now * self->drift_ppm / 1000000);
+}
+
+/* What the unit takes the network's time to be. */
+int64_t unit_network_time(const struct site *site, int unit)
+{
+    return (int64_t)unit_time(site, unit) + site->units[unit].offset;
+}
+
+/* An event that the state does not allow changes nothing. */
+void unit_tell(struct site *site, int unit, uint8_t event)
+{
+    struct unit *self = &site->units[unit];
+    uint8_t status = braidlark_state_event(self->state, sizeof self->state, event, unit_time(site, unit));
+    check_status(site, "braidlark_state_event", status, REFUSAL(BRAIDLARK_NOT_ALLOWED));
+}
+
+static void start_over(struct site *site, int unit)
+{
+    struct unit *self = &site->units[unit];
+    uint8_t status = braidlark_state_fresh(self->state, sizeof self->state, unit_time(site, unit));
+    check_status(site, "braidlark_state_fresh", status, 0);
+    unit_tell(site, unit, BRAIDLARK_READY);
+    membership_drop(self);
+}
+
+void unit_power_on(struct site *site, int unit)
+{
+    struct unit *self = &site->units[unit];
+    self->powered = true;
+    self->offset = 0;
+    self->sponsor = 0;
+    self->was_refused = false;
+    self->control.count = 0;
+    self->data.count = 0;
+    memset(self->was_told, 0, sizeof self->was_told);
+    uint8_t status = braidlark_table_fresh(self->table, sizeof self->table, self->address, unit_time(site, unit));
+    check_status(site, "braidlark_table_fresh", status, 0);
+    start_over(site, unit);
+}
+
+void unit_power_off(struct site *site, int unit)
+{
+    site->units[unit].powered = false;
+    membership_drop(&site->units[unit]);
+}
+
+/* Whether a unit uses its slots: it may count on them, and the beacons it hears keep its clock. */
+bool unit_sends(const struct site *site, int unit)
+{
+    uint8_t state = site->units[unit].state[0];
+    return membership_counts(site, unit) &&
+           (state == BRAIDLARK_MANAGER || state == BRAIDLARK_NORMAL || state == BRAIDLARK_JOINING);
+}
+
+/* Every page of the unit's own update waits for its control slot. */
+static void queue_update(struct site *site, int unit)
+{
+    struct unit *self = &site->units[unit];
+    struct packet packet = {.to = EVERYBODY};
+    for (uint32_t page = 0;; page++) {
+        uint32_t written = 0;
+        uint8_t status = braidlark_page(self->table, sizeof self->table, page, unit_time(site, unit), packet.bytes,
+                                        sizeof packet.bytes, &written);
+        check_status(site, "braidlark_page", status, page == 0 ? 0 : REFUSAL(BRAIDLARK_OUT_OF_RULE));
+        if (status != BRAIDLARK_ACCEPTED) {
+            return;
+        }
+        packet.length = packet.frame_length = (uint8_t)written;
+        queue_put(&self->control, &packet);
+    }
+}
+
+static void do_chores(struct site *site, int unit)
+{
+    struct unit *self = &site->units[unit];
+    if (site->now >= self->next_update) {
+        self->next_update = site->now + UPDATE_EVERY_MS;
+        queue_update(site, unit);
+    }
+    if (unit != OFFICE && site->now >= self->next_report) {
+        self->next_report = site->now + REPORT_EVERY_MS;
+        traffic_report(site, unit);
+    }
+}
+
+/* A unit that recovers looks for the network again; what it holds it keeps, until its time is over. One that the table
+ * of states calls a manager because it was alone for 30 s declines: on this site only the office manages. */
+static void look_again(struct site *site, int unit)
+{
+    struct unit *self = &site->units[unit];
+    if (self->state[0] == BRAIDLARK_MANAGER && unit != OFFICE) {
+        unit_tell(site, unit, BRAIDLARK_FAULT);
+    }
+    if (self->state[0] == BRAIDLARK_RECOVERY) {
+        unit_tell(site, unit, BRAIDLARK_RECOVERED);
+        self->next_request = 0;
+    }
+}
+
+/* The start of a superframe: what is due. A unit whose place in the book nobody confirmed in time no longer counts on
+ * its slots: it starts over, and is silent until it is answered. */
+void unit_begin(struct site *site, int unit)
+{
+    struct unit *self = &site->units[unit];
+    self->beacon_heard = false;
+    self->beacon_slot = NOBODY;
+    self->asks_in_slot = NOBODY;
+    if (unit == OFFICE && self->state[0] == BRAIDLARK_MANAGER) {
+        manager_begin(site);
+    }
+    if (self->holding.held && !membership_counts(site, unit)) {
+        site->tally.started_over++;
+        start_over(site, unit);
+    }
+    if (unit_sends(site, unit)) {
+        do_chores(site, unit);
+    }
+    if (self->holding.held) {
+        membership_begin(site, unit);
+    }
+}
+
+/* The tick, in the middle of the superframe: a fast clock then does not count a beacon as missing that is only due. */
+void unit_tick(struct site *site, int unit)
+{
+    struct unit *self = &site->units[unit];
+    uint8_t status = braidlark_state_tick(self->state, sizeof self->state, SUPERFRAME_MS, unit_time(site, unit));
+    check_status(site, "braidlark_state_tick", status, 0);
+    look_again(site, unit);
+}
+
+/* Whether a data slot is the unit's own. */
+static bool holds_slot(const struct unit *unit, int slot)
+{
+    for (int index = 0; index < unit->holding.data_count; index++) {
+        if (slot == unit->holding.data_slots[index]) {
+            return true;
+        }
+    }
+    return false;
+}
+
+/* The next packet that a unit sends in a slot with room for so many more bytes, if any. */
+bool unit_turn(struct site *site, int unit, int slot, size_t room, struct packet *packet)
+{
+    struct unit *self = &site->units[unit];
+    if (slot == self->beacon_slot) {
+        self->beacon_slot = NOBODY;
+        *packet = self->beacon;
+        return true;
+    }
+    if (slot == self->asks_in_slot) {
+        self->asks_in_slot = NOBODY;
+        membership_ask(site, unit, packet);
+        return true;
+    }
+    if (!unit_sends(site, unit)) {
+        return false;
+    }
+    /* Of the discovery slots, which are the manager's to send in, it uses the first; in the others units ask. */
+    if (slot == self->holding.control_slot || (unit == OFFICE && slot == site->manager.regions.discovery)) {
+        return queue_take(&self->control, room, packet);
+    }
+    return holds_slot(self, slot) && traffic_turn(site, unit, room, packet);
+}
+
+/* A member passes the beacon on in the slot of its own hop, which is the next slot. */
+static void forward_beacon(struct site *site, int unit, const struct packet *packet)
+{
+    struct unit *self = &site->units[unit];
+    struct packet copy = {.to = EVERYBODY};
+    uint32_t written = 0;
+    uint8_t status = braidlark_forward(self->table, sizeof self->table, NETWORK, packet->bytes, packet->length, SLOT_MS,
+                                       unit_time(site, unit), copy.bytes, sizeof copy.bytes, &written);
+    check_status(site, "braidlark_forward", status, REFUSAL(BRAIDLARK_NO_ROUTE) | REFUSAL(BRAIDLARK_NOT_OURS));
+    if (status != BRAIDLARK_ACCEPTED) {
+        return;
+    }
+    struct frame frame;
+    frame_read(site, copy.bytes, written, &frame);
+    copy.length = copy.frame_length = (uint8_t)written;
+    self->beacon = copy;
+    self->beacon_slot = (int)frame.fields[BRAIDLARK_BEACON_HOP];
+}
+
+static void hear_beacon(struct site *site, int unit, int sender, const struct packet *packet)
+{
+    struct unit *self = &site->units[unit];
+    if (unit == OFFICE) {
+        return;
+    }
+    uint8_t status = braidlark_clock_step(&self->offset, unit_time(site, unit), NETWORK, packet->bytes, packet->length);
+    check_status(site, "braidlark_clock_step", status, 0);
+    if (!self->beacon_heard) {
+        self->beacon_heard = true;
+        self->sponsor = site->units[sender].address;
+    }
+    unit_tell(site, unit, BRAIDLARK_BEACON_HEARD);
+    if (self->holding.held) {
+        forward_beacon(site, unit, packet);
+    } else if (self->state[0] == BRAIDLARK_JOINING && site->now >= self->next_request) {
+        /* No frame says where the discovery slots are: a unit has that from its settings. */
+        const struct regions *regions = &site->manager.regions;
+        uint32_t choices = (uint32_t)(regions->end - regions->discovery - 1);
+        self->asks_in_slot = regions->discovery + 1 + (int)medium_random(site, choices);
+    }
+}
+
+static void hear_update(struct site *site, int unit, int sender, uint8_t quality, const struct packet *packet)
+{
+    struct unit *self = &site->units[unit];
+    uint8_t skipped = 0;
+    uint8_t status = braidlark_merge(self->table, sizeof self->table, packet->bytes, packet->length, quality,
+                                     unit_time(site, unit), &skipped);
+    check_status(site, "braidlark_merge", status, 0);
+    self->was_told[sender] = true;
+    self->update_taken[sender] = unit_time(site, unit);
+    if (unit == OFFICE) {
+        manager_hears(site, site->units[sender].address);
+    }
+}
+
+void unit_hear(struct site *site, int unit, int sender, uint8_t quality, const struct packet *packet)
+{
+    struct frame frame;
+    frame_read(site, packet->bytes, packet->frame_length, &frame);
+    switch (frame.fields[BRAIDLARK_TYPE]) {
+    case BRAIDLARK_BEACON:
+        hear_beacon(site, unit, sender, packet);
+        break;
+    case BRAIDLARK_UPDATE:
+        hear_update(site, unit, sender, quality, packet);
+        break;
+    case BRAIDLARK_DATA:
+        traffic_hear(site, unit, packet, &frame);
+        break;
+    case BRAIDLARK_JOIN_REQUEST:
+        membership_sponsor(site, unit, packet, (uint16_t)frame.fields[BRAIDLARK_JOIN_REQUEST_NODE]);
+        break;
+    case BRAIDLARK_SLOT_REQUEST:
+        membership_sponsor(site, unit, packet, (uint16_t)frame.fields[BRAIDLARK_SLOT_REQUEST_NODE]);
+        break;
+    case BRAIDLARK_JOIN_RESPONSE:
+        membership_answer(site, unit, packet->bytes, packet->length);
+        break;
+    }
+}

@@ -9,7 +9,7 @@ use Rattle.members.proofs.RowSums.{weigh}
 use Rattle.members.proofs.RowRuleLaws.{holdings, free-and-held, ruled-current}
 use Rattle.book.specs.Books.{rowsAt}
 use Rattle.keeping.specs.Laws.{heldSlots, AllAccounted}
-use Rattle.keeping.proofs.WithinLaws.{within}
+use Rattle.book.proofs.WithinLaws.{within}
 
 held-sum : (rs : List Row) → heldSlots rs ≡ holdings rs
 unfolding heldSlots weigh

@@ -25,7 +25,7 @@ use Rattle.members.specs.Rules.{emptyIs, rowRule}
 use Rattle.members.proofs.RowSums.{weigh, one, ofUnit, owns}
 use Rattle.members.proofs.RowRuleLaws.{empty-is, no-count, member-rule, needs, rule-empty, Ruled, units-least, owners-least, address-some}
 use Rattle.book.specs.Books.{withinRule, freshRow, noBook, freshBook, freshOf}
-use Rattle.keeping.proofs.WithinLaws.{by-parts}
+use Rattle.book.proofs.WithinLaws.{by-parts}
 
 -- ---- its rows
 weigh-empty : (w : Row → ℕ) (k : ℕ) → w emptyRow ≡ k → (m n : ℕ) → weigh w (take n (replicate m emptyRow)) ≤ n * k

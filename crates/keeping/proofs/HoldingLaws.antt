@@ -20,7 +20,7 @@ use Rattle.joins.specs.Joins.{askIn, askOf}
 use Rattle.keeping.specs.Calls.{Call, join, ask, heard, leave, schedule, timeOf, unitOf, refusalOf, next}
 use Rattle.keeping.specs.Laws.{SameHolding, OthersStay, repeats, KeepsOwn, holding, HoldApart}
 use Rattle.keeping.proofs.CallLaws.{Allowed}
-use Rattle.keeping.proofs.WithinLaws.{within}
+use Rattle.book.proofs.WithinLaws.{within}
 use Rattle.keeping.proofs.WrittenLaws.{kept-now, rows-at-written}
 use Rattle.keeping.proofs.TakingLaws.{ruled-rows, Taken, join-taken, ask-taken, heard-taken, taken-row, taken-live, taken-holding, leave-freed}
 use Rattle.keeping.proofs.RuleLaws.{refused-keeps}

@@ -18,7 +18,7 @@ use Rattle.book.specs.Books.{Stated, rowsAt}
 use Rattle.joins.specs.Joins.{granted, joinIn, seat, noRowFor, joinReasons, joinOf, askIn}
 use Rattle.joins.proofs.ResponseLaws.{length-responses}
 use Rattle.keeping.specs.Laws.{full, Newcomer, RefusedIfFull, holding, due, Admitted, GrantedElse, AskedFor}
-use Rattle.keeping.proofs.WithinLaws.{within}
+use Rattle.book.proofs.WithinLaws.{within}
 use Rattle.keeping.proofs.CallLaws.{joinedSlots, joinShort}
 use Rattle.keeping.proofs.GrantLaws.{lesser, count-granted}
 use Rattle.keeping.proofs.ShareLaws.{count-asks}

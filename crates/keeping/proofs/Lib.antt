@@ -9,5 +9,4 @@ pub mod SendingLaws
 pub mod ShareLaws
 pub mod SilenceLaws
 pub mod TakingLaws
-pub mod WithinLaws
 pub mod WrittenLaws

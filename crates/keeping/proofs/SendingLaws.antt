@@ -24,7 +24,7 @@ use Rattle.book.specs.Schedules.{scheduleRefusal, scheduleOf}
 use Rattle.book.proofs.ScheduleLaws.{Schedulable}
 use Rattle.keeping.specs.Laws.{holding, kindIn, OneSenderInBook, OneHopInBook}
 use Rattle.keeping.proofs.CallLaws.{schedule-unrefused, schedule-allowed}
-use Rattle.keeping.proofs.WithinLaws.{within}
+use Rattle.book.proofs.WithinLaws.{within}
 use Rattle.keeping.proofs.HoldingLaws.{hold-apart}
 
 -- ---- a slot of a schedule that was written

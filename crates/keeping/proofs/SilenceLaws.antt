@@ -19,7 +19,7 @@ use Rattle.members.proofs.RowRuleLaws.{address-some, ruled-current}
 use Rattle.book.specs.Books.{Stated, rowsIn, rowsAt, liveAt}
 use Rattle.keeping.specs.Calls.{Call, join, ask, heard, leave, schedule, timeOf, unitOf, next}
 use Rattle.keeping.specs.Laws.{StaysWhileLive, LiveFor}
-use Rattle.keeping.proofs.WithinLaws.{within}
+use Rattle.book.proofs.WithinLaws.{within}
 use Rattle.keeping.proofs.WrittenLaws.{rowNow, rows-written}
 use Rattle.keeping.proofs.TakingLaws.{some-unit, Taken, join-taken, ask-taken, heard-taken, rowsTaken, taken-ruled, row-taken}
 use Rattle.keeping.proofs.HoldingLaws.{same-holding}

@@ -23,7 +23,7 @@ use Rattle.joins.specs.Joins.{seat, seated, granted, asks, noRowFor, joinIn, jo
 use Rattle.keeping.specs.Calls.{Call, join, ask, heard, timeOf, unitOf, next}
 use Rattle.keeping.specs.Laws.{holding}
 use Rattle.keeping.proofs.CallLaws.{Allowed, joinedSlots, askedSlots, member-allowed, join-allowed, ask-allowed}
-use Rattle.keeping.proofs.WithinLaws.{RowsRuled, Within, within, rows-then}
+use Rattle.book.proofs.WithinLaws.{RowsRuled, Within, within, rows-then}
 use Rattle.keeping.proofs.WrittenLaws.{rowNow, kept-now, rows-at-written, within-written}
 use Rattle.keeping.proofs.ShareLaws.{own-share, asks-share, granted-share}
 

@@ -15,7 +15,7 @@ use Rattle.members.proofs.RowLaws.{length-current, every-behind, current-set}
 use Rattle.members.proofs.RowRuleLaws.{empty-is}
 use Rattle.book.specs.Books.{Stated, withinRule, rowsIn, rowsAt, placesAt, withRow}
 use Rattle.book.proofs.VisitLaws.{take-current}
-use Rattle.keeping.proofs.WithinLaws.{RowsRuled, Within, by-parts}
+use Rattle.book.proofs.WithinLaws.{RowsRuled, Within, by-parts}
 
 module _ (b : Stated) (time at : ℕ) (r : Row) (there : at < length (rowsAt b time)) where
   among-rows : at < b .plan .rows

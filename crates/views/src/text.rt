@@ -8,7 +8,7 @@ ghost use lib.Seq.{sets};
 ghost use Rattle.views.specs.Views.{decimal, hexDigit, hex};
 use octets::parts::put_bytes;
 
-pub fn put_word(out: &mut [u8], at: usize, word: &[u8]) -> usize
+pub(crate) fn put_word(out: &mut [u8], at: usize, word: &[u8]) -> usize
     requires { ⌜ (at ≤ 4000) × (length (now word) ≤ 8) ⌝ }
     ensures { λ r. ⌜ (now (out .exit) ≡ sets (now (out .entry)) at (now (word .entry))) × (r ≡ at + length (now (word .entry))) ⌝ }
 {
@@ -16,7 +16,7 @@ pub fn put_word(out: &mut [u8], at: usize, word: &[u8]) -> usize
     at + word.len()
 }
 
-pub fn put_byte(out: &mut [u8], at: usize, byte: u8) -> usize
+pub(crate) fn put_byte(out: &mut [u8], at: usize, byte: u8) -> usize
     requires { ⌜ at ≤ 4000 ⌝ }
     ensures { λ r. ⌜ (now (out .exit) ≡ sets (now (out .entry)) at (byte ∷ [])) × (r ≡ at + 1) ⌝ }
 {
@@ -30,7 +30,7 @@ fn digit(number: u16) -> u8
     (48 + number % 10) as u8
 }
 
-pub fn put_decimal(out: &mut [u8], at: usize, number: u16) -> usize
+pub(crate) fn put_decimal(out: &mut [u8], at: usize, number: u16) -> usize
     requires { ⌜ (at ≤ 4000) × (number < 1000) ⌝ }
     ensures { λ r. ⌜ (now (out .exit) ≡ sets (now (out .entry)) at (decimal number)) × (r ≡ at + length (decimal number)) × (r ≤ at + 3) ⌝ }
 {
@@ -53,7 +53,7 @@ fn hex_digit(number: u16) -> u8
     if value < 10 { 48 + value } else { 55 + value }
 }
 
-pub fn put_hex(out: &mut [u8], at: usize, number: u16) -> usize
+pub(crate) fn put_hex(out: &mut [u8], at: usize, number: u16) -> usize
     requires { ⌜ at ≤ 4000 ⌝ }
     ensures { λ r. ⌜ (now (out .exit) ≡ sets (now (out .entry)) at (hex number)) × (r ≡ at + 4) ⌝ }
 {

@@ -1,4 +1,4 @@
-# Shared by compare/build and site/build, which set `name` and source this: messages, and Debian packages that are missing.
+# Shared by compare/build, site/build and firmware/check, which set `name` and source this: messages, and Debian packages that are missing.
 
 fail() {
     echo "$name: $*" >&2

@@ -7,7 +7,8 @@
  * the pointer may be NULL. Buffers and out parameters of one call must not overlap. Nothing is kept between calls: a
  * table, a state, a plan and a book are bytes that the caller owns and hands in again.
  *
- * Times are milliseconds of 32 bits. Addresses of units are 1 to 0xFFFE.
+ * Times are milliseconds of 32 bits. Addresses of units are 1 to 0xFFFE, networks 1 to 0xFFFF; others are refused as
+ * broken field rules (4), by a plan as out of rule (14).
  */
 #ifndef BRAIDLARK_H
 #define BRAIDLARK_H
@@ -38,7 +39,7 @@ extern "C" {
 #define BRAIDLARK_OTHER_NETWORK 15 /* not the book's or the caller's network */
 #define BRAIDLARK_NOT_OURS 16      /* beacon not ours to forward */
 
-/* ---- lengths, in bytes unless said otherwise */
+/* ---- lengths of buffers, in bytes unless said otherwise */
 #define BRAIDLARK_MOST_FRAME 255
 #define BRAIDLARK_MOST_PAYLOAD 245
 #define BRAIDLARK_MOST_ENTRIES 24
@@ -51,6 +52,42 @@ extern "C" {
 #define BRAIDLARK_MOST_RESPONSES 65 /* of a join or a slot request: five frames of 13 */
 #define BRAIDLARK_MOST_SLOTS 100    /* slots of a superframe, which are the bytes of a schedule */
 #define BRAIDLARK_MOST_IMAGE 230
+
+/* ---- lengths of frames, in bytes; two kinds have more behind their fields */
+#define BRAIDLARK_DATA_LENGTH 10 /* and the payload */
+#define BRAIDLARK_JOIN_REQUEST_LENGTH 8
+#define BRAIDLARK_JOIN_RESPONSE_LENGTH 13
+#define BRAIDLARK_SLOT_REQUEST_LENGTH 7
+#define BRAIDLARK_DISCOVERY_REQUEST_LENGTH 7
+#define BRAIDLARK_DISCOVERY_RESPONSE_LENGTH 13
+#define BRAIDLARK_UPDATE_LENGTH 9 /* and BRAIDLARK_ENTRY_SIZE for each entry */
+#define BRAIDLARK_BEACON_LENGTH 34
+
+/* ---- numbers that fields may or must hold */
+#define BRAIDLARK_LOWEST_ADDRESS 1
+#define BRAIDLARK_HIGHEST_ADDRESS 0xFFFE
+#define BRAIDLARK_EVERY_UNIT 0xFFFF   /* a beacon's destination, and no unit's address */
+#define BRAIDLARK_BEACON_BODY_SIZE 27 /* a beacon's size field */
+#define BRAIDLARK_STATUS_ACCEPTED 0   /* of a join response, with a slot below BRAIDLARK_MOST_SLOTS */
+#define BRAIDLARK_STATUS_REFUSED 1    /* of a join response, with BRAIDLARK_NO_SLOT */
+#define BRAIDLARK_NO_SLOT 0xFFFF
+#define BRAIDLARK_MOST_HOPS 10 /* a plan's and a beacon's max hops are 1 to this */
+
+/* ---- routes: at most so many, each of 1 to 16 hops and of quality 40 or more */
+#define BRAIDLARK_MOST_ROUTES 48
+#define BRAIDLARK_MOST_ROUTE_HOPS 16
+#define BRAIDLARK_UNREACHABLE 255 /* hops of an entry in an update whose route is dead */
+#define BRAIDLARK_LOWEST_QUALITY 40
+
+/* ---- members: at most so many, the manager among them, each with 1 to 4 data slots */
+#define BRAIDLARK_MOST_MEMBERS 21
+#define BRAIDLARK_MOST_HELD 4
+
+/* ---- greatest ages, in ms */
+#define BRAIDLARK_USABLE_MS 300000   /* of a route that is used */
+#define BRAIDLARK_STANDING_MS 360000 /* of one that is no longer used, but told of as unreachable */
+#define BRAIDLARK_WITHDRAWN_MS 60000 /* the same from when it was withdrawn */
+#define BRAIDLARK_LIVE_MS 300000     /* of a live member's last accepted call; the manager is always live */
 
 /* ---- kinds of frames, the number at index 0 of a frame's fields */
 #define BRAIDLARK_DATA 0x11
@@ -239,7 +276,8 @@ uint8_t braidlark_clock_step(int64_t *offset, uint32_t local_time, uint16_t netw
 uint8_t braidlark_plan(uint8_t *plan, size_t plan_length, uint16_t network, uint16_t manager, uint8_t max_hops,
                        uint8_t rows, uint8_t data_slots, uint16_t slot_ms);
 
-/* Makes the book of a plan: the manager alone, with the lowest data slot. Refusals: 14. */
+/* Makes the book of a plan: the manager alone, with the lowest data slot.
+ * Refusals: 14 (the buffer's length, or the plan). */
 uint8_t braidlark_book_fresh(uint8_t *book, size_t book_length, const uint8_t *plan, size_t plan_length, uint32_t time);
 
 /* Lets a unit join: writes a response for its control slot and for each data slot that it then holds, ascending, and

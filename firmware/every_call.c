@@ -1,0 +1,275 @@
+/*
+ * Every call of the header, from the firmware's side: a manager's plan and book, then a unit that joins it, learns
+ * routes from its neighbour and passes frames on. Each answer is checked. firmware/check builds it as C99 and as C++.
+ */
+#include "braidlark.h"
+
+#include <stdio.h>
+#include <string.h>
+
+enum { NETWORK = 1, MANAGER = 0x0100, UNIT = 0x0201, FAR_UNIT = 0x0300, STRANGER = 0x0400 };
+enum { MAX_HOPS = 3, ROWS = 4, DATA_SLOTS = 6, SLOT_MS = 1000, SLOTS = 54 };
+enum { NOW = 1000000, QUALITY = 200 };
+
+static unsigned checks;
+static unsigned failures;
+
+#define EXPECT(condition) expect((condition) != 0, #condition, __LINE__)
+
+static void expect(int holds, const char *words, int line)
+{
+    checks++;
+    if (!holds) {
+        failures++;
+        fprintf(stderr, "every_call: line %d: %s does not hold\n", line, words);
+    }
+}
+
+/* Reads a frame that has to be whole, and answers where its variable part starts. */
+static uint32_t read_whole(const uint8_t *frame, size_t length, uint32_t *fields)
+{
+    uint32_t place = 0, part_length = 0;
+    EXPECT(braidlark_read(frame, length, fields, BRAIDLARK_MOST_FIELDS, &place, &part_length) == BRAIDLARK_ACCEPTED);
+    EXPECT(place + part_length + 1 == length);
+    return place;
+}
+
+/* Writes a frame into a buffer for the longest, and answers its length. */
+static uint32_t write_whole(const uint32_t *fields, size_t count, const uint8_t *part, size_t part_length,
+                            uint8_t *frame)
+{
+    uint32_t written = 0;
+    EXPECT(braidlark_write(fields, count, part, part_length, frame, BRAIDLARK_MOST_FRAME, &written) ==
+           BRAIDLARK_ACCEPTED);
+    return written;
+}
+
+/* ---- the manager's side */
+
+static void make_book(uint8_t *book)
+{
+    static const uint8_t expected[BRAIDLARK_PLAN_SIZE] = {0x01, 0x00, 0x00, 0x01, 0x03, 0x04, 0x06, 0xE8, 0x03};
+    uint8_t plan[BRAIDLARK_PLAN_SIZE];
+    EXPECT(braidlark_plan(plan, sizeof plan, NETWORK, MANAGER, MAX_HOPS, ROWS, DATA_SLOTS, 1214) ==
+           BRAIDLARK_OUT_OF_RULE);
+    EXPECT(braidlark_plan(plan, sizeof plan, NETWORK, MANAGER, MAX_HOPS, ROWS, DATA_SLOTS, SLOT_MS) ==
+           BRAIDLARK_ACCEPTED);
+    EXPECT(memcmp(plan, expected, sizeof plan) == 0);
+    EXPECT(braidlark_book_fresh(book, BRAIDLARK_BOOK_SIZE, plan, sizeof plan, NOW) == BRAIDLARK_ACCEPTED);
+}
+
+/* The unit asks for four data slots and gets three: one has to be left for each row that is still free. */
+static void join(uint8_t *book)
+{
+    static const uint8_t request[] = {0x21, 0x01, 0x02, 0x00, 0x01, 0x00, 0x04, 0x27};
+    static const uint32_t slots[] = {5, 9, 10, 11};
+    uint8_t out[BRAIDLARK_MOST_RESPONSES];
+    uint32_t fields[BRAIDLARK_MOST_FIELDS], written = 0;
+    size_t each;
+    EXPECT(braidlark_join(book, BRAIDLARK_BOOK_SIZE, request, sizeof request, NOW, out, sizeof out, &written) ==
+           BRAIDLARK_ACCEPTED);
+    EXPECT(written == 4 * BRAIDLARK_JOIN_RESPONSE_LENGTH);
+    for (each = 0; each < 4; each++) {
+        read_whole(out + each * BRAIDLARK_JOIN_RESPONSE_LENGTH, BRAIDLARK_JOIN_RESPONSE_LENGTH, fields);
+        EXPECT(fields[BRAIDLARK_TYPE] == BRAIDLARK_JOIN_RESPONSE);
+        EXPECT(fields[BRAIDLARK_JOIN_RESPONSE_NODE] == UNIT);
+        EXPECT(fields[BRAIDLARK_JOIN_RESPONSE_STATUS] == BRAIDLARK_STATUS_ACCEPTED);
+        EXPECT(fields[BRAIDLARK_JOIN_RESPONSE_SLOT] == slots[each]);
+        EXPECT(fields[BRAIDLARK_JOIN_RESPONSE_SUPERFRAME_TIME] == NOW);
+        EXPECT(fields[BRAIDLARK_JOIN_RESPONSE_NETWORK] == NETWORK);
+    }
+}
+
+/* It then does with two, so that its highest one is free again. */
+static void ask_for_fewer(uint8_t *book)
+{
+    static const uint32_t request[BRAIDLARK_SLOT_REQUEST_FIELDS] = {BRAIDLARK_SLOT_REQUEST, UNIT, 2, 0, 0};
+    uint8_t frame[BRAIDLARK_MOST_FRAME], out[BRAIDLARK_MOST_RESPONSES];
+    uint32_t length = write_whole(request, BRAIDLARK_SLOT_REQUEST_FIELDS, NULL, 0, frame);
+    uint32_t written = 0;
+    EXPECT(length == BRAIDLARK_SLOT_REQUEST_LENGTH);
+    EXPECT(braidlark_slot_request(book, BRAIDLARK_BOOK_SIZE, frame, length, NOW, out, sizeof out, &written) ==
+           BRAIDLARK_ACCEPTED);
+    EXPECT(written == 3 * BRAIDLARK_JOIN_RESPONSE_LENGTH);
+}
+
+static void schedule(const uint8_t *book)
+{
+    uint8_t kinds[BRAIDLARK_MOST_SLOTS];
+    uint32_t written = 0;
+    EXPECT(braidlark_schedule(book, BRAIDLARK_BOOK_SIZE, UNIT, 1, NOW, kinds, sizeof kinds, &written) ==
+           BRAIDLARK_ACCEPTED);
+    EXPECT(written == SLOTS);
+    EXPECT(kinds[0] == BRAIDLARK_BEACON_RX && kinds[1] == BRAIDLARK_BEACON_TX);
+    EXPECT(kinds[4] == BRAIDLARK_CONTROL_RX && kinds[5] == BRAIDLARK_CONTROL_TX);
+    EXPECT(kinds[8] == BRAIDLARK_RX && kinds[9] == BRAIDLARK_TX && kinds[10] == BRAIDLARK_TX);
+    EXPECT(kinds[11] == BRAIDLARK_RX && kinds[14] == BRAIDLARK_DISCOVERY_RX && kinds[53] == BRAIDLARK_SLEEP);
+}
+
+/* The manager is switched off and on: the book that comes back is the same, since everyone was heard at its time. */
+static void keep(uint8_t *book)
+{
+    uint8_t image[BRAIDLARK_MOST_IMAGE], restored[BRAIDLARK_BOOK_SIZE];
+    uint32_t written = 0;
+    EXPECT(braidlark_heard(book, BRAIDLARK_BOOK_SIZE, MANAGER, NOW) == BRAIDLARK_ACCEPTED);
+    EXPECT(braidlark_image(book, BRAIDLARK_BOOK_SIZE, NOW, image, sizeof image, &written) == BRAIDLARK_ACCEPTED);
+    EXPECT(written == 20 + 10 * ROWS);
+    EXPECT(braidlark_restore(restored, sizeof restored, image, written, NOW) == BRAIDLARK_ACCEPTED);
+    EXPECT(memcmp(restored, book, sizeof restored) == 0);
+}
+
+static void leave(uint8_t *book)
+{
+    EXPECT(braidlark_leave(book, BRAIDLARK_BOOK_SIZE, UNIT, NOW + 1) == BRAIDLARK_ACCEPTED);
+    EXPECT(braidlark_leave(book, BRAIDLARK_BOOK_SIZE, UNIT, NOW + 1) == BRAIDLARK_NO_MEMBER);
+}
+
+static void manage_a_site(void)
+{
+    uint8_t book[BRAIDLARK_BOOK_SIZE];
+    make_book(book);
+    join(book);
+    ask_for_fewer(book);
+    schedule(book);
+    keep(book);
+    leave(book);
+}
+
+/* ---- the unit's side */
+
+static uint32_t first_page(const uint8_t *table, uint8_t *frame)
+{
+    uint32_t written = 0;
+    EXPECT(braidlark_page(table, BRAIDLARK_TABLE_SIZE, 0, NOW, frame, BRAIDLARK_MOST_FRAME, &written) ==
+           BRAIDLARK_ACCEPTED);
+    return written;
+}
+
+static void hear_update(uint8_t *table, const uint8_t *frame, uint32_t length)
+{
+    uint8_t skipped = 1;
+    EXPECT(braidlark_merge(table, BRAIDLARK_TABLE_SIZE, frame, length, QUALITY, NOW, &skipped) == BRAIDLARK_ACCEPTED);
+    EXPECT(skipped == 0);
+}
+
+/* The far unit tells the manager of itself, the manager tells the unit of both. */
+static void learn_routes(uint8_t *table)
+{
+    uint8_t far_table[BRAIDLARK_TABLE_SIZE], manager_table[BRAIDLARK_TABLE_SIZE], update[BRAIDLARK_MOST_FRAME];
+    uint32_t fields[BRAIDLARK_MOST_FIELDS], length;
+    EXPECT(braidlark_table_fresh(far_table, sizeof far_table, FAR_UNIT, NOW) == BRAIDLARK_ACCEPTED);
+    EXPECT(braidlark_table_fresh(manager_table, sizeof manager_table, MANAGER, NOW) == BRAIDLARK_ACCEPTED);
+    EXPECT(braidlark_table_fresh(table, BRAIDLARK_TABLE_SIZE, UNIT, NOW) == BRAIDLARK_ACCEPTED);
+    length = first_page(far_table, update);
+    EXPECT(length == BRAIDLARK_UPDATE_LENGTH);
+    hear_update(manager_table, update, length);
+    length = first_page(manager_table, update);
+    EXPECT(length == BRAIDLARK_UPDATE_LENGTH + BRAIDLARK_ENTRY_SIZE);
+    EXPECT(read_whole(update, length, fields) == BRAIDLARK_UPDATE_LENGTH - 1);
+    EXPECT(fields[BRAIDLARK_UPDATE_ORIGIN] == MANAGER && fields[BRAIDLARK_UPDATE_COUNT] == 1);
+    hear_update(table, update, length);
+}
+
+static void look_up(const uint8_t *table)
+{
+    uint16_t next_hop = 0;
+    uint8_t hops = 0;
+    EXPECT(braidlark_lookup(table, BRAIDLARK_TABLE_SIZE, FAR_UNIT, NOW + BRAIDLARK_USABLE_MS, &next_hop, &hops) ==
+           BRAIDLARK_ACCEPTED);
+    EXPECT(next_hop == MANAGER && hops == 2);
+}
+
+static void relay(const uint8_t *table)
+{
+    static const uint8_t payload[] = {21, 5};
+    static const uint32_t data[BRAIDLARK_DATA_FIELDS] = {BRAIDLARK_DATA, STRANGER, FAR_UNIT, 8, 77, sizeof payload};
+    uint8_t frame[BRAIDLARK_MOST_FRAME], out[BRAIDLARK_MOST_FRAME];
+    uint32_t fields[BRAIDLARK_MOST_FIELDS], place = 1, length = 0, written;
+    uint16_t next_hop = 0;
+    written = write_whole(data, BRAIDLARK_DATA_FIELDS, payload, sizeof payload, frame);
+    EXPECT(written == BRAIDLARK_DATA_LENGTH + sizeof payload);
+    EXPECT(braidlark_relay(table, BRAIDLARK_TABLE_SIZE, frame, written, NOW, out, sizeof out, &next_hop, &place,
+                           &length) == BRAIDLARK_ACCEPTED);
+    EXPECT(next_hop == MANAGER && place == 0 && length == written);
+    EXPECT(memcmp(out + read_whole(out, length, fields), payload, sizeof payload) == 0);
+    EXPECT(fields[BRAIDLARK_DATA_TTL] == 7 && fields[BRAIDLARK_DATA_SEQUENCE] == 77);
+}
+
+/* The manager's own beacon, 70 ms on its way. */
+static uint32_t write_beacon(uint8_t *frame)
+{
+    uint32_t fields[BRAIDLARK_BEACON_FIELDS] = {BRAIDLARK_BEACON};
+    fields[BRAIDLARK_BEACON_DESTINATION] = BRAIDLARK_EVERY_UNIT;
+    fields[BRAIDLARK_BEACON_SOURCE] = MANAGER;
+    fields[BRAIDLARK_BEACON_SIZE] = BRAIDLARK_BEACON_BODY_SIZE;
+    fields[BRAIDLARK_BEACON_NETWORK] = NETWORK;
+    fields[BRAIDLARK_BEACON_SUPERFRAME_NUMBER] = 12;
+    fields[BRAIDLARK_BEACON_SUPERFRAME_MS] = SLOTS * SLOT_MS;
+    fields[BRAIDLARK_BEACON_TOTAL_SLOTS] = SLOTS;
+    fields[BRAIDLARK_BEACON_SLOT_MS] = SLOT_MS;
+    fields[BRAIDLARK_BEACON_ORIGINAL_SOURCE] = MANAGER;
+    fields[BRAIDLARK_BEACON_HOP] = 0;
+    fields[BRAIDLARK_BEACON_ORIGINAL_TIME] = NOW;
+    fields[BRAIDLARK_BEACON_DELAY] = 70;
+    fields[BRAIDLARK_BEACON_MAX_HOPS] = MAX_HOPS;
+    fields[BRAIDLARK_BEACON_SEQUENCE] = 9;
+    return write_whole(fields, BRAIDLARK_BEACON_FIELDS, NULL, 0, frame);
+}
+
+static void hear_beacon(uint8_t *table)
+{
+    uint8_t frame[BRAIDLARK_MOST_FRAME], out[BRAIDLARK_BEACON_LENGTH];
+    uint32_t fields[BRAIDLARK_MOST_FIELDS], written = 0, length = write_beacon(frame);
+    int64_t offset = 0;
+    EXPECT(length == BRAIDLARK_BEACON_LENGTH);
+    EXPECT(braidlark_clock_step(&offset, NOW, NETWORK, frame, length) == BRAIDLARK_ACCEPTED);
+    EXPECT(offset == 35); /* 70 ms behind the network: half of that is made good */
+    EXPECT(braidlark_forward(table, BRAIDLARK_TABLE_SIZE, NETWORK, frame, length, 30, NOW, out, sizeof out, &written) ==
+           BRAIDLARK_ACCEPTED);
+    EXPECT(written == BRAIDLARK_BEACON_LENGTH);
+    read_whole(out, sizeof out, fields);
+    EXPECT(fields[BRAIDLARK_BEACON_SOURCE] == UNIT && fields[BRAIDLARK_BEACON_HOP] == 1);
+    EXPECT(fields[BRAIDLARK_BEACON_DELAY] == 100);
+    EXPECT(braidlark_forward(table, BRAIDLARK_TABLE_SIZE, NETWORK, frame, length, 30, NOW, out, sizeof out, &written) ==
+           BRAIDLARK_NOT_OURS);
+}
+
+static void forget(uint8_t *table)
+{
+    uint16_t next_hop = 0;
+    uint8_t hops = 0;
+    EXPECT(braidlark_forget(table, BRAIDLARK_TABLE_SIZE, MANAGER, NOW) == BRAIDLARK_ACCEPTED);
+    EXPECT(braidlark_lookup(table, BRAIDLARK_TABLE_SIZE, FAR_UNIT, NOW, &next_hop, &hops) == BRAIDLARK_NO_ROUTE);
+    EXPECT(next_hop == 0 && hops == 0);
+}
+
+static void live(void)
+{
+    uint8_t state[BRAIDLARK_STATE_SIZE];
+    EXPECT(braidlark_state_fresh(state, sizeof state, NOW) == BRAIDLARK_ACCEPTED);
+    EXPECT(state[0] == BRAIDLARK_INITIALIZING);
+    EXPECT(braidlark_state_event(state, sizeof state, BRAIDLARK_READY, NOW) == BRAIDLARK_ACCEPTED);
+    EXPECT(state[0] == BRAIDLARK_DISCOVERY);
+    EXPECT(braidlark_state_event(state, sizeof state, BRAIDLARK_ELECTED, NOW) == BRAIDLARK_NOT_ALLOWED);
+    EXPECT(braidlark_state_tick(state, sizeof state, SLOTS * SLOT_MS, NOW + 30000) == BRAIDLARK_ACCEPTED);
+    EXPECT(state[0] == BRAIDLARK_MANAGER);
+}
+
+static void be_a_unit(void)
+{
+    uint8_t table[BRAIDLARK_TABLE_SIZE];
+    learn_routes(table);
+    look_up(table);
+    relay(table);
+    hear_beacon(table);
+    forget(table);
+    live();
+}
+
+int main(void)
+{
+    manage_a_site();
+    be_a_unit();
+    printf("every_call: %u of %u checks hold\n", checks - failures, checks);
+    return failures == 0 ? 0 : 1;
+}

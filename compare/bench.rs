@@ -1,140 +1,101 @@
-//! The measure of a merge: the library against the independent table, with the same bytes in and out.
+//! The benchmark: the library through its C boundary against the independent implementation, with the same buffers and
+//! in the same run.
 //!
-//! Each case does one thing so many times. An instruction counter is run on one case with two numbers of times: what
-//! the program does besides is the same in both, and the difference is that of the merges alone. Each merge begins with
-//! a copy of the same table, which is counted with it.
+//! `bench CASE WHO TIMES` is for an instruction counter: run with two numbers of times, what the program does besides is
+//! the same in both, and the difference is that of the calls alone.
 
-use crate::routes::{Row, Table, MOST_ROWS};
-use crate::routes_calls::merge_bare;
-use crate::routes_drafts::{update, Entry};
+use crate::bench_calls::Buffers;
+use crate::bench_cases::{Case, CASES};
 use std::time::Instant;
 
-const TIMES: u64 = 200_000;
+/// How often both take their turn at a case.
+const TURNS: usize = 1001;
+/// How long a turn is to take, about: much less than what a busy machine lets a program run for, so that most turns are
+/// left in peace.
+const TURN_NANOSECONDS: f64 = 100_000.0;
+const TIMES_AT_FIRST: u64 = 200;
 
-const OWN: u16 = 0x0100;
-const FIRST: u16 = 0x0201;
-const NOW: u32 = 1_000_000;
-const QUALITY: u8 = 200;
-
-/// Who merges.
 #[derive(Clone, Copy)]
-enum Merger {
+enum Who {
     Library,
-    /// The independent table, made from the bytes before and written to them after.
-    Bytes,
-    /// The independent table in memory alone.
-    Memory,
+    Independent,
 }
 
-struct Case {
-    name: &'static str,
-    merger: Merger,
-    entries: usize,
-}
-
-/// An update of 24 entries and one of none.
-const CASES: [Case; 6] = [
-    Case { name: "library-24", merger: Merger::Library, entries: 24 },
-    Case { name: "bytes-24", merger: Merger::Bytes, entries: 24 },
-    Case { name: "memory-24", merger: Merger::Memory, entries: 24 },
-    Case { name: "library-0", merger: Merger::Library, entries: 0 },
-    Case { name: "bytes-0", merger: Merger::Bytes, entries: 0 },
-    Case { name: "memory-0", merger: Merger::Memory, entries: 0 },
-];
-
-/// `bench [CASE [TIMES]]`: one case, or all of them.
+/// `bench`, `bench names` or `bench CASE WHO TIMES`.
 pub fn run(arguments: &[String]) -> Result<(), String> {
-    let wanted: Vec<&Case> = match arguments.first() {
-        Some(name) => CASES.iter().filter(|case| case.name == name).collect(),
-        None => CASES.iter().collect(),
-    };
-    let times = match arguments.get(1) {
-        Some(text) => text.parse().map_err(|_| format!("bench needs a number of times, not '{}'", text))?,
-        None => TIMES,
-    };
-    if wanted.is_empty() || arguments.len() > 2 {
-        let names: Vec<&str> = CASES.iter().map(|case| case.name).collect();
-        return Err(format!("bench takes one of {} and a number of times", names.join(", ")));
-    }
-    for case in wanted {
-        let begin = Instant::now();
-        let table = merge_often(case, times);
-        let each = begin.elapsed().as_nanos() / u128::from(times.max(1));
-        // Equal work ends in equal tables.
-        let sum = table.iter().fold(0u32, |sum, byte| sum.rotate_left(5) ^ u32::from(*byte));
-        println!("{}: {} merges, {} ns each, ends in table {:08x}", case.name, times, each, sum);
+    let words: Vec<&str> = arguments.iter().map(String::as_str).collect();
+    match words[..] {
+        [] => print_table(),
+        ["names"] => CASES.iter().for_each(|case| println!("{}", case.name)),
+        [name, who, times] => {
+            let case = CASES.iter().find(|case| case.name == name).ok_or(format!("no case is '{}'", name))?;
+            let times = times.parse().map_err(|_| format!("bench needs a number of times, not '{}'", times))?;
+            repeat(case, who_is(who)?, times, &mut (case.buffers)());
+        }
+        _ => return Err("bench takes nothing, 'names', or a case, who and how often".to_string()),
     }
     Ok(())
 }
 
-/// Merges the same update into the same table so many times, and answers the bytes of the last.
-fn merge_often(case: &Case, times: u64) -> [u8; Table::LENGTH] {
-    let full = full_table();
-    let frame = spread_update(&full, case.entries);
-    let mut before = [0; Table::LENGTH];
-    full.to_bytes(&mut before);
-    match case.merger {
-        Merger::Library => by_library(&before, &frame, times),
-        Merger::Bytes => in_bytes(&before, &frame, times),
-        Merger::Memory => in_memory(&full, &frame, times),
+fn who_is(name: &str) -> Result<Who, String> {
+    match name {
+        "library" => Ok(Who::Library),
+        "rust" => Ok(Who::Independent),
+        _ => Err(format!("who is library or rust, not '{}'", name)),
     }
 }
 
-fn by_library(before: &[u8; Table::LENGTH], frame: &[u8], times: u64) -> [u8; Table::LENGTH] {
-    let mut bytes = *before;
+fn print_table() {
+    println!("| call | library, ns | Rust, ns | ratio |");
+    println!("|---|---|---|---|");
+    for case in &CASES {
+        let turns = take_turns(case);
+        let library = median(&turns, |(library, _)| library);
+        let independent = median(&turns, |(_, independent)| independent);
+        // Of the two next to each other, which the machine treats most alike.
+        let ratio = median(&turns, |(library, independent)| library / independent);
+        println!("| {} | {:.0} | {:.0} | {:.2} |", case.name, library, independent, ratio);
+    }
+}
+
+/// The times of one call by the library and by the independent implementation, in ns. What else the machine does slows
+/// both down.
+fn take_turns(case: &Case) -> Vec<(f64, f64)> {
+    let (mut ours, mut theirs) = ((case.buffers)(), (case.buffers)());
+    let first = [
+        time_of(case, Who::Library, TIMES_AT_FIRST, &mut ours),
+        time_of(case, Who::Independent, TIMES_AT_FIRST, &mut theirs),
+    ];
+    assert_eq!(ours, theirs, "both leave the same: {}", case.name);
+    let times = first.map(|each| 1 + (TURN_NANOSECONDS / each) as u64);
+    let mut turn = || {
+        let library = time_of(case, Who::Library, times[0], &mut ours);
+        (library, time_of(case, Who::Independent, times[1], &mut theirs))
+    };
+    (0..TURNS).map(|_| turn()).collect()
+}
+
+fn time_of(case: &Case, who: Who, times: u64, buffers: &mut Buffers) -> f64 {
+    let begin = Instant::now();
+    repeat(case, who, times, buffers);
+    begin.elapsed().as_nanos() as f64 / times as f64
+}
+
+fn median(turns: &[(f64, f64)], value: fn((f64, f64)) -> f64) -> f64 {
+    let mut values: Vec<f64> = turns.iter().map(|turn| value(*turn)).collect();
+    values.sort_by(f64::total_cmp);
+    values[values.len() / 2]
+}
+
+/// Makes a call so many times.
+fn repeat(case: &Case, who: Who, times: u64, buffers: &mut Buffers) {
     for _ in 0..times {
-        bytes = *before;
-        let mut skipped = 0;
-        let status = merge_bare(&mut bytes, frame, QUALITY, NOW, &mut skipped);
-        assert_eq!((status, skipped), (0, 0), "every candidate has a row");
+        if let Some(before) = &buffers.before {
+            buffers.kept.copy_from_slice(before);
+        }
+        match who {
+            Who::Library => assert_eq!((case.library)(buffers), 0, "{}", case.name),
+            Who::Independent => assert_eq!((case.independent)(buffers), Ok(()), "{}", case.name),
+        }
     }
-    bytes
-}
-
-fn in_bytes(before: &[u8; Table::LENGTH], frame: &[u8], times: u64) -> [u8; Table::LENGTH] {
-    let mut bytes = *before;
-    for _ in 0..times {
-        bytes = *before;
-        let mut table = Table::from_bytes(&bytes).expect("the bytes are those of a table");
-        assert_eq!(table.merge(frame, QUALITY, NOW), Ok(0), "every candidate has a row");
-        table.to_bytes(&mut bytes);
-    }
-    bytes
-}
-
-fn in_memory(full: &Table, frame: &[u8], times: u64) -> [u8; Table::LENGTH] {
-    let mut table = full.clone();
-    for _ in 0..times {
-        table = full.clone();
-        assert_eq!(table.merge(frame, QUALITY, NOW), Ok(0), "every candidate has a row");
-    }
-    let mut bytes = [0; Table::LENGTH];
-    table.to_bytes(&mut bytes);
-    bytes
-}
-
-/// A table of 48 rows, all through the neighbour in its middle.
-fn full_table() -> Table {
-    let time = NOW - 1000;
-    let mut table = Table::fresh(OWN, time).expect("this unit has an address");
-    for (row, destination) in table.rows.iter_mut().zip((FIRST..).step_by(2)) {
-        *row = Row { destination, next_hop: 0, hops: 3, quality: 100, time, withdrawn: false };
-    }
-    let neighbour = neighbour_in(&table);
-    for row in &mut table.rows {
-        row.next_hop = neighbour;
-    }
-    table
-}
-
-fn neighbour_in(table: &Table) -> u16 {
-    table.rows[MOST_ROWS / 2].destination
-}
-
-/// An update of the neighbour with so many entries, one for every second row: each replaces its row.
-fn spread_update(table: &Table, entries: usize) -> Vec<u8> {
-    let neighbour = neighbour_in(table);
-    let others = table.rows.iter().skip(1).step_by(2).take(entries);
-    let entries: Vec<Entry> = others.map(|row| (row.destination, 2, 150, row.destination, NOW)).collect();
-    update(neighbour, NOW, &entries)
 }

@@ -1,4 +1,5 @@
-//! The library's calls on the site plan and the member book, each with a safe wrapper. All their unsafe code is here.
+//! The library's calls on the site plan and the member book, each with a safe wrapper. All their unsafe code is here,
+//! but for the benchmark's.
 //!
 //! They are one kind of value: the bytes of a book, or of the plan to be made, and what is asked of it. The answer has
 //! every place that any of them can write to, so that a call is also held to leaving the others alone.
@@ -24,7 +25,7 @@ extern "C" {
 
     fn braidlark_book_fresh(book: *mut u8, book_length: usize, plan: *const u8, plan_length: usize, time: u32) -> u8;
 
-    fn braidlark_join(
+    pub fn braidlark_join(
         book: *mut u8,
         book_length: usize,
         frame: *const u8,
@@ -50,7 +51,7 @@ extern "C" {
 
     fn braidlark_leave(book: *mut u8, book_length: usize, unit: u16, time: u32) -> u8;
 
-    fn braidlark_schedule(
+    pub fn braidlark_schedule(
         book: *const u8,
         book_length: usize,
         unit: u16,

@@ -1,6 +1,6 @@
 //! The library's C interface: what every call shares, and a safe wrapper for each call on frames, states and the clock.
 //! All their unsafe code is here; that of the calls on tables, books and images is in `routes_calls`, `book_calls` and
-//! `image_calls`.
+//! `image_calls`, the benchmark's in `bench_calls`.
 //!
 //! A call is a value that holds its arguments: it can be made and shown. Its answer is the status together with the
 //! whole exit contents of every buffer lent for output, so that what a call must leave alone is compared as well.

@@ -1,4 +1,5 @@
-//! The library's two calls on stored images, each with a safe wrapper. All their unsafe code is here.
+//! The library's two calls on stored images, each with a safe wrapper. All their unsafe code is here, but for the
+//! benchmark's.
 //!
 //! They lend what the calls on books lend, and their answer has the same places.
 
@@ -7,7 +8,7 @@ use crate::boundary::{input_shown, Call, Empty};
 use std::fmt;
 
 extern "C" {
-    fn braidlark_image(
+    pub fn braidlark_image(
         book: *const u8,
         book_length: usize,
         time: u32,
@@ -16,7 +17,8 @@ extern "C" {
         written: *mut u32,
     ) -> u8;
 
-    fn braidlark_restore(book: *mut u8, book_length: usize, image: *const u8, image_length: usize, time: u32) -> u8;
+    pub fn braidlark_restore(book: *mut u8, book_length: usize, image: *const u8, image_length: usize, time: u32)
+        -> u8;
 }
 
 /// What is asked; `room` is the length of the output buffer.

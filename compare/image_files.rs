@@ -70,7 +70,7 @@ pub fn spread_book() -> Book {
 }
 
 /// A site whose every row is used. The last member has the last slot, the others one each from the first.
-fn full_book(max_hops: u8, rows: u8, data_slots: u8) -> Book {
+pub fn full_book(max_hops: u8, rows: u8, data_slots: u8) -> Book {
     let plan = Plan { network: 0x0102, manager: 0x0100, max_hops, rows, data_slots, slot_ms: 1 };
     let mut book = Book::fresh(plan, 0).expect("the plan is within rule");
     for place in 1..rows {

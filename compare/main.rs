@@ -4,6 +4,8 @@
 #![deny(warnings)]
 
 mod bench;
+mod bench_calls;
+mod bench_cases;
 mod book;
 mod book_calls;
 mod book_cases;
@@ -41,7 +43,7 @@ use std::process::ExitCode;
 const USAGE: &str = "\
 usage: compare [--seed N] [--frames N] [--routes N] [--steps N] [--books N]
                [--images N] [--quiet] [--help]
-       compare bench [CASE [TIMES]]
+       compare bench [names | CASE WHO TIMES]
        compare images FOLDER
 
 Compares the library, call by call, with an independent implementation.
@@ -58,9 +60,10 @@ Compares the library, call by call, with an independent implementation.
 Prints the counts of each subject. Exits with 0 if every call agrees, 1 at the
 first difference (seed, call and both answers on standard error), 2 if used wrongly.
 
-bench merges updates TIMES times (200000) by the library and by the independent
-table. CASE is library-24, bytes-24, memory-24, library-0, bytes-0 or memory-0;
-without one it is all of them.
+bench prints how long calls take, the library beside the independent
+implementation. bench names prints the cases. With a CASE, library or rust for
+WHO, and TIMES, that call is made so many times, for an instruction counter.
+compare/measure does all of this, in a build of its own.
 
 images writes stored images into a folder that is there, and the drawing of each:
 NAME.image and NAME.text. compare/slotview puts them to the program slotview.";

@@ -1,4 +1,5 @@
-//! The library's calls on tables of routes, each with a safe wrapper. All their unsafe code is here.
+//! The library's calls on tables of routes, each with a safe wrapper. All their unsafe code is here, but for the
+//! benchmark's.
 //!
 //! They are one kind of value: a table's bytes, and what is asked of it. The answer has every place that any of them
 //! can write to, so that a call is also held to leaving the others alone.
@@ -12,7 +13,7 @@ use std::fmt;
 extern "C" {
     fn braidlark_table_fresh(table: *mut u8, table_length: usize, own: u16, time: u32) -> u8;
 
-    fn braidlark_lookup(
+    pub fn braidlark_lookup(
         table: *const u8,
         table_length: usize,
         destination: u16,
@@ -23,7 +24,7 @@ extern "C" {
 
     fn braidlark_forget(table: *mut u8, table_length: usize, unit: u16, time: u32) -> u8;
 
-    fn braidlark_merge(
+    pub fn braidlark_merge(
         table: *mut u8,
         table_length: usize,
         frame: *const u8,
@@ -43,7 +44,7 @@ extern "C" {
         written: *mut u32,
     ) -> u8;
 
-    fn braidlark_relay(
+    pub fn braidlark_relay(
         table: *const u8,
         table_length: usize,
         frame: *const u8,
@@ -289,10 +290,4 @@ impl fmt::Display for TableAnswer {
         write!(text, "; length: {}", number_shown(self.length))?;
         show_disturbed(text, &self.disturbed)
     }
-}
-
-/// A merge with nothing around its buffers, for a measure. Answers the status.
-pub fn merge_bare(table: &mut [u8], frame: &[u8], quality: u8, time: u32, skipped: &mut u8) -> u8 {
-    // SAFETY: each address is that of a live buffer of the length given with it.
-    unsafe { braidlark_merge(table.as_mut_ptr(), table.len(), frame.as_ptr(), frame.len(), quality, time, skipped) }
 }

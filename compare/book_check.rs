@@ -5,6 +5,7 @@ use crate::book::{Book, Row};
 use crate::book_calls::{Ask, BookAnswer, BookCall, CALLS};
 use crate::book_drafts::{book_bytes, plan_bytes, Drawing, Scene};
 use crate::boundary::Empty;
+use crate::hostile::{self, Hostile, BOTH_WAYS};
 use crate::random::Random;
 use crate::refusal::Refusal;
 use crate::report::{Difference, Progress, Tally};
@@ -24,6 +25,7 @@ pub fn check(options: &Options, progress: &mut Progress) -> Result<Tally, Differ
     let mut check = Check { random: Random::new(options.seed), tallies: CALLS.map(|_| Tally::new()) };
     book_cases::check(&mut check)?;
     book_sweeps::check(&mut check)?;
+    hostile::books(&mut check)?;
     let mut done = 0;
     while done < options.books {
         let calls = (1 + check.random.below(MOST_CALLS as usize) as u64).min(options.books - done);
@@ -47,9 +49,13 @@ pub struct Check {
 impl Check {
     /// Puts a call to the library and to the independent book.
     pub fn put(&mut self, book: &[u8], ask: &Ask) -> Result<BookAnswer, Difference> {
-        let expected = expected(book, ask);
-        let call = BookCall { book, ask, empty: self.random.one_of(&[Empty::Null, Empty::Address]) };
-        self.tallies[ask.place()].compare(&call, &expected)?;
+        let empty = self.random.one_of(&BOTH_WAYS);
+        self.put_call(&BookCall { book, ask, empty })
+    }
+
+    fn put_call(&mut self, call: &BookCall) -> Result<BookAnswer, Difference> {
+        let expected = expected(call.book, call.ask);
+        self.tallies[call.ask.place()].compare(call, &expected)?;
         Ok(expected)
     }
 
@@ -88,6 +94,27 @@ impl Check {
             self.put(bytes, &ask)?;
         }
         Ok(())
+    }
+}
+
+impl Hostile for Check {
+    type Ask = Ask;
+
+    fn random(&mut self) -> &mut Random {
+        &mut self.random
+    }
+
+    fn put_lending(&mut self, book: &[u8], ask: &Ask, empty: Empty) -> Result<u8, Difference> {
+        self.put_call(&BookCall { book, ask, empty }).map(|answer| answer.status)
+    }
+
+    fn lent(ask: &mut Ask) -> (Option<&mut Vec<u8>>, Option<&mut usize>) {
+        match ask {
+            Ask::Fresh { plan, .. } => (Some(plan), None),
+            Ask::Join { frame, room, .. } | Ask::SlotRequest { frame, room, .. } => (Some(frame), Some(room)),
+            Ask::Schedule { room, .. } => (None, Some(room)),
+            Ask::Plan { .. } | Ask::Heard { .. } | Ask::Leave { .. } => (None, None),
+        }
     }
 }
 

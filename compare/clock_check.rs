@@ -5,6 +5,7 @@ use crate::boundary::{ClockAnswer, ClockCall, Empty};
 use crate::clock::{self, LARGEST_OFFSET};
 use crate::frames::{kind_of, Kind, BEACON, KINDS, LONGEST_FRAME};
 use crate::frames_drafts::{mended, Draft};
+use crate::hostile::{every_length, BOTH_WAYS};
 use crate::random::Random;
 use crate::report::{Difference, Progress, Tally};
 use crate::Options;
@@ -25,6 +26,7 @@ pub fn check(options: &Options, progress: &mut Progress) -> Result<Tally, Differ
     check.networks()?;
     check.other_frames()?;
     check.every_byte_damaged()?;
+    check.every_length()?;
     for done in 0..options.steps {
         check.random_step()?;
         progress.step(done + 1, options.steps);
@@ -40,7 +42,11 @@ struct Check {
 /// The calls.
 impl Check {
     fn step(&mut self, offset: i64, local_time: u32, network: u16, frame: &[u8]) -> Agreement {
-        let empty = self.random.one_of(&[Empty::Null, Empty::Address]);
+        let empty = self.random.one_of(&BOTH_WAYS);
+        self.step_lending(offset, local_time, network, frame, empty)
+    }
+
+    fn step_lending(&mut self, offset: i64, local_time: u32, network: u16, frame: &[u8], empty: Empty) -> Agreement {
         let call = ClockCall { offset, local_time, network, frame, empty };
         let expected = match clock::step(offset, local_time, network, frame) {
             Ok(next) => ClockAnswer::accepted(next),
@@ -151,6 +157,16 @@ impl Check {
                 let mut frame = self.beacon(1_000_000, 300).frame();
                 frame[place] ^= change;
                 self.damaged(&frame)?;
+            }
+        }
+        Ok(())
+    }
+
+    fn every_length(&mut self) -> Agreement {
+        let draft = self.beacon(1_000_000, 300);
+        for empty in BOTH_WAYS {
+            for frame in every_length(&draft.frame(), &mut self.random) {
+                self.step_lending(0, 1_000_000, network_of(&draft), &frame, empty)?;
             }
         }
         Ok(())

@@ -4,6 +4,7 @@
 use crate::boundary::{Empty, ReadAnswer, ReadCall, WriteAnswer, WriteCall};
 use crate::frames::{self, *};
 use crate::frames_drafts::{mended, Draft, LIMITS};
+use crate::hostile::{every_length, BOTH_WAYS};
 use crate::random::Random;
 use crate::report::{Difference, Progress, Tally};
 use crate::Options;
@@ -23,6 +24,7 @@ pub fn check(options: &Options, progress: &mut Progress) -> Result<Tally, Differ
     for kind in &KINDS {
         check.every_type_on(kind)?;
         check.every_room_for(kind)?;
+        check.every_length_of(kind)?;
         check.every_field_at_limits(kind)?;
         check.over_long_inputs(kind)?;
         check.counts_beside_parts(kind)?;
@@ -47,7 +49,12 @@ struct Check {
 impl Check {
     /// Reads with so many places for the numbers; what is accepted is also written again.
     fn read(&mut self, frame: &[u8], places: usize) -> Agreement {
-        let call = ReadCall { frame, places, empty: self.empty() };
+        let empty = self.empty();
+        self.read_lending(frame, places, empty)
+    }
+
+    fn read_lending(&mut self, frame: &[u8], places: usize, empty: Empty) -> Agreement {
+        let call = ReadCall { frame, places, empty };
         match frames::read(frame, places) {
             Ok(reading) => {
                 self.tally.compare(&call, &ReadAnswer::accepted(&reading, places))?;
@@ -66,7 +73,12 @@ impl Check {
 
     /// Writes with so many bytes of room.
     fn write(&mut self, numbers: &[u32], part: &[u8], room: usize) -> Agreement {
-        let call = WriteCall { fields: numbers, part, room, empty: self.empty() };
+        let empty = self.empty();
+        self.write_lending(numbers, part, room, empty)
+    }
+
+    fn write_lending(&mut self, numbers: &[u32], part: &[u8], room: usize, empty: Empty) -> Agreement {
+        let call = WriteCall { fields: numbers, part, room, empty };
         let expected = match frames::write(numbers, part, room) {
             Ok(frame) => WriteAnswer::accepted(&frame, room),
             Err(refusal) => WriteAnswer::refused(refusal, room),
@@ -105,7 +117,7 @@ impl Check {
     }
 
     fn empty(&mut self) -> Empty {
-        self.random.one_of(&[Empty::Null, Empty::Address])
+        self.random.one_of(&BOTH_WAYS)
     }
 }
 
@@ -157,6 +169,30 @@ impl Check {
             }
             for room in 0..=frame.len() + 1 {
                 self.write(&draft.numbers, &draft.part, room)?;
+            }
+        }
+        Ok(())
+    }
+
+    /// The longest frame of a kind at every length, and what it is written from.
+    fn every_length_of(&mut self, kind: &'static Kind) -> Agreement {
+        let most = kind.part.as_ref().map_or(0, |part| part.most);
+        let Draft { mut numbers, part, .. } = Draft::with_count(kind, most as u32, &mut self.random);
+        let frame = kind.assemble(&numbers, &part);
+        for empty in BOTH_WAYS {
+            for bytes in every_length(&frame, &mut self.random) {
+                self.read_lending(&bytes, numbers.len(), empty)?;
+            }
+            self.read_lending(&frame, 0, empty)?;
+            for bytes in every_length(&part, &mut self.random) {
+                self.write_lending(&numbers, &bytes, frame.len(), empty)?;
+            }
+            self.write_lending(&numbers, &part, 0, empty)?;
+        }
+        numbers.push(0);
+        for count in 0..=numbers.len() {
+            for empty in BOTH_WAYS {
+                self.write_lending(&numbers[..count], &part, frame.len(), empty)?;
             }
         }
         Ok(())

@@ -5,6 +5,7 @@ use crate::book::{Book, Row, LIVE_AGE};
 use crate::book_calls::BookAnswer;
 use crate::book_drafts::{book_bytes, Drawing, Scene};
 use crate::boundary::Empty;
+use crate::hostile::{self, Hostile, BOTH_WAYS};
 use crate::image_calls::{Ask, ImageCall, CALLS};
 use crate::random::Random;
 use crate::refusal::Refusal;
@@ -20,6 +21,7 @@ const MOST_IMAGES: u64 = 40;
 pub fn check(options: &Options, progress: &mut Progress) -> Result<Tally, Difference> {
     let mut check = Check { random: Random::new(options.seed), tallies: CALLS.map(|_| Tally::new()) };
     image_cases::check(&mut check)?;
+    hostile::images(&mut check)?;
     let mut done = 0;
     while done < options.images {
         let images = (1 + check.random.below(MOST_IMAGES as usize) as u64).min(options.images - done);
@@ -43,9 +45,13 @@ pub struct Check {
 impl Check {
     /// Puts a call to the library and to the independent image.
     pub fn put(&mut self, book: &[u8], ask: &Ask) -> Result<BookAnswer, Difference> {
-        let expected = expected(book, ask);
-        let call = ImageCall { book, ask, empty: self.random.one_of(&[Empty::Null, Empty::Address]) };
-        self.tallies[ask.place()].compare(&call, &expected)?;
+        let empty = self.random.one_of(&BOTH_WAYS);
+        self.put_call(&ImageCall { book, ask, empty })
+    }
+
+    fn put_call(&mut self, call: &ImageCall) -> Result<BookAnswer, Difference> {
+        let expected = expected(call.book, call.ask);
+        self.tallies[call.ask.place()].compare(call, &expected)?;
         Ok(expected)
     }
 
@@ -96,6 +102,25 @@ impl Check {
         let answer = self.put(book, &Ask::Image { time, room: image.len() })?;
         assert_eq!((answer.status, &answer.out[..]), (0, image));
         Ok(())
+    }
+}
+
+impl Hostile for Check {
+    type Ask = Ask;
+
+    fn random(&mut self) -> &mut Random {
+        &mut self.random
+    }
+
+    fn put_lending(&mut self, book: &[u8], ask: &Ask, empty: Empty) -> Result<u8, Difference> {
+        self.put_call(&ImageCall { book, ask, empty }).map(|answer| answer.status)
+    }
+
+    fn lent(ask: &mut Ask) -> (Option<&mut Vec<u8>>, Option<&mut usize>) {
+        match ask {
+            Ask::Image { room, .. } => (None, Some(room)),
+            Ask::Restore { image, .. } => (Some(image), None),
+        }
     }
 }
 

@@ -1,7 +1,8 @@
 //! The comparison of a unit's states: every kind with every event, every limit in turn, damaged states and buffers,
 //! then random lives.
 
-use crate::boundary::{Asked, Empty, StateAnswer, StateCall};
+use crate::boundary::{Asked, StateAnswer, StateCall};
+use crate::hostile::BOTH_WAYS;
 use crate::life::{self, *};
 use crate::random::Random;
 use crate::report::{Difference, Progress, Tally};
@@ -49,7 +50,7 @@ impl Check {
             Asked::Event(number) => life::event(buffer, number, time),
             Asked::Tick(superframe_ms) => life::tick(buffer, superframe_ms, time),
         };
-        let empty = self.random.one_of(&[Empty::Null, Empty::Address]);
+        let empty = self.random.one_of(&BOTH_WAYS);
         let call = StateCall { state: buffer, asked, time, empty };
         match expected {
             Ok(next) => self.tally.compare(&call, &StateAnswer::accepted(&next)).map(|_| next),

@@ -18,6 +18,7 @@ mod clock_check;
 mod frames;
 mod frames_check;
 mod frames_drafts;
+mod hostile;
 mod image;
 mod image_calls;
 mod image_cases;
@@ -42,7 +43,7 @@ use std::process::ExitCode;
 
 const USAGE: &str = "\
 usage: compare [--seed N] [--frames N] [--routes N] [--steps N] [--books N]
-               [--images N] [--quiet] [--help]
+               [--images N] [--times N] [--quiet] [--help]
        compare bench [names | CASE WHO TIMES]
        compare images FOLDER
 
@@ -54,6 +55,7 @@ Compares the library, call by call, with an independent implementation.
   --steps N   random steps of a unit's state, and as many of its clock (1000000)
   --books N   random calls on member books to compare (2100000)
   --images N  random stored images to compare, each in several calls (520000)
+  --times N   each of these numbers so many times as large (1)
   --quiet     no progress on standard error
   --help      this text
 
@@ -126,6 +128,7 @@ fn obey(options: &Options) -> u8 {
 fn parse(mut arguments: impl Iterator<Item = String>) -> Result<Options, String> {
     let (frames, routes, steps, books, images) = (300_000, 2_100_000, 1_000_000, 2_100_000, 520_000);
     let mut options = Options { seed: 1, frames, routes, steps, books, images, quiet: false, help: false };
+    let mut times: u64 = 1;
     while let Some(argument) = arguments.next() {
         match argument.as_str() {
             "--seed" => options.seed = number(&argument, arguments.next())?,
@@ -134,10 +137,15 @@ fn parse(mut arguments: impl Iterator<Item = String>) -> Result<Options, String>
             "--steps" => options.steps = number(&argument, arguments.next())?,
             "--books" => options.books = number(&argument, arguments.next())?,
             "--images" => options.images = number(&argument, arguments.next())?,
+            "--times" => times = number(&argument, arguments.next())?,
             "--quiet" => options.quiet = true,
             "--help" => options.help = true,
             _ => return Err(format!("unknown argument '{}'", argument)),
         }
+    }
+    let Options { frames, routes, steps, books, images, .. } = &mut options;
+    for count in [frames, routes, steps, books, images] {
+        *count = count.saturating_mul(times);
     }
     Ok(options)
 }

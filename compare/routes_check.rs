@@ -2,6 +2,7 @@
 //! each on the table that the ones before it left.
 
 use crate::boundary::Empty;
+use crate::hostile::{self, Hostile, BOTH_WAYS};
 use crate::random::Random;
 use crate::refusal::Refusal;
 use crate::relays::Relayed;
@@ -20,6 +21,7 @@ const MOST_CALLS: u64 = 600;
 pub fn check(options: &Options, progress: &mut Progress) -> Result<Tally, Difference> {
     let mut check = Check { random: Random::new(options.seed), tallies: CALLS.map(|_| Tally::new()) };
     routes_cases::check(&mut check)?;
+    hostile::tables(&mut check)?;
     let mut done = 0;
     while done < options.routes {
         let calls = (1 + check.random.below(MOST_CALLS as usize) as u64).min(options.routes - done);
@@ -43,9 +45,13 @@ pub struct Check {
 impl Check {
     /// Puts a call to the library and to the independent table.
     pub fn put(&mut self, table: &[u8], ask: &Ask) -> Result<TableAnswer, Difference> {
-        let expected = expected(table, ask);
-        let call = TableCall { table, ask, empty: self.random.one_of(&[Empty::Null, Empty::Address]) };
-        self.tallies[ask.place()].compare(&call, &expected)?;
+        let empty = self.random.one_of(&BOTH_WAYS);
+        self.put_call(&TableCall { table, ask, empty })
+    }
+
+    fn put_call(&mut self, call: &TableCall) -> Result<TableAnswer, Difference> {
+        let expected = expected(call.table, call.ask);
+        self.tallies[call.ask.place()].compare(call, &expected)?;
         Ok(expected)
     }
 
@@ -72,6 +78,27 @@ impl Check {
             }
         }
         Ok(())
+    }
+}
+
+impl Hostile for Check {
+    type Ask = Ask;
+
+    fn random(&mut self) -> &mut Random {
+        &mut self.random
+    }
+
+    fn put_lending(&mut self, table: &[u8], ask: &Ask, empty: Empty) -> Result<u8, Difference> {
+        self.put_call(&TableCall { table, ask, empty }).map(|answer| answer.status)
+    }
+
+    fn lent(ask: &mut Ask) -> (Option<&mut Vec<u8>>, Option<&mut usize>) {
+        match ask {
+            Ask::Merge { frame, .. } => (Some(frame), None),
+            Ask::Page { room, .. } => (None, Some(room)),
+            Ask::Relay { frame, room, .. } | Ask::Forward { frame, room, .. } => (Some(frame), Some(room)),
+            Ask::Fresh { .. } | Ask::Lookup { .. } | Ask::Forget { .. } => (None, None),
+        }
     }
 }
 

@@ -1,4 +1,5 @@
-# Shared by compare/build, site/build and firmware/check, which set `name` and source this: messages, and Debian packages that are missing.
+# Shared by the scripts that build programs over the archive, which set `name` and source this: messages, and Debian
+# packages that are missing.
 
 fail() {
     echo "$name: $*" >&2

@@ -44,6 +44,36 @@ static uint32_t write_whole(const uint32_t *fields, size_t count, const uint8_t 
     return written;
 }
 
+/* ---- the header's numbers */
+
+/* The kinds of frames that the story below does not send. */
+static void write_other_kinds(void)
+{
+    static const uint32_t refusal[BRAIDLARK_JOIN_RESPONSE_FIELDS] = {
+        BRAIDLARK_JOIN_RESPONSE, UNIT, BRAIDLARK_STATUS_REFUSED, BRAIDLARK_NO_SLOT, NOW, NETWORK};
+    static const uint32_t search[BRAIDLARK_DISCOVERY_REQUEST_FIELDS] = {BRAIDLARK_DISCOVERY_REQUEST,
+                                                                        BRAIDLARK_LOWEST_ADDRESS, 0, 0, MAX_HOPS};
+    static const uint32_t found[BRAIDLARK_DISCOVERY_RESPONSE_FIELDS] = {
+        BRAIDLARK_DISCOVERY_RESPONSE, BRAIDLARK_HIGHEST_ADDRESS, NETWORK, ROWS, 2, QUALITY, NOW};
+    uint8_t frame[BRAIDLARK_MOST_FRAME];
+    EXPECT(write_whole(refusal, BRAIDLARK_JOIN_RESPONSE_FIELDS, NULL, 0, frame) == BRAIDLARK_JOIN_RESPONSE_LENGTH);
+    EXPECT(write_whole(search, BRAIDLARK_DISCOVERY_REQUEST_FIELDS, NULL, 0, frame) ==
+           BRAIDLARK_DISCOVERY_REQUEST_LENGTH);
+    EXPECT(write_whole(found, BRAIDLARK_DISCOVERY_RESPONSE_FIELDS, NULL, 0, frame) ==
+           BRAIDLARK_DISCOVERY_RESPONSE_LENGTH);
+}
+
+static void numbers_fit(void)
+{
+    EXPECT(BRAIDLARK_MOST_FRAME == BRAIDLARK_DATA_LENGTH + BRAIDLARK_MOST_PAYLOAD);
+    EXPECT(BRAIDLARK_MOST_FRAME >= BRAIDLARK_UPDATE_LENGTH + BRAIDLARK_MOST_ENTRIES * BRAIDLARK_ENTRY_SIZE);
+    EXPECT((int)BRAIDLARK_MOST_FIELDS == (int)BRAIDLARK_BEACON_FIELDS);
+    EXPECT(BRAIDLARK_MOST_RESPONSES == (1 + BRAIDLARK_MOST_HELD) * BRAIDLARK_JOIN_RESPONSE_LENGTH);
+    EXPECT(BRAIDLARK_TABLE_SIZE == 11 + BRAIDLARK_MOST_ROUTES * 11);
+    EXPECT(BRAIDLARK_BOOK_SIZE == BRAIDLARK_PLAN_SIZE + 4 + BRAIDLARK_MOST_MEMBERS * 14);
+    EXPECT(BRAIDLARK_MOST_IMAGE == 11 + BRAIDLARK_PLAN_SIZE + BRAIDLARK_MOST_MEMBERS * 10);
+}
+
 /* ---- the manager's side */
 
 static void make_book(uint8_t *book)
@@ -268,6 +298,8 @@ static void be_a_unit(void)
 
 int main(void)
 {
+    numbers_fit();
+    write_other_kinds();
     manage_a_site();
     be_a_unit();
     printf("every_call: %u of %u checks hold\n", checks - failures, checks);

@@ -7,8 +7,8 @@
  * the pointer may be NULL. Buffers and out parameters of one call must not overlap. Nothing is kept between calls: a
  * table, a state, a plan and a book are bytes that the caller owns and hands in again.
  *
- * Times are milliseconds of 32 bits. Addresses of units are 1 to 0xFFFE, networks 1 to 0xFFFF; others are refused as
- * broken field rules (4), by a plan as out of rule (14).
+ * Times are milliseconds of 32 bits. Addresses of units are 1 to 0xFFFE, networks 1 to 0xFFFF (in a join request 0 is
+ * any); others are refused as broken field rules (4), by a plan as out of rule (14).
  */
 #ifndef BRAIDLARK_H
 #define BRAIDLARK_H

@@ -3,7 +3,6 @@
  * that does not hold ends the run.
  */
 #include <stdlib.h>
-#include <string.h>
 
 #include "greenhouse.h"
 
@@ -31,14 +30,30 @@ static int check_fresh(struct site *site, int unit, uint16_t next_hop)
     return next;
 }
 
+/* Nobody can know at once that a unit is gone, but nobody hands it a frame once that is longer than 300,000 ms ago. */
+static void check_loss(struct site *site, int unit, int next)
+{
+    uint32_t gone_for = site->now - site->units[next].silent_since;
+    if (gone_for > SILENCE_MS) {
+        fail(site, "%s hands a frame to %s, which is gone for %u ms", site->units[unit].name, site->units[next].name,
+             (unsigned)gone_for);
+    }
+    if (gone_for > site->tally.latest_loss_ms) {
+        site->tally.latest_loss_ms = gone_for;
+    }
+}
+
 /* A frame is handed to a next hop. */
 void check_next_hop(struct site *site, int unit, uint16_t next_hop)
 {
-    const struct unit *self = &site->units[unit];
-    uint32_t age = unit_time(site, unit) - self->update_taken[check_fresh(site, unit, next_hop)];
+    int next = check_fresh(site, unit, next_hop);
+    uint32_t age = unit_time(site, unit) - site->units[unit].update_taken[next];
     site->tally.handed_over++;
     if (age > site->tally.oldest_word_ms) {
         site->tally.oldest_word_ms = age;
+    }
+    if (!site->units[next].powered) {
+        check_loss(site, unit, next);
     }
 }
 
@@ -49,14 +64,11 @@ static void check_route(struct site *site, int unit, int other)
     const struct unit *self = &site->units[unit];
     uint16_t destination = site->units[other].address, next_hop = 0;
     uint8_t hops = 0;
-    uint8_t status =
-        braidlark_lookup(self->table, sizeof self->table, destination, unit_time(site, unit), &next_hop, &hops);
-    check_status(site, "braidlark_lookup", status, REFUSAL(BRAIDLARK_NO_ROUTE));
-    if (status != BRAIDLARK_ACCEPTED) {
+    if (!routes_find(site, unit, destination, &next_hop, &hops)) {
         return;
     }
     uint32_t too_late = self->update_taken[check_fresh(site, unit, next_hop)] + SILENCE_MS + 1;
-    status = braidlark_lookup(self->table, sizeof self->table, destination, too_late, &next_hop, &hops);
+    uint8_t status = braidlark_lookup(self->table, sizeof self->table, destination, too_late, &next_hop, &hops);
     if (status != BRAIDLARK_NO_ROUTE) {
         fail(site, "%s would still name %04X for %s at %u ms of its clock", self->name, next_hop,
              site->units[other].name, (unsigned)too_late);
@@ -102,110 +114,15 @@ void check_clocks(struct site *site)
     }
 }
 
-/* The hop that the manager takes a unit to be at. */
-static uint8_t hop_of(const struct site *site, int unit)
-{
-    const struct unit *office = &site->units[OFFICE];
-    uint16_t next_hop = 0;
-    uint8_t hops = 0;
-    if (unit == OFFICE) {
-        return 0;
-    }
-    if (braidlark_lookup(office->table, sizeof office->table, site->units[unit].address, site->now, &next_hop, &hops) !=
-            BRAIDLARK_ACCEPTED ||
-        hops > MOST_HOPS) {
-        return MOST_HOPS;
-    }
-    return hops;
-}
-
-/* Reads a schedule: who sends in each slot, and the row and data slots of its unit. */
-static void read_schedule(struct site *site, int unit, const uint8_t *kinds, int *senders)
-{
-    const struct regions *regions = &site->manager.regions;
-    site->held[unit] = 0;
-    for (int slot = regions->control; slot < regions->discovery; slot++) {
-        if (kinds[slot] != BRAIDLARK_TX && kinds[slot] != BRAIDLARK_CONTROL_TX) {
-            continue;
-        }
-        if (senders[slot] != NOBODY) {
-            fail(site, "the schedules of %s and %s both send in slot %d", site->units[senders[slot]].name,
-                 site->units[unit].name, slot);
-        }
-        senders[slot] = unit;
-        if (slot < regions->data) {
-            site->row[unit] = slot - regions->control;
-        } else {
-            site->held[unit] |= 1u << (slot - regions->data);
-        }
-    }
-}
-
-/* The head that was refused is in: it must have been refused before, and have come by the silent relay's place. */
-static void check_new_head(struct site *site)
-{
-    if (!site->units[BENCH_9].was_refused || site->middle_row == NOBODY) {
-        fail(site, "bench 9 joined a book that should have been full");
-    }
-    if (site->row[BENCH_9] != site->middle_row || (site->held[BENCH_9] & ~site->middle_held) != 0) {
-        fail(site, "bench 9 got row %d and slots %04X, not those of the silent relay: row %d, slots %04X",
-             site->row[BENCH_9], (unsigned)site->held[BENCH_9], site->middle_row, (unsigned)site->middle_held);
-    }
-}
-
-static void note_live(struct site *site, int unit, bool live, uint32_t held_before)
-{
-    char slots[80];
-    number_words(site->held[unit], slots);
-    if (live && !site->live[unit] && unit != OFFICE) {
-        say(site, "%s joins: row %d of the book, data slot%s %s", site->units[unit].name, site->row[unit],
-            (site->held[unit] & (site->held[unit] - 1)) ? "s" : "", slots);
-    } else if (live && unit != OFFICE && site->held[unit] != held_before) {
-        say(site, "%s now holds data slots %s", site->units[unit].name, slots);
-    } else if (!live && site->live[unit]) {
-        say(site, "%s counts as gone: 300 s without a word; its row and slots are free", site->units[unit].name);
-    }
-    bool joined = live && !site->live[unit];
-    site->live[unit] = live;
-    if (joined && unit == BENCH_9) {
-        check_new_head(site);
-    }
-}
-
-/* Draws up the schedule of every live member: no control or data slot has two senders. */
-void check_schedules(struct site *site)
-{
-    const struct manager *manager = &site->manager;
-    int senders[BRAIDLARK_MOST_SLOTS];
-    for (int slot = 0; slot < BRAIDLARK_MOST_SLOTS; slot++) {
-        senders[slot] = NOBODY;
-    }
-    for (int unit = 0; unit < UNITS; unit++) {
-        uint8_t kinds[BRAIDLARK_MOST_SLOTS];
-        uint32_t slots = 0, held_before = site->held[unit];
-        uint8_t status = braidlark_schedule(manager->book, sizeof manager->book, site->units[unit].address,
-                                            hop_of(site, unit), site->now, kinds, sizeof kinds, &slots);
-        check_status(site, "braidlark_schedule", status, REFUSAL(BRAIDLARK_NO_MEMBER));
-        if (status == BRAIDLARK_ACCEPTED) {
-            read_schedule(site, unit, kinds, senders);
-            site->tally.schedules++;
-        }
-        note_live(site, unit, status == BRAIDLARK_ACCEPTED, held_before);
-    }
-    for (int slot = 0; slot < DATA_SLOTS; slot++) {
-        record_note(&site->slot_holders[slot], site->now, senders[manager->regions.data + slot]);
-    }
-}
-
-/* Orders that arrived within a stretch of the night and were carried by a unit on their way. */
+/* Orders for benches 1 to 4, which either relay can reach, that arrived within a stretch of the night by this one. */
 static int orders_by(const struct site *site, int carrier, uint32_t from, uint32_t to)
 {
     int count = 0;
     for (int number = 0; number < site->manager.order_count; number++) {
         const struct order *order = &site->manager.orders[number];
+        bool counts = order->head <= BENCH_4 && order->arrived && order->arrival >= from && order->arrival < to;
         for (int index = 0; index < order->carrier_count; index++) {
-            count +=
-                order->arrived && order->carriers[index] == carrier && order->arrival >= from && order->arrival < to;
+            count += counts && order->carriers[index] == carrier;
         }
     }
     return count;
@@ -222,17 +139,29 @@ static void check_ways(struct site *site)
     }
 }
 
-/* The end: the refused head got in, and every order that had time to arrive did, where there was a way in the end. */
+/* The head that was refused got in, and so did, after the power cut, the units that were gone when it came. */
+static void check_joining(struct site *site)
+{
+    static const int GONE[] = {MIDDLE_RELAY, BENCH_5};
+    if (!site->live[BENCH_9]) {
+        fail(site, "bench 9 never got into the book");
+    }
+    if (site->cut.recovered == 0) {
+        fail(site, "the site did not get over the power cut");
+    }
+    for (size_t index = 0; index < sizeof GONE / sizeof GONE[0]; index++) {
+        if (site->cut.before.live[GONE[index]] || !site->live[GONE[index]]) {
+            fail(site, "%s did not join after the power cut", site->units[GONE[index]].name);
+        }
+    }
+}
+
+/* The end of the night: every order that had time to arrive did, where there was a way in the end. */
 void check_end(struct site *site)
 {
     enum { TIME_TO_ARRIVE_MS = 300000 };
     check_ways(site);
-    if (!site->live[BENCH_9]) {
-        fail(site, "bench 9 never got into the book");
-    }
-    if (!site->live[MIDDLE_RELAY] && !site->units[MIDDLE_RELAY].was_refused) {
-        fail(site, "the middle relay came back and was neither taken nor refused");
-    }
+    check_joining(site);
     for (int number = 0; number < site->manager.order_count; number++) {
         const struct order *order = &site->manager.orders[number];
         bool had_way = order->head != BENCH_5 || (site->live[BENCH_5] && !order->replaced);

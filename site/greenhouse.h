@@ -97,6 +97,7 @@ struct unit {
     uint16_t address;
     uint8_t wanted_slots;
     bool powered;
+    uint32_t silent_since; /* where it is not powered */
     int32_t skew_ms;
     int32_t drift_ppm;
     uint8_t state[BRAIDLARK_STATE_SIZE];
@@ -138,7 +139,6 @@ struct order {
 
 /* The slots of the plan, as the manager's own schedule shows them. */
 struct regions {
-    int slots;
     int control;
     int data;
     int discovery;
@@ -147,13 +147,33 @@ struct regions {
 
 struct manager {
     bool running;
-    uint8_t plan[BRAIDLARK_PLAN_SIZE];
     uint8_t book[BRAIDLARK_BOOK_SIZE];
     struct regions regions;
-    uint32_t superframe_number;
-    uint32_t last_word[UNITS]; /* when a frame of that unit came in last */
+    uint32_t last_word[UNITS]; /* when a frame of that unit came in last; 0 if none did since power came */
     struct order orders[MOST_ORDERS];
     int order_count;
+};
+
+/* What outlives a power cut at the office: the image of its book that was stored last. */
+struct flash {
+    uint8_t image[BRAIDLARK_MOST_IMAGE];
+    uint32_t length; /* 0 before the first image */
+    uint32_t writes;
+};
+
+/* The schedules of all units at one moment. */
+struct schedules {
+    bool live[UNITS]; /* who has one */
+    uint8_t hops[UNITS];
+    uint8_t kinds[UNITS][BRAIDLARK_MOST_SLOTS];
+};
+
+/* The power cut: what the schedules were when it came, and how far the site has got over it. */
+struct cut {
+    struct schedules before;
+    int members;        /* in them, other than the office */
+    uint32_t restored;  /* when the office had its book again, 0 before */
+    uint32_t recovered; /* when every member had spoken again, 0 before */
 };
 
 struct change {
@@ -190,6 +210,8 @@ struct script {
     uint32_t orders_begin;
     uint32_t new_head;
     uint32_t unbolted; /* then, or soon after */
+    uint32_t power_fails;
+    uint32_t power_returns;
     uint32_t returned;
     uint32_t taken_out;
     uint32_t end;
@@ -205,6 +227,7 @@ struct tally {
     uint32_t refused_joins;
     uint32_t started_over;
     uint32_t oldest_word_ms;
+    uint32_t latest_loss_ms; /* how long a unit was gone, at most, when a frame was handed to it */
     uint32_t worst_clock_ms;
 };
 
@@ -215,6 +238,8 @@ struct site {
     struct unit units[UNITS];
     uint8_t quality[UNITS][UNITS]; /* of the link between two units, 0 where there is none */
     struct manager manager;
+    struct flash flash;
+    struct cut cut;
     struct on_air air[MOST_IN_AIR];
     int air_count;
     bool live[UNITS];     /* as the schedules said last */
@@ -275,11 +300,24 @@ bool traffic_turn(struct site *site, int unit, size_t room, struct packet *packe
 void traffic_hear(struct site *site, int unit, const struct packet *packet, const struct frame *frame);
 void traffic_report(struct site *site, int unit);
 
-/* manager.c: the plan, the book, the answers and the beacon */
+/* manager.c: the book, the answers and the beacon */
 void manager_begin(struct site *site);
 size_t manager_answer(struct site *site, const uint8_t *request, size_t length, uint8_t *out, size_t room);
 void manager_hears(struct site *site, uint16_t address);
 void manager_takes_out(struct site *site, int unit);
+
+/* power.c: the stored image of the book, and a power cut at the office */
+void power_store(struct site *site);
+void power_fails(struct site *site);
+void power_returns(struct site *site);
+void power_restore(struct site *site);
+void power_watch(struct site *site);
+
+/* schedules.c: the schedules, who is a live member, and who holds which slots */
+bool schedule_of(struct site *site, int unit, uint8_t hop, uint8_t kinds[BRAIDLARK_MOST_SLOTS]);
+void schedules_copy(struct site *site, struct schedules *copy);
+void check_schedules(struct site *site);
+void check_holdings(struct site *site);
 
 /* orders.c: the orders for the valves */
 void orders_give(struct site *site, int head, uint8_t setting);
@@ -288,7 +326,8 @@ void orders_arrive(struct site *site, int unit, const uint8_t *words);
 void orders_confirm(struct site *site, int unit, const uint8_t *words);
 void orders_carried(struct site *site, int carrier, const struct packet *packet);
 
-/* routes.c: the office's ways over the night */
+/* routes.c: the ways that units know, and the office's over the night */
+bool routes_find(struct site *site, int unit, uint16_t destination, uint16_t *next_hop, uint8_t *hops);
 void routes_watch(struct site *site);
 
 /* story.c: what happens when */
@@ -305,7 +344,6 @@ void check_status(struct site *site, const char *call, uint8_t status, uint32_t 
 void check_next_hop(struct site *site, int unit, uint16_t next_hop);
 void check_routes(struct site *site);
 void check_air(struct site *site, int slot);
-void check_schedules(struct site *site);
 void check_clocks(struct site *site);
 void check_end(struct site *site);
 
@@ -315,12 +353,15 @@ void check_end(struct site *site);
 #else
 #define LIKE_PRINTF
 #endif
+void scene(struct site *site, const char *title);
 void say(struct site *site, const char *format, ...) LIKE_PRINTF;
 void fail(struct site *site, const char *format, ...) LIKE_PRINTF;
 void clock_words(uint32_t time, char words[9]);
 void number_words(uint32_t numbers, char words[80]);
 void timeline_quiet(struct site *site, uint32_t took_ms);
-void timeline_summary(struct site *site);
+
+/* summary.c: the night in numbers, and what it was held to */
+void summary_print(struct site *site);
 
 /* record.c: values over the night */
 void record_note(struct record *record, uint32_t time, int unit);

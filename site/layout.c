@@ -56,13 +56,18 @@ static const struct link LINKS[] = {
 
 enum { MINUTE = 60000 };
 
-/* The first quarter of an hour is the same in every run, and the relay is away for all but the rest. */
+/* The first quarter of an hour is the same in every run, and the relay is away for all but the rest. The power fails
+ * half way between, in the middle of the data slots. */
 static void set_script(struct script *script, uint32_t length_ms)
 {
+    static const uint32_t INTO_SUPERFRAME_MS = 5000;
     script->orders_begin = 13 * MINUTE;
     script->new_head = 14 * MINUTE;
     script->unbolted = 19 * MINUTE;
     script->returned = length_ms - 20 * MINUTE;
+    uint32_t half_way = (script->unbolted + script->returned) / 2;
+    script->power_fails = half_way / SUPERFRAME_MS * SUPERFRAME_MS + INTO_SUPERFRAME_MS;
+    script->power_returns = script->power_fails + MINUTE;
     script->taken_out = length_ms - 12 * MINUTE;
     script->end = length_ms;
 }

@@ -16,10 +16,11 @@ struct wishes {
 static const char USAGE[] =
     "usage: greenhouse [--hours N | --short] [--seed N] [--svg FILE] [--help]\n"
     "\n"
-    "Plays a night in a greenhouse whose middle relay is unbolted, and checks what happens.\n"
+    "Plays a night in a greenhouse whose middle relay is unbolted and whose office has a power cut, and checks what\n"
+    "happens.\n"
     "\n"
-    "  --hours N    the night has N hours, 1 to 12 (9 if nothing is said)\n"
-    "  --short      the night has 52 minutes, for a quick test\n"
+    "  --hours N    the night has N hours, 2 to 12 (9 if nothing is said)\n"
+    "  --short      the night has one hour, with all that happens\n"
     "  --seed N     which packets are lost: the same for the same number, 0 to 4294967295 (7 if nothing is said)\n"
     "  --svg FILE   also draws the night: who held which slots, and the ways of the orders\n"
     "  --help       this text\n"
@@ -44,7 +45,7 @@ static uint32_t number_of(const char *words, uint32_t least, uint32_t most)
 
 static struct wishes read_wishes(int count, char **words)
 {
-    enum { MINUTE = 60000, HOUR = 60 * MINUTE };
+    enum { HOUR = 3600000 };
     struct wishes wishes = {.length_ms = 9 * HOUR, .seed = 7, .drawing = NULL};
     for (int index = 1; index < count; index++) {
         const char *word = words[index];
@@ -52,13 +53,13 @@ static struct wishes read_wishes(int count, char **words)
             fputs(USAGE, stdout);
             exit(EXIT_SUCCESS);
         } else if (strcmp(word, "--short") == 0) {
-            wishes.length_ms = 52 * MINUTE;
+            wishes.length_ms = HOUR;
         } else if (strcmp(word, "--hours") != 0 && strcmp(word, "--seed") != 0 && strcmp(word, "--svg") != 0) {
             refuse("not known here: ", word);
         } else if (++index == count) {
             refuse("nothing follows ", word);
         } else if (strcmp(word, "--hours") == 0) {
-            wishes.length_ms = number_of(words[index], 1, 12) * HOUR;
+            wishes.length_ms = number_of(words[index], 2, 12) * HOUR;
         } else if (strcmp(word, "--seed") == 0) {
             wishes.seed = number_of(words[index], 0, UINT32_MAX);
         } else {
@@ -86,9 +87,10 @@ int main(int count, char **words)
     layout_set(&site, wishes.seed, wishes.length_ms);
     superframes_run(&site);
     check_end(&site);
-    timeline_summary(&site);
+    summary_print(&site);
     if (drawing != NULL) {
         drawing_write(&site, drawing);
+        printf("The picture of the night is in %s\n", wishes.drawing);
     }
     if (!is_written(stdout) || (drawing != NULL && (!is_written(drawing) || fclose(drawing) != 0))) {
         fprintf(stderr, "greenhouse: not everything could be written\n");

@@ -1,24 +1,14 @@
 /*
- * The manager's side: the plan, the book, the answers to requests, and the beacon. Of the book it knows only what the
- * calls answer.
+ * The manager's side: the book, the answers to requests, and the beacon. Of the book it knows only what the calls
+ * answer.
  */
 #include "greenhouse.h"
 
 /* The regions of the superframe show in the manager's own schedule: the first slot of each kind. */
-static void find_regions(struct site *site)
+static void find_regions(const uint8_t *kinds, struct regions *regions)
 {
-    struct manager *manager = &site->manager;
-    uint8_t kinds[BRAIDLARK_MOST_SLOTS];
-    uint32_t slots = 0;
-    uint8_t status = braidlark_schedule(manager->book, sizeof manager->book, site->units[OFFICE].address, 0, site->now,
-                                        kinds, sizeof kinds, &slots);
-    check_status(site, "braidlark_schedule of the manager", status, 0);
-    struct regions *regions = &manager->regions;
-    regions->slots = (int)slots;
-    if (slots * SLOT_MS != SUPERFRAME_MS) {
-        fail(site, "the plan has %u slots, and the site counts on %d", (unsigned)slots, BRAIDLARK_MOST_SLOTS);
-    }
-    for (int slot = (int)slots - 1; slot >= 0; slot--) {
+    *regions = (struct regions){0};
+    for (int slot = BRAIDLARK_MOST_SLOTS - 1; slot >= 0; slot--) {
         if (kinds[slot] == BRAIDLARK_DISCOVERY_TX) {
             regions->discovery = slot;
         } else if (kinds[slot] == BRAIDLARK_TX || kinds[slot] == BRAIDLARK_RX) {
@@ -32,51 +22,70 @@ static void find_regions(struct site *site)
     }
 }
 
-static void start(struct site *site)
+/* And so do the manager's own slots. */
+static void take_own_slots(const uint8_t *kinds, struct holding *holding)
 {
-    struct manager *manager = &site->manager;
-    struct unit *office = &site->units[OFFICE];
-    uint8_t status = braidlark_plan(manager->plan, sizeof manager->plan, NETWORK, office->address, MOST_HOPS,
-                                    MEMBER_ROWS, DATA_SLOTS, SLOT_MS);
-    check_status(site, "braidlark_plan", status, 0);
-    status = braidlark_book_fresh(manager->book, sizeof manager->book, manager->plan, sizeof manager->plan, site->now);
-    check_status(site, "braidlark_book_fresh", status, 0);
-    find_regions(site);
-    const struct regions *regions = &manager->regions;
-    office->holding = (struct holding){.held = true,
-                                       .control_slot = (uint16_t)regions->control,
-                                       .data_slots = {(uint16_t)regions->data},
-                                       .data_count = 1};
-    manager->running = true;
-    say(site, "the office heard no other manager for 30 s and manages: %d slots of %d ms, room for %d members",
-        regions->slots, SLOT_MS, MEMBER_ROWS);
+    *holding = (struct holding){.held = true};
+    for (int slot = 0; slot < BRAIDLARK_MOST_SLOTS; slot++) {
+        if (kinds[slot] == BRAIDLARK_CONTROL_TX) {
+            holding->control_slot = (uint16_t)slot;
+        } else if (kinds[slot] == BRAIDLARK_TX && holding->data_count < MOST_HELD) {
+            holding->data_slots[holding->data_count++] = (uint16_t)slot;
+        }
+    }
 }
 
-/* The beacon of the superframe that begins now. */
-static void write_beacon(struct site *site, struct packet *packet)
+static void make_book(struct site *site)
 {
     struct manager *manager = &site->manager;
-    uint32_t slots = (uint32_t)manager->regions.slots;
+    uint8_t plan[BRAIDLARK_PLAN_SIZE];
+    uint8_t status = braidlark_plan(plan, sizeof plan, NETWORK, site->units[OFFICE].address, MOST_HOPS, MEMBER_ROWS,
+                                    DATA_SLOTS, SLOT_MS);
+    check_status(site, "braidlark_plan", status, 0);
+    status = braidlark_book_fresh(manager->book, sizeof manager->book, plan, sizeof plan, site->now);
+    check_status(site, "braidlark_book_fresh", status, 0);
+    say(site, "the office heard no other manager for 30 s and manages: %d slots of %d ms, room for %d members",
+        BRAIDLARK_MOST_SLOTS, SLOT_MS, MEMBER_ROWS);
+}
+
+/* The office becomes the manager: with the book of its stored image, or with a fresh one if nothing is stored. */
+static void start(struct site *site)
+{
+    if (site->flash.length > 0) {
+        power_restore(site);
+    } else {
+        make_book(site);
+    }
+    uint8_t kinds[BRAIDLARK_MOST_SLOTS];
+    schedule_of(site, OFFICE, 0, kinds);
+    find_regions(kinds, &site->manager.regions);
+    take_own_slots(kinds, &site->units[OFFICE].holding);
+    site->manager.running = true;
+}
+
+/* The beacon of the superframe that begins now. Its number is that of the clock, so that a power cut repeats none. */
+static void write_beacon(struct site *site, struct packet *packet)
+{
+    uint32_t number = site->now / SUPERFRAME_MS;
     uint32_t fields[BRAIDLARK_BEACON_FIELDS] = {
         [BRAIDLARK_TYPE] = BRAIDLARK_BEACON,
         [BRAIDLARK_BEACON_DESTINATION] = EVERYBODY,
         [BRAIDLARK_BEACON_SOURCE] = site->units[OFFICE].address,
         [BRAIDLARK_BEACON_SIZE] = 27,
         [BRAIDLARK_BEACON_NETWORK] = NETWORK,
-        [BRAIDLARK_BEACON_SUPERFRAME_NUMBER] = manager->superframe_number,
-        [BRAIDLARK_BEACON_SUPERFRAME_MS] = slots * SLOT_MS,
-        [BRAIDLARK_BEACON_TOTAL_SLOTS] = slots,
+        [BRAIDLARK_BEACON_SUPERFRAME_NUMBER] = number,
+        [BRAIDLARK_BEACON_SUPERFRAME_MS] = SUPERFRAME_MS,
+        [BRAIDLARK_BEACON_TOTAL_SLOTS] = BRAIDLARK_MOST_SLOTS,
         [BRAIDLARK_BEACON_SLOT_MS] = SLOT_MS,
         [BRAIDLARK_BEACON_ORIGINAL_SOURCE] = site->units[OFFICE].address,
         [BRAIDLARK_BEACON_ORIGINAL_TIME] = site->now,
         [BRAIDLARK_BEACON_MAX_HOPS] = MOST_HOPS,
-        [BRAIDLARK_BEACON_SEQUENCE] = manager->superframe_number & 0xFFFF,
+        [BRAIDLARK_BEACON_SEQUENCE] = number & 0xFFFF,
     };
     packet_write(site, packet, EVERYBODY, fields, BRAIDLARK_BEACON_FIELDS, NULL, 0);
-    manager->superframe_number++;
 }
 
-/* The start of a superframe: the first time a plan and a book, every time a beacon in slot 0. */
+/* The start of a superframe: the first time a book, every time a beacon in slot 0. */
 void manager_begin(struct site *site)
 {
     if (!site->manager.running) {
@@ -110,12 +119,13 @@ static void note_refusal(struct site *site, int unit, uint8_t status)
     }
     site->tally.refused_joins++;
     if (!asker->was_refused) {
-        say(site, "%s asks to join and is refused: all %d rows of the book are taken (12)", asker->name, MEMBER_ROWS);
+        say(site, "%s asks to join and is refused, with number 12: all %d rows of the book are taken", asker->name,
+            MEMBER_ROWS);
     }
     asker->was_refused = true;
 }
 
-/* Answers a join or slot request: the bytes of the responses, and how many. */
+/* Answers a join or slot request: the bytes of the responses, and how many. The book is stored before they go out. */
 size_t manager_answer(struct site *site, const uint8_t *request, size_t length, uint8_t *out, size_t room)
 {
     struct manager *manager = &site->manager;
@@ -138,6 +148,7 @@ size_t manager_answer(struct site *site, const uint8_t *request, size_t length, 
         return write_denial(site, node, out, room);
     }
     manager->last_word[unit] = site->now;
+    power_store(site);
     check_schedules(site);
     return written;
 }
@@ -163,5 +174,6 @@ void manager_takes_out(struct site *site, int unit)
     status = braidlark_forget(office->table, sizeof office->table, address, site->now);
     check_status(site, "braidlark_forget", status, 0);
     unit_power_off(site, unit);
+    power_store(site);
     check_schedules(site);
 }

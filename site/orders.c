@@ -24,13 +24,10 @@ static void try_order(struct site *site, int number)
 {
     struct order *order = &site->manager.orders[number];
     const struct unit *head = &site->units[order->head];
-    struct unit *office = &site->units[OFFICE];
     uint16_t next_hop = 0;
     uint8_t hops = 0;
     order->next_try = site->now + TRY_EVERY_MS;
-    uint8_t status = braidlark_lookup(office->table, sizeof office->table, head->address, site->now, &next_hop, &hops);
-    check_status(site, "braidlark_lookup", status, REFUSAL(BRAIDLARK_NO_ROUTE));
-    if (status == BRAIDLARK_NO_ROUTE) {
+    if (!routes_find(site, OFFICE, head->address, &next_hop, &hops)) {
         if (!order->waits_for_route && !order->arrived) {
             say(site, "order %d waits: there is no way to %s", number + 1, head->name);
         }

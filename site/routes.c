@@ -1,18 +1,26 @@
 /*
- * The office's ways over the night: kept for the picture, and told when they change for a bench.
+ * The ways that units know, and the office's over the night: kept for the picture, and told when they change for a
+ * bench.
  */
 #include "greenhouse.h"
 
-/* The manager's next hop to a unit, or NOBODY. */
+/* Whether a unit knows a way to an address, and then its next hop and how many hops it is long. */
+bool routes_find(struct site *site, int unit, uint16_t destination, uint16_t *next_hop, uint8_t *hops)
+{
+    const struct unit *self = &site->units[unit];
+    uint8_t status =
+        braidlark_lookup(self->table, sizeof self->table, destination, unit_time(site, unit), next_hop, hops);
+    check_status(site, "braidlark_lookup", status, REFUSAL(BRAIDLARK_NO_ROUTE));
+    return status == BRAIDLARK_ACCEPTED;
+}
+
+/* The office's next hop to a unit, or NOBODY. */
 static int next_hop_to(struct site *site, int unit)
 {
-    const struct unit *office = &site->units[OFFICE];
     uint16_t next_hop = 0;
     uint8_t hops = 0;
-    uint8_t status =
-        braidlark_lookup(office->table, sizeof office->table, site->units[unit].address, site->now, &next_hop, &hops);
-    check_status(site, "braidlark_lookup", status, REFUSAL(BRAIDLARK_NO_ROUTE));
-    return status == BRAIDLARK_ACCEPTED ? layout_find(site, next_hop) : NOBODY;
+    bool known = site->units[OFFICE].powered && routes_find(site, OFFICE, site->units[unit].address, &next_hop, &hops);
+    return known ? layout_find(site, next_hop) : NOBODY;
 }
 
 /* Tells the grower to which benches orders go another way from now on: straight, by a unit, or not at all. */
@@ -33,7 +41,7 @@ static void say_way(struct site *site, int next, uint32_t benches)
     }
 }
 
-/* Keeps the manager's next hop to each unit, and tells of changes for a bench that is there. */
+/* Keeps the office's next hop to each unit, and tells of changes for a bench that is there. */
 void routes_watch(struct site *site)
 {
     uint32_t changed[UNITS + 1] = {0};
@@ -46,7 +54,8 @@ void routes_watch(struct site *site)
             changed[by + 1] |= 1u << (unit - BENCH_1 + 1);
         }
     }
-    for (int by = NOBODY; by < UNITS && site->now >= site->script.orders_begin; by++) {
+    bool told = site->units[OFFICE].powered && site->now >= site->script.orders_begin;
+    for (int by = NOBODY; by < UNITS && told; by++) {
         say_way(site, by, changed[by + 1]);
     }
 }

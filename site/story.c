@@ -1,6 +1,6 @@
 /*
  * What happens when: the units are switched on, the night's orders begin, a head too many comes, the middle relay is
- * unbolted, and in the morning it is back.
+ * unbolted, the power fails in the office, and in the end the relay is back.
  */
 #include "greenhouse.h"
 
@@ -18,6 +18,7 @@ static void switch_on(struct site *site)
     static const uint32_t HEADS_FROM = 300 * SECOND, HEADS_EVERY = 40 * SECOND;
     if (due(site, 0)) {
         unit_power_on(site, OFFICE);
+        scene(site, "The site comes up");
         say(site, "night falls; the office is switched on, then the relays and the valve heads of eight benches");
     }
     for (int unit = MIDDLE_RELAY; unit <= BENCH_8; unit++) {
@@ -28,7 +29,7 @@ static void switch_on(struct site *site)
         }
     }
     if (due(site, site->script.new_head)) {
-        say(site, "a new head is put up at bench 9");
+        say(site, "a new head is put up at bench 9; the plan of the site has no row for it");
         unit_power_on(site, BENCH_9);
     }
 }
@@ -48,17 +49,17 @@ static void unbolt(struct site *site)
     site->middle_row = site->row[MIDDLE_RELAY];
     site->middle_held = site->held[MIDDLE_RELAY];
     unit_power_off(site, MIDDLE_RELAY);
+    scene(site, "A relay is gone");
     say(site, "SOMEBODY UNBOLTS THE MIDDLE RELAY, which holds row %d and data slots %s", site->middle_row, slots);
     say(site, "nobody knows yet: orders by it are lost until its routes are 300 s old, but not longer");
+    say(site, "benches 1 to 4 can also be reached by the north relay; bench 5 is cut off");
 }
 
-/* What happens to units in the slot that begins now. */
-void story_slot(struct site *site)
+static void bring_back(struct site *site)
 {
-    switch_on(site);
-    unbolt(site);
     if (due(site, site->script.returned)) {
-        say(site, "in the morning the middle relay is bolted on again");
+        scene(site, "The relay is back");
+        say(site, "the middle relay is bolted on again");
         unit_power_on(site, MIDDLE_RELAY);
     }
     if (due(site, site->script.taken_out)) {
@@ -67,11 +68,32 @@ void story_slot(struct site *site)
     }
 }
 
-/* Whether the relay's going and coming are both some time away. */
+static void cut_power(struct site *site)
+{
+    if (due(site, site->script.power_fails)) {
+        scene(site, "A power cut in the office");
+        power_fails(site);
+    }
+    if (due(site, site->script.power_returns)) {
+        power_returns(site);
+    }
+}
+
+/* What happens to units in the slot that begins now. */
+void story_slot(struct site *site)
+{
+    switch_on(site);
+    unbolt(site);
+    cut_power(site);
+    bring_back(site);
+}
+
+/* Whether the relay's going and coming and the power cut are all some time away. */
 bool story_is_quiet(const struct site *site)
 {
     const struct script *script = &site->script;
-    return site->now >= script->unbolted + 11 * MINUTE && site->now + 5 * MINUTE <= script->returned;
+    bool power_cut = site->now + 4 * MINUTE >= script->power_fails && site->now < script->power_fails + 9 * MINUTE;
+    return !power_cut && site->now >= script->unbolted + 11 * MINUTE && site->now + 5 * MINUTE <= script->returned;
 }
 
 /* Orders come every 20 minutes, and more often while there is something to see. */

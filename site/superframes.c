@@ -3,7 +3,17 @@
  */
 #include "greenhouse.h"
 
-/* First every unit looks at what is due; then all that can be seen of the site is checked, and orders go out. */
+/* The manager's part: the book is stored and looked at, and orders go out. */
+static void begin_managing(struct site *site)
+{
+    power_store(site);
+    check_schedules(site);
+    power_watch(site);
+    story_orders(site);
+    orders_repeat(site);
+}
+
+/* First every unit looks at what is due; then all that can be seen of the site is checked. */
 static void begin_superframe(struct site *site)
 {
     for (int unit = 0; unit < UNITS; unit++) {
@@ -11,14 +21,13 @@ static void begin_superframe(struct site *site)
             unit_begin(site, unit);
         }
     }
+    routes_watch(site);
     if (site->manager.running) {
-        check_schedules(site);
-        check_routes(site);
-        check_clocks(site);
-        routes_watch(site);
-        story_orders(site);
-        orders_repeat(site);
+        begin_managing(site);
     }
+    check_holdings(site);
+    check_routes(site);
+    check_clocks(site);
 }
 
 static void tick_units(struct site *site)

@@ -25,7 +25,7 @@ void timeline_quiet(struct site *site, uint32_t took_ms)
     quiet->count++;
 }
 
-static void begin_line(struct site *site)
+static void end_quiet(struct site *site)
 {
     char words[9];
     if (site->quiet.count > 0) {
@@ -34,8 +34,21 @@ static void begin_line(struct site *site)
                site->quiet.count == 1 ? " is" : "s in a row are", (unsigned)(site->quiet.slowest_ms / 1000 + 1));
         site->quiet = (struct quiet){0};
     }
+}
+
+static void begin_line(struct site *site)
+{
+    char words[9];
+    end_quiet(site);
     clock_words(site->now, words);
     printf("%s  ", words);
+}
+
+/* The lines that follow belong together. */
+void scene(struct site *site, const char *title)
+{
+    end_quiet(site);
+    printf("%s%s\n", site->now == 0 ? "" : "\n", title);
 }
 
 void say(struct site *site, const char *format, ...)
@@ -73,46 +86,4 @@ void number_words(uint32_t numbers, char words[80])
             used += (size_t)snprintf(words + used, 80 - used, "%s%d", used == 0 ? "" : last ? " and " : ", ", number);
         }
     }
-}
-
-static void summarise_orders(const struct site *site)
-{
-    int arrived = 0, replaced = 0, lost = 0, late = 0;
-    uint32_t latest = 0;
-    for (int index = 0; index < site->manager.order_count; index++) {
-        const struct order *order = &site->manager.orders[index];
-        arrived += order->arrived;
-        replaced += !order->arrived && order->replaced;
-        lost += order->lost_at_silent;
-        if (order->arrived && order->lost_at_silent > 0) {
-            late++;
-            latest = order->arrival - order->given > latest ? order->arrival - order->given : latest;
-        }
-    }
-    printf("  %d orders: %d arrived, %d were replaced by a later one for the same bench, %d are on their way\n",
-           site->manager.order_count, arrived, replaced, site->manager.order_count - arrived - replaced);
-    printf("  the relay's going cost %d tries, none later than 300 s after its last update, and made %d orders late, "
-           "up to "
-           "%u s\n",
-           lost, late, (unsigned)(latest / 1000));
-}
-
-void timeline_summary(struct site *site)
-{
-    const struct tally *tally = &site->tally;
-    printf("\nThe night in numbers\n");
-    summarise_orders(site);
-    printf("  %u packets sent, %u losses on links; data frames: %u hand-overs to a next hop, its last update at most "
-           "%u ms "
-           "old, and %u dropped for want of a way\n",
-           (unsigned)tally->packets, (unsigned)tally->lost_on_links, (unsigned)tally->handed_over,
-           (unsigned)tally->oldest_word_ms, (unsigned)tally->without_route);
-    printf("  %u routes looked at, none that outlives the last update of its next hop by more than 300,000 ms\n",
-           (unsigned)tally->routes);
-    printf("  %u schedules drawn up, no control or data slot with two senders in them or in the air\n",
-           (unsigned)tally->schedules);
-    printf("  %u requests to join refused for want of a row; a unit lost its place and started over %u times\n",
-           (unsigned)tally->refused_joins, (unsigned)tally->started_over);
-    printf("  the worst clock of a member was %u ms off\n", (unsigned)tally->worst_clock_ms);
-    printf("All checks hold.\n");
 }

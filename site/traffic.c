@@ -32,27 +32,18 @@ void traffic_report(struct site *site, int unit)
     traffic_send(site, unit, site->units[OFFICE].address, REPORT, report, sizeof report);
 }
 
-/* Chooses the way of a frame of the unit's own. */
-static uint8_t route_own(struct site *site, int unit, const struct packet *waiting, struct packet *packet)
+/* Chooses the way of a frame of the unit's own, if there is one. */
+static bool route_own(struct site *site, int unit, const struct packet *waiting, struct packet *packet)
 {
-    const struct unit *self = &site->units[unit];
     struct frame frame;
     frame_read(site, waiting->bytes, waiting->length, &frame);
-    uint16_t next_hop = 0;
     uint8_t hops = 0;
-    uint8_t status =
-        braidlark_lookup(self->table, sizeof self->table, (uint16_t)frame.fields[BRAIDLARK_DATA_DESTINATION],
-                         unit_time(site, unit), &next_hop, &hops);
-    check_status(site, "braidlark_lookup", status, REFUSAL(BRAIDLARK_NO_ROUTE));
-    if (status == BRAIDLARK_ACCEPTED) {
-        *packet = *waiting;
-        packet->to = next_hop;
-    }
-    return status;
+    *packet = *waiting;
+    return routes_find(site, unit, (uint16_t)frame.fields[BRAIDLARK_DATA_DESTINATION], &packet->to, &hops);
 }
 
-/* Chooses the way of another unit's frame, with its time to live one less. */
-static uint8_t route_other(struct site *site, int unit, const struct packet *waiting, struct packet *packet)
+/* Chooses the way of another unit's frame, with its time to live one less, if there is one. */
+static bool route_other(struct site *site, int unit, const struct packet *waiting, struct packet *packet)
 {
     const struct unit *self = &site->units[unit];
     uint16_t next_hop = 0;
@@ -66,7 +57,7 @@ static uint8_t route_other(struct site *site, int unit, const struct packet *wai
         packet->to = next_hop;
         packet->length = packet->frame_length = (uint8_t)length;
     }
-    return status;
+    return status == BRAIDLARK_ACCEPTED;
 }
 
 /* In the unit's slot the first waiting frame that has a way goes out; those before it that have none are lost. */
@@ -75,9 +66,7 @@ bool traffic_turn(struct site *site, int unit, size_t room, struct packet *packe
     struct unit *self = &site->units[unit];
     struct packet waiting;
     while (queue_take(&self->data, room, &waiting)) {
-        uint8_t status =
-            waiting.to == 0 ? route_own(site, unit, &waiting, packet) : route_other(site, unit, &waiting, packet);
-        if (status == BRAIDLARK_ACCEPTED) {
+        if (waiting.to == 0 ? route_own(site, unit, &waiting, packet) : route_other(site, unit, &waiting, packet)) {
             check_next_hop(site, unit, packet->to);
             return true;
         }

@@ -55,6 +55,7 @@ void unit_power_on(struct site *site, int unit)
 void unit_power_off(struct site *site, int unit)
 {
     site->units[unit].powered = false;
+    site->units[unit].silent_since = site->now;
     membership_drop(&site->units[unit]);
 }
 
@@ -234,8 +235,12 @@ static void hear_update(struct site *site, int unit, int sender, uint8_t quality
     }
 }
 
+/* The office listens from when it manages: before, it has no book that it could answer from. */
 void unit_hear(struct site *site, int unit, int sender, uint8_t quality, const struct packet *packet)
 {
+    if (unit == OFFICE && !site->manager.running) {
+        return;
+    }
     struct frame frame;
     frame_read(site, packet->bytes, packet->frame_length, &frame);
     switch (frame.fields[BRAIDLARK_TYPE]) {

@@ -1,0 +1,122 @@
+/*
+ * A power cut at the office. Its memory is lost, and with it the book and the routes; its flash keeps the last image of
+ * the book, and its clock has a battery. When the power is back it makes its book of the image, and every member must
+ * find what it held.
+ */
+#include <string.h>
+
+#include "greenhouse.h"
+
+/* Stores the image of the book if it is another than the stored one: flash wears out. Whoever changes the book calls
+ * this before it tells anybody, so that no unit ever counts on a slot that a power cut would make the office forget. */
+void power_store(struct site *site)
+{
+    const struct manager *manager = &site->manager;
+    struct flash *flash = &site->flash;
+    uint8_t image[BRAIDLARK_MOST_IMAGE];
+    uint32_t length = 0;
+    uint8_t status = braidlark_image(manager->book, sizeof manager->book, site->now, image, sizeof image, &length);
+    check_status(site, "braidlark_image", status, 0);
+    if (length == flash->length && memcmp(image, flash->image, length) == 0) {
+        return;
+    }
+    memcpy(flash->image, image, length);
+    flash->length = length;
+    flash->writes++;
+}
+
+/* The office's memory is lost, and bench 8, which hangs on the same line, is dark too. */
+void power_fails(struct site *site)
+{
+    struct manager *manager = &site->manager;
+    struct cut *cut = &site->cut;
+    schedules_copy(site, &cut->before);
+    for (int unit = OFFICE + 1; unit < UNITS; unit++) {
+        cut->members += cut->before.live[unit];
+    }
+    unit_power_off(site, OFFICE);
+    unit_power_off(site, BENCH_8);
+    manager->running = false;
+    memset(manager->book, 0, sizeof manager->book);
+    memset(manager->last_word, 0, sizeof manager->last_word);
+    routes_watch(site);
+    say(site,
+        "THE POWER FAILS IN THE OFFICE: its book of %d members and its routes are lost; bench 8, on its line, is dark "
+        "too",
+        cut->members);
+    say(site, "the last image of the book is in its flash: %u bytes, written %u times since the evening",
+        (unsigned)site->flash.length, (unsigned)site->flash.writes);
+}
+
+void power_returns(struct site *site)
+{
+    say(site, "the power is back; the office listens for 30 s, as every unit does, before it manages");
+    unit_power_on(site, OFFICE);
+    unit_power_on(site, BENCH_8);
+}
+
+/* Every member of before the cut has the same schedule, slot for slot. */
+static void check_agreement(struct site *site)
+{
+    const struct schedules *before = &site->cut.before;
+    for (int unit = 0; unit < UNITS; unit++) {
+        uint8_t kinds[BRAIDLARK_MOST_SLOTS];
+        if (!before->live[unit]) {
+            continue;
+        }
+        if (!schedule_of(site, unit, before->hops[unit], kinds)) {
+            fail(site, "%s was a member before the power cut and is none now", site->units[unit].name);
+        }
+        if (memcmp(kinds, before->kinds[unit], sizeof kinds) != 0) {
+            fail(site, "%s has another schedule than before the power cut", site->units[unit].name);
+        }
+    }
+}
+
+/* Makes the book of the stored image: its own image must be the same again. */
+void power_restore(struct site *site)
+{
+    struct manager *manager = &site->manager;
+    struct flash *flash = &site->flash;
+    uint32_t writes = flash->writes;
+    uint8_t status = braidlark_restore(manager->book, sizeof manager->book, flash->image, flash->length, site->now);
+    check_status(site, "braidlark_restore", status, 0);
+    power_store(site);
+    if (flash->writes != writes) {
+        fail(site, "the restored book has another image than the one it was made of");
+    }
+    check_agreement(site);
+    site->cut.restored = site->now;
+    say(site, "the office has its book again: every member has its row and its slots, every schedule is as before");
+}
+
+/* A member of before the cut that has not spoken since, or has not been told its slots; NOBODY if there is none. */
+static int still_missing(const struct site *site)
+{
+    for (int unit = OFFICE + 1; unit < UNITS; unit++) {
+        bool spoke = site->manager.last_word[unit] > 0;
+        if (site->cut.before.live[unit] && !(spoke && membership_counts(site, unit))) {
+            return unit;
+        }
+    }
+    return NOBODY;
+}
+
+/* After the cut: every member speaks again before its 300,000 ms are over, and holds what it held. */
+void power_watch(struct site *site)
+{
+    struct cut *cut = &site->cut;
+    if (cut->restored == 0 || cut->recovered > 0) {
+        return;
+    }
+    int missing = still_missing(site);
+    if (missing == NOBODY) {
+        cut->recovered = site->now;
+        check_agreement(site);
+        say(site,
+            "all %d members have spoken again and hold what they held; bench 8 had lost its memory and joined anew",
+            cut->members);
+    } else if (site->now - cut->restored > SILENCE_MS) {
+        fail(site, "%s has not found its place again after the power cut", site->units[missing].name);
+    }
+}

@@ -1,0 +1,139 @@
+/*
+ * The schedules that the manager's book gives: who is a live member, who holds which slots, and that no two of them
+ * send in one.
+ */
+#include "greenhouse.h"
+
+/* The hop that the manager takes a unit to be at. */
+static uint8_t hop_of(struct site *site, int unit)
+{
+    uint16_t next_hop = 0;
+    uint8_t hops = 0;
+    if (unit == OFFICE) {
+        return 0;
+    }
+    bool known = routes_find(site, OFFICE, site->units[unit].address, &next_hop, &hops);
+    return known && hops <= MOST_HOPS ? hops : MOST_HOPS;
+}
+
+/* Draws up the schedule of a unit at a hop; answers whether it is a live member, as only those have one. */
+bool schedule_of(struct site *site, int unit, uint8_t hop, uint8_t kinds[BRAIDLARK_MOST_SLOTS])
+{
+    const struct manager *manager = &site->manager;
+    uint32_t slots = 0;
+    uint8_t status = braidlark_schedule(manager->book, sizeof manager->book, site->units[unit].address, hop, site->now,
+                                        kinds, BRAIDLARK_MOST_SLOTS, &slots);
+    check_status(site, "braidlark_schedule", status, unit == OFFICE ? 0 : REFUSAL(BRAIDLARK_NO_MEMBER));
+    if (status == BRAIDLARK_ACCEPTED && slots * SLOT_MS != SUPERFRAME_MS) {
+        fail(site, "a schedule has %u slots, and the site counts on %d", (unsigned)slots, BRAIDLARK_MOST_SLOTS);
+    }
+    return status == BRAIDLARK_ACCEPTED;
+}
+
+void schedules_copy(struct site *site, struct schedules *copy)
+{
+    for (int unit = 0; unit < UNITS; unit++) {
+        copy->hops[unit] = hop_of(site, unit);
+        copy->live[unit] = schedule_of(site, unit, copy->hops[unit], copy->kinds[unit]);
+    }
+}
+
+/* Reads a schedule: who sends in each slot, and the row and data slots of its unit. */
+static void read_schedule(struct site *site, int unit, const uint8_t *kinds, int *senders)
+{
+    const struct regions *regions = &site->manager.regions;
+    site->held[unit] = 0;
+    for (int slot = regions->control; slot < regions->discovery; slot++) {
+        if (kinds[slot] != BRAIDLARK_TX && kinds[slot] != BRAIDLARK_CONTROL_TX) {
+            continue;
+        }
+        if (senders[slot] != NOBODY) {
+            fail(site, "the schedules of %s and %s both send in slot %d", site->units[senders[slot]].name,
+                 site->units[unit].name, slot);
+        }
+        senders[slot] = unit;
+        if (slot < regions->data) {
+            site->row[unit] = slot - regions->control;
+        } else {
+            site->held[unit] |= 1u << (slot - regions->data);
+        }
+    }
+}
+
+/* The head that was refused is in: it must have been refused before, and have come by the silent relay's place. */
+static void check_new_head(struct site *site)
+{
+    if (!site->units[BENCH_9].was_refused || site->middle_row == NOBODY) {
+        fail(site, "bench 9 joined a book that should have been full");
+    }
+    if (site->row[BENCH_9] != site->middle_row || (site->held[BENCH_9] & ~site->middle_held) != 0) {
+        fail(site, "bench 9 got row %d and slots %04X, not those of the silent relay: row %d, slots %04X",
+             site->row[BENCH_9], (unsigned)site->held[BENCH_9], site->middle_row, (unsigned)site->middle_held);
+    }
+}
+
+/* Tells the grower who has joined, who holds other slots, and who is gone. */
+static void note_live(struct site *site, int unit, bool live, uint32_t held_before)
+{
+    char slots[80];
+    number_words(site->held[unit], slots);
+    bool joined = live && !site->live[unit];
+    const char *plural = (site->held[unit] & (site->held[unit] - 1)) != 0 ? "s" : "";
+    if (joined && unit != OFFICE) {
+        say(site, "%s joins: row %d of the book, data slot%s %s", site->units[unit].name, site->row[unit], plural,
+            slots);
+    } else if (live && unit != OFFICE && site->held[unit] != held_before) {
+        say(site, "%s now holds data slot%s %s", site->units[unit].name, plural, slots);
+    } else if (!live && site->live[unit]) {
+        say(site, "%s counts as gone: 300 s without a word; its row and slots are free", site->units[unit].name);
+    }
+    site->live[unit] = live;
+    if (joined && unit == BENCH_9) {
+        check_new_head(site);
+    }
+}
+
+/* Draws up the schedule of every live member: no control or data slot has two senders. */
+void check_schedules(struct site *site)
+{
+    int senders[BRAIDLARK_MOST_SLOTS];
+    for (int slot = 0; slot < BRAIDLARK_MOST_SLOTS; slot++) {
+        senders[slot] = NOBODY;
+    }
+    for (int unit = 0; unit < UNITS; unit++) {
+        uint8_t kinds[BRAIDLARK_MOST_SLOTS];
+        uint32_t held_before = site->held[unit];
+        bool live = schedule_of(site, unit, hop_of(site, unit), kinds);
+        if (live) {
+            read_schedule(site, unit, kinds, senders);
+            site->tally.schedules++;
+        }
+        note_live(site, unit, live, held_before);
+    }
+    for (int slot = 0; slot < DATA_SLOTS; slot++) {
+        record_note(&site->slot_holders[slot], site->now, senders[site->manager.regions.data + slot]);
+    }
+}
+
+/* Whether the slots that a unit was told are its own by the last schedules. */
+static bool holds_what_it_was_told(const struct site *site, int unit)
+{
+    const struct regions *regions = &site->manager.regions;
+    const struct holding *holding = &site->units[unit].holding;
+    bool own = site->live[unit] && holding->control_slot == regions->control + site->row[unit];
+    for (int index = 0; index < holding->data_count; index++) {
+        int slot = holding->data_slots[index] - regions->data;
+        own = own && slot >= 0 && slot < DATA_SLOTS && (site->held[unit] >> slot & 1) == 1;
+    }
+    return own;
+}
+
+/* Every slot that a unit counts on is its own in the book. */
+void check_holdings(struct site *site)
+{
+    for (int unit = 0; unit < UNITS; unit++) {
+        if (site->units[unit].powered && membership_counts(site, unit) && !holds_what_it_was_told(site, unit)) {
+            fail(site, "%s counts on slots that are not its own in the book", site->units[unit].name);
+        }
+    }
+}

@@ -1,0 +1,74 @@
+/*
+ * What the grower reads last: the night in numbers, and what it was held to.
+ */
+#include "greenhouse.h"
+
+/* What became of the orders. */
+struct outcome {
+    int arrived;
+    int replaced;
+    int lost_tries;
+    int late;
+    uint32_t latest_ms;
+};
+
+static struct outcome count_orders(const struct site *site)
+{
+    struct outcome outcome = {0};
+    for (int index = 0; index < site->manager.order_count; index++) {
+        const struct order *order = &site->manager.orders[index];
+        outcome.arrived += order->arrived;
+        outcome.replaced += !order->arrived && order->replaced;
+        outcome.lost_tries += order->lost_at_silent;
+        if (order->arrived && order->lost_at_silent > 0) {
+            uint32_t took_ms = order->arrival - order->given;
+            outcome.late++;
+            outcome.latest_ms = took_ms > outcome.latest_ms ? took_ms : outcome.latest_ms;
+        }
+    }
+    return outcome;
+}
+
+static void print_orders(const struct site *site)
+{
+    struct outcome outcome = count_orders(site);
+    int given = site->manager.order_count;
+    printf(
+        "  orders     %d given: %d arrived, %d were replaced by a later one for the same bench, %d are on their way\n",
+        given, outcome.arrived, outcome.replaced, given - outcome.arrived - outcome.replaced);
+    printf("  the relay  %d tries were lost at it, none more than 300 s after it fell silent (the last frame after %u "
+           "s)\n",
+           outcome.lost_tries, (unsigned)(site->tally.latest_loss_ms / 1000));
+    printf("             %d orders were late for that, by at most %u s; its row and slots went to bench 9\n",
+           outcome.late, (unsigned)(outcome.latest_ms / 1000));
+}
+
+static void print_power(const struct site *site)
+{
+    const struct script *script = &site->script;
+    printf(
+        "  the power  %d members kept rows, slots and schedules; all had spoken again %u s after the power was back\n",
+        site->cut.members, (unsigned)((site->cut.recovered - script->power_returns) / 1000));
+    printf("             the flash was written %u times in the night\n", (unsigned)site->flash.writes);
+}
+
+void summary_print(struct site *site)
+{
+    const struct tally *tally = &site->tally;
+    scene(site, "The night in numbers");
+    print_orders(site);
+    print_power(site);
+    printf("  routes     %u looked at: none outlives the last update of its next hop by more than 300,000 ms\n",
+           (unsigned)tally->routes);
+    printf("             %u frames handed to a next hop, whose last update was at most %u ms old; %u had no way\n",
+           (unsigned)tally->handed_over, (unsigned)tally->oldest_word_ms, (unsigned)tally->without_route);
+    printf("  slots      %u schedules, and all that was in the air: no control or data slot has two senders\n",
+           (unsigned)tally->schedules);
+    printf("  joining    %u requests refused, with every row live; places lost and asked for anew: %u\n",
+           (unsigned)tally->refused_joins, (unsigned)tally->started_over);
+    printf("  clocks     the worst clock of a member was %u ms off, of %d that the slots leave room for\n",
+           (unsigned)tally->worst_clock_ms, CLOCK_TOLERANCE_MS);
+    printf("  the air    %u packets sent, %u losses on links\n", (unsigned)tally->packets,
+           (unsigned)tally->lost_on_links);
+    printf("All checks hold.\n");
+}

@@ -26,7 +26,7 @@ install_packages() {
         fail "could not install $*"
 }
 
-# What any program for x86-64 needs on Arm: Debian's cross compiler, its C library, and the emulator of compare/run.
+# What any program for x86-64 needs on Arm: Debian's cross compiler, its C library, and the emulator of run-x86.
 cross_packages='libc6-dev:amd64 gcc-x86-64-linux-gnu qemu-user'
 cross_c_is_there() {
     command -v x86_64-linux-gnu-gcc >/dev/null || return 1

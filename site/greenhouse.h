@@ -317,6 +317,7 @@ void power_watch(struct site *site);
 bool schedule_of(struct site *site, int unit, uint8_t hop, uint8_t kinds[BRAIDLARK_MOST_SLOTS]);
 void schedules_copy(struct site *site, struct schedules *copy);
 void check_schedules(struct site *site);
+void check_full(struct site *site);
 void check_holdings(struct site *site);
 
 /* orders.c: the orders for the valves */

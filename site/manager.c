@@ -117,6 +117,7 @@ static void note_refusal(struct site *site, int unit, uint8_t status)
     if (status != BRAIDLARK_FULL) {
         return;
     }
+    check_full(site);
     site->tally.refused_joins++;
     if (!asker->was_refused) {
         say(site, "%s asks to join and is refused, with number 12: all %d rows of the book are taken", asker->name,

@@ -40,9 +40,7 @@ void power_fails(struct site *site)
     memset(manager->book, 0, sizeof manager->book);
     memset(manager->last_word, 0, sizeof manager->last_word);
     routes_watch(site);
-    say(site,
-        "THE POWER FAILS IN THE OFFICE: its book of %d members and its routes are lost; bench 8, on its line, is dark "
-        "too",
+    say(site, "THE POWER FAILS IN THE OFFICE: its book of %d members and its routes are lost; bench 8 is dark too",
         cut->members);
     say(site, "the last image of the book is in its flash: %u bytes, written %u times since the evening",
         (unsigned)site->flash.length, (unsigned)site->flash.writes);

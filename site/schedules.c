@@ -115,6 +115,19 @@ void check_schedules(struct site *site)
     }
 }
 
+/* A unit was refused for want of a row: every row is then a live member's. */
+void check_full(struct site *site)
+{
+    int live = 0;
+    for (int unit = 0; unit < UNITS; unit++) {
+        uint8_t kinds[BRAIDLARK_MOST_SLOTS];
+        live += schedule_of(site, unit, hop_of(site, unit), kinds);
+    }
+    if (live != MEMBER_ROWS) {
+        fail(site, "a unit was refused for want of a row, and only %d of %d are live", live, MEMBER_ROWS);
+    }
+}
+
 /* Whether the slots that a unit was told are its own by the last schedules. */
 static bool holds_what_it_was_told(const struct site *site, int unit)
 {

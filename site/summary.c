@@ -32,15 +32,17 @@ static struct outcome count_orders(const struct site *site)
 static void print_orders(const struct site *site)
 {
     struct outcome outcome = count_orders(site);
+    char slots[80];
     int given = site->manager.order_count;
     printf(
-        "  orders     %d given: %d arrived, %d were replaced by a later one for the same bench, %d are on their way\n",
+        "  orders     %d given; arrived: %d, replaced by a later one for the same bench: %d, still on their way: %d\n",
         given, outcome.arrived, outcome.replaced, given - outcome.arrived - outcome.replaced);
-    printf("  the relay  %d tries were lost at it, none more than 300 s after it fell silent (the last frame after %u "
-           "s)\n",
-           outcome.lost_tries, (unsigned)(site->tally.latest_loss_ms / 1000));
-    printf("             %d orders were late for that, by at most %u s; its row and slots went to bench 9\n",
-           outcome.late, (unsigned)(outcome.latest_ms / 1000));
+    printf("  the relay  %d tries were lost at it, and orders late for that: %d, the latest by %u s\n",
+           outcome.lost_tries, outcome.late, (unsigned)(outcome.latest_ms / 1000));
+    printf("             no frame went to a unit gone for more than 300 s; the last to one that was gone, after %u s\n",
+           (unsigned)(site->tally.latest_loss_ms / 1000));
+    number_words(site->held[BENCH_9] & site->middle_held, slots);
+    printf("             its row and its data slots %s went to bench 9, which was refused before\n", slots);
 }
 
 static void print_power(const struct site *site)

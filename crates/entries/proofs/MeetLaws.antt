@@ -15,8 +15,8 @@ use Rattle.shapes.specs.Reading.{refusalAs}
 use Rattle.traffic.specs.declared.entry.Entry.{Entry}
 use Rattle.traffic.specs.Traffic.{update, entryAt, entryFrom, entryValues}
 use Rattle.entries.specs.declared.walking.Walked.{Walked}
-use Rattle.entries.specs.Walks.{countIn, toldWalked}
-use Rattle.entries.specs.Laws.{met, MeetsEveryEntry, Numbered, WalkedOneToOne}
+use Rattle.entries.specs.Walks.{countIn, toldWalked, Numbered}
+use Rattle.entries.specs.Laws.{met, MeetsEveryEntry, WalkedOneToOne}
 use Rattle.entries.proofs.WalkLaws.{step-end, step-one}
 
 module _ (s : List ℕ) (z : refusalAs update s ≡ 0) where

@@ -10,7 +10,7 @@ use Rattle.shapes.specs.Shape.{partIn}
 use Rattle.shapes.specs.Reading.{refusalAs}
 use Rattle.traffic.specs.Traffic.{update, entriesOf, entryValues}
 use Rattle.entries.specs.declared.walking.Walked.{Walked}
-use Rattle.entries.specs.Walks.{countIn, walkOf, toldWalked}
+use Rattle.entries.specs.Walks.{countIn, walkOf, toldWalked, Numbered}
 
 -- the values of the entries that a walk meets from a position on, in at most so many steps: each step goes on at the next position that the one
 -- before it gave, and one that gives no values is the last
@@ -26,12 +26,6 @@ MeetsEveryEntry =
     (s : List ℕ) → refusalAs update s ≡ 0
     → met (suc (countIn s)) s 0 ≡ map entryValues (entriesOf (countIn s) (partIn update s))
 
--- 0 refuses nothing: an answer that is no refusal, or one with a number of document 01's
-abbrev pub Numbered : Walked → Type 0
-Numbered (Walked.One s) = Unit
-Numbered Walked.End = Unit
-Numbered (Walked.Refused r) = r .number ≡ 0 → ⊥
-
--- what such answers say tells them apart
+-- what answers say tells them apart, if 0 refuses nothing
 abbrev pub WalkedOneToOne : Type 0
 WalkedOneToOne = (a b : Walked) → Numbered a → Numbered b → toldWalked a ≡ toldWalked b → a ≡ b

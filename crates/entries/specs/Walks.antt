@@ -1,5 +1,6 @@
 -- The walk over the entries of a routing update: what a step from a position answers.
 -- Assumes nothing.
+use mathlib.Core.Path.{_≡_}
 use Prim.Native.Nat.{ℕ, _+_}
 use mathlib.Core.Bool.{cond}
 use mathlib.Core.List.{List, [], _∷_, _++_}
@@ -26,3 +27,9 @@ abbrev pub toldWalked : Walked → Said
 toldWalked (Walked.One s) = accepted (entryValues (s .entry) ++ (s .next ∷ []))
 toldWalked Walked.End = accepted []
 toldWalked (Walked.Refused r) = refused (r .number)
+
+-- 0 refuses nothing: a refusal has a number of document 01's
+abbrev pub Numbered : Walked → Type 0
+Numbered (Walked.One s) = Unit
+Numbered Walked.End = Unit
+Numbered (Walked.Refused r) = r .number ≡ 0 → ⊥

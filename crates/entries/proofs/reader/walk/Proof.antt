@@ -40,7 +40,7 @@ use denote.Triple.Table.{entered, cited}
 use denote.Triple.Walked.{says, Stays, stay-none, stay-none-slice, walkOf, goes-none, goes-none-slice, Walks, ends-at, walked, walk-meets}
 use denote.Exit.{yes}
 use denote.Triple.Clauses.{ensured, lasts}
-use Rattle.entries.specs.Walks.{walkOf as stepOf, toldWalked}
+use Rattle.entries.specs.Walks.{walkOf as stepOf, toldWalked, Numbered}
 use Rattle.entries.specs.declared.reader.Entries.{Entries}
 use Rattle.entries.specs.declared.walking.Walked.{Walked}
 use Rattle.entries.proofs.reader.Entries as T
@@ -95,8 +95,8 @@ Made s r = (r .frame ≡ s) × (r .position ≡ 0)
 abbrev At : Entries → ℕ → Entries → Type 0
 At r n t = (t .frame ≡ r .frame) × (t .position ≡ n)
 
-abbrev Told : Entries → Walked → Type 0
-Told r w = toldWalked w ≡ stepOf (now (r .frame)) (r .position)
+abbrev Told : RefT (List ℕ) → ℕ → Walked → Type 0
+Told s n w = (toldWalked w ≡ stepOf (now s) n) × Numbered w
 
 module _ {M : Type 1} (𝓤 : URA M) (H : Heap 𝓤) (A : Atoms 𝓤) (W : Given 𝓤 H A) (mem : Memory → SProp 𝓤) (run : Routine → Fun 𝓤) (κ : Lft) (q : Share) (s : RefT (List ℕ)) (n : ℕ) (ok : n < 2 ^ 64) where
   -- the machine value that s has
@@ -154,18 +154,19 @@ module _ {M : Type 1} (𝓤 : URA M) (H : Heap 𝓤) (A : Atoms 𝓤) (W : Given
   goes-next : (r : Entries) (u : Val) → ent 𝓤 (⋆ 𝓤 H A (‵ (B (κ, tt) .own r (u ∷ [])) ∷ (‵ (flft κ q) ⊛ ‵ ftrue) ∷ [])) (Next 𝓤 H A mem run .pre (to-next r u))
   goes-next r u = qed W (‵ (B (κ, tt) .own r (u ∷ [])) ∷ (‵ (flft κ q) ⊛ ‵ ftrue) ∷ []) ∵ nothing ! $ move ! (1 ∷ 0 ∷ []) $ fjoin ! $ move ! (1 ∷ 0 ∷ []) $ join ! $ frame ! $ done !
 
-  next-said : (r : Entries) (w : Walked) → ent 𝓤 (ensured 𝓤 H A next.ended (next.clauses 𝓤 H A mem run) (κ, tt) (r, tt) tt w) (fact 𝓤 (Told r w))
-  next-said r w = exE 𝓤 _ (λ ws. snd∗ 𝓤 (sem 𝓤 H A (lasts next.ended (κ, tt) (r, tt) ws)) (fact 𝓤 (Told r w)))
+  next-said : (r : Entries) (w : Walked) → ent 𝓤 (ensured 𝓤 H A next.ended (next.clauses 𝓤 H A mem run) (κ, tt) (r, tt) tt w) (fact 𝓤 (Told (r .frame) (r .position) w))
+  next-said r w = exE 𝓤 _ (λ ws. snd∗ 𝓤 (sem 𝓤 H A (lasts next.ended (κ, tt) (r, tt) ws)) (fact 𝓤 (Told (r .frame) (r .position) w)))
 
-  exits : (w : Walked) (u : Val) → toldWalked w ≡ stepOf (now s) n → ent 𝓤 (⋆ 𝓤 H A (‵ (S.the-row .own w (u ∷ [])) ∷ (‵ (flft κ q) ⊛ ‵ ftrue) ∷ ‵ Both ∷ [])) (Post u)
+  exits : (w : Walked) (u : Val) → Told s n w → ent 𝓤 (⋆ 𝓤 H A (‵ (S.the-row .own w (u ∷ [])) ∷ (‵ (flft κ q) ⊛ ‵ ftrue) ∷ ‵ Both ∷ [])) (Post u)
   exits w u e =
       qed W (‵ (S.the-row .own w (u ∷ [])) ∷ (‵ (flft κ q) ⊛ ‵ ftrue) ∷ ‵ Both ∷ []) ∵
       suffices ! _ (ends-at 𝓤 H A walk.ended stayed (walk.clauses 𝓤 H A mem run) W (((κ, tt), (q, tt), tt, (s, (n, tt)), at), tt) u w (tt, (tt, tt)) (tt, (tt, tt))) $ says ! e $
       move ! (1 ∷ []) $ frame ! $ move ! (1 ∷ []) $ frame ! $ done !
 
   -- what the three calls say together
-  together : (r t : Entries) (w : Walked) → Made s r → At r n t → Told t w → toldWalked w ≡ stepOf (now s) n
-  together r t w made at told = told ∙ (ap (λ (x : RefT (List ℕ)). stepOf (now x) (t .position)) (at .0 ∙ made .0) ∙ ap (stepOf (now s)) (at .1))
+  together : (r t : Entries) (w : Walked) → Made s r → At r n t → Told (t .frame) (t .position) w → Told s n w
+  together r t w made at told =
+      (told .0 ∙ (ap (λ (x : RefT (List ℕ)). stepOf (now x) (t .position)) (at .0 ∙ made .0) ∙ ap (stepOf (now s)) (at .1)), told .1)
 
   module _ (C : Calls 𝓤 H) (Λ : Loops 𝓤 H) (fm : FmC 𝓤 H (W .laws) C) (known : Known 𝓤 H A mem run C) where
     goes : Is (ShrSlice (named 0) κ u8) s (v ∷ []) → ent 𝓤 (onEntry 𝓤 H A walk.signature (κ, tt) (q, tt) (s, (n, tt)) at) (WpFn 𝓤 H C Λ code.function (v ∷ vint w64 n ∷ []) Post)
@@ -189,7 +190,7 @@ module _ {M : Type 1} (𝓤 : URA M) (H : Heap 𝓤) (A : Atoms 𝓤) (W : Given
         use2 W (raw (Next 𝓤 H A mem run .pre (to-next t u′))) (goes-next t u′) $
         calls-at ! fm (Next 𝓤 H A mem run) (known .next) (to-next t u′) (and-then ! (load ! (from ! (stop !)) (look ! 4 refl)) (no-more !)) (λ u″.
         use1 W (later (some (λ (w : Walked). ((‵ (flft κ q) ⊛ ‵ ftrue) ⊛ ‵ (S.the-row .own w (u″ ∷ []))) ⊛ raw (ensured 𝓤 H A next.ended (next.clauses 𝓤 H A mem run) (κ, tt) (t, tt) tt w)))) (id⊢ 𝓤 _) $ await ! tt $ pick ! (λ w.
-        split ! $ move ! (1 ∷ []) $ use1 W (raw (fact 𝓤 (Told t w))) (next-said t w) $ heard ! (Told t w) (λ told. split ! $ move ! (1 ∷ []) $
+        split ! $ move ! (1 ∷ []) $ use1 W (raw (fact 𝓤 (Told (t .frame) (t .position) w))) (next-said t w) $ heard ! (Told (t .frame) (t .position) w) (λ told. split ! $ move ! (1 ∷ []) $
         -- [the result; the token; what both own; _4; …; _3; …; _2; …; _1; …; room for _0; …]
         peeks ! S.the-row (Is S.the-row) (shows 𝓤 H A S.the-row) w (u″ ∷ []) (λ is″.
         land ! (from ! (stop !)) (init ! 11 refl (EL.lawful S.the-type S′.the-laws 𝓤 H A W tt .typed w _ is″ .0)) $

@@ -1,4 +1,5 @@
 pub mod ClockCallLaws
+pub mod EntryCallLaws
 pub mod FrameCallLaws
 pub mod RelayCallLaws
 pub mod StateCallLaws

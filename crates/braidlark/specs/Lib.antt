@@ -1,4 +1,5 @@
 pub mod ClockCalls
+pub mod EntryCalls
 pub mod FrameCalls
 pub mod RelayCalls
 pub mod StateCalls

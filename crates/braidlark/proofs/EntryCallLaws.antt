@@ -1,0 +1,33 @@
+-- The call on the entries of an update, from what the walk answers.
+-- Assumes nothing.
+use mathlib.Core.Path.{_≡_}
+use mathlib.Core.List.{List}
+use Prim.Native.Nat.{ℕ, _≤_, _<_}
+use native.Mathlib.Omega.{arith}
+use borrow.Author.Tests.{ne-eqb, lt-ltb, le-ltb}
+use lib.ListN.{length}
+use lib.Seq.{sets}
+use Rattle.traffic.specs.Traffic.{entryValues}
+use Rattle.frames.specs.declared.answers.Refusal.{Refusal}
+use Rattle.entries.specs.declared.walking.Step.{Step}
+use Rattle.entries.specs.declared.walking.Walked.{Walked}
+use Rattle.entries.specs.Walks.{walkOf, toldWalked, Numbered}
+use Rattle.braidlark.specs.EntryCalls.{entryLeft, entryCall}
+
+module _ (s : List ℕ) (position : ℕ) (entry : List ℕ) (next : ℕ) (walked : Walked) (e : toldWalked walked ≡ walkOf s position) where
+  pub entry-short : (step : Step) → walked ≡ Walked.One step → length entry < 5 → entryLeft 5 entry next ≡ entryCall s position entry next
+  unfolding entryCall
+  entry-short step q h = rw (← e, q, lt-ltb (length entry) 5 h)
+
+  pub entry-met : (step : Step) → walked ≡ Walked.One step → 5 ≤ length entry → (last : List ℕ) → last ≡ sets entry 0 (entryValues (step .entry))
+      → entryLeft 0 last (step .next) ≡ entryCall s position entry next
+  unfolding entryCall
+  entry-met step q h last p = rw (← e, q, le-ltb (length entry) 5 h, p)
+
+  pub entry-end : walked ≡ Walked.End → entryLeft 0 entry 0 ≡ entryCall s position entry next
+  unfolding entryCall
+  entry-end q = rw (← e, q, le-ltb (length entry) 0 (omega arith))
+
+  pub entry-refused : Numbered walked → (r : Refusal) → walked ≡ Walked.Refused r → entryLeft (r .number) entry next ≡ entryCall s position entry next
+  unfolding entryCall
+  entry-refused n r q = let z : r .number ≡ 0 → ⊥ = rw q at n in rw (← e, q, ne-eqb (r .number) 0 z, ne-eqb (r .number) 0 z)

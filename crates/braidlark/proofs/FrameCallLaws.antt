@@ -11,6 +11,7 @@ use borrow.Author.Tests.{ltb-false, eqb-true}
 use lib.Dec.{eqb, ltb}
 use lib.ListN.{length, getD}
 use Rattle.octets.specs.Answers.{Said, accepted, refused}
+use Rattle.octets.specs.Calls.{writeLeft}
 use Rattle.octets.proofs.AnswerLaws.{unless-none, unless-some}
 use Rattle.octets.proofs.CallLaws.{after-refused}
 use Rattle.frames.specs.declared.answers.Written.{Written}
@@ -20,7 +21,7 @@ use Rattle.frames.specs.Frames.{readFrame}
 use Rattle.frames.specs.Told.{wrote}
 use Rattle.shapes.specs.Writing.{Wrote, writeRefusal, writing}
 use Rattle.frames.proofs.KindLaws.{asked, known-or-not}
-use Rattle.braidlark.specs.FrameCalls.{readLeft, placeIn, readCall, writeLeft, writeCall}
+use Rattle.braidlark.specs.FrameCalls.{readLeft, placeIn, readCall, writeCall}
 
 -- ---- reading
 module _ (s fields : List ℕ) (place extent : ℕ) (n : ℕ) (last : List ℕ) (e : n ≡ showRefusal s (length fields)) (h : last ≡ shown s fields) where

@@ -3,7 +3,7 @@
 use Prim.Native.Nat.{ℕ, _-_}
 use mathlib.Core.List.{List}
 use lib.ListN.{length, getD}
-use Rattle.octets.specs.Calls.{after}
+use Rattle.octets.specs.Calls.{after, WriteLeft, writeLeft}
 use Rattle.octets.specs.Layouts.{total}
 use Rattle.octets.specs.Numbers.{num}
 use Rattle.frames.specs.Layout.{widthsOf}
@@ -27,15 +27,6 @@ unfoldable pub readCall : List ℕ → List ℕ → ℕ → ℕ → ReadLeft
 readCall s fields place extent =
     let status = showRefusal s (length fields) in
     readLeft status (shown s fields) (after status place (placeIn s)) (after status extent (length s - 1 - placeIn s))
-
--- writing: the status, the buffer, and the number of bytes written
-pub record WriteLeft : Type 0 where
-  pub status : ℕ
-  pub out : List ℕ
-  pub written : ℕ
-
-abbrev pub writeLeft : ℕ → List ℕ → ℕ → WriteLeft
-writeLeft status out written = record { status = status; out = out; written = written }
 
 unfoldable pub writeCall : List ℕ → List ℕ → List ℕ → ℕ → WriteLeft
 writeCall ns part out written =

@@ -1,6 +1,7 @@
 // Frames: one call reads any kind, one writes any, its fields as a list of numbers with the type first.
 ghost use mathlib.Core.Path.{_≡_};
-ghost use Rattle.braidlark.specs.FrameCalls.{readCall, readLeft, writeCall, writeLeft};
+ghost use Rattle.octets.specs.Calls.{writeLeft};
+ghost use Rattle.braidlark.specs.FrameCalls.{readCall, readLeft, writeCall};
 use frames::answers::Written;
 use frames::layouts::layout_of;
 use octets::numbers::number8;

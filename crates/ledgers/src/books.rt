@@ -3,11 +3,12 @@ ghost use mathlib.Core.Path.{_≡_};
 ghost use lib.ListN.{length};
 ghost use lib.Seq.{sets};
 ghost use Prim.Native.Nat.{_+_, _*_};
+ghost use Rattle.octets.specs.Calls.{after};
 ghost use Rattle.octets.specs.Layouts.{bytes};
 ghost use Rattle.octets.specs.Lists.{tab};
 ghost use Rattle.members.specs.Members.{rowOf, rowsOf};
 ghost use Rattle.book.specs.Books.{stated};
-ghost use Rattle.ledgers.specs.BookBytes.{rowWidths, rowValues, rowAt, rowsBytes, bookIn, bookBytes};
+ghost use Rattle.ledgers.specs.BookBytes.{rowWidths, rowValues, rowAt, rowsBytes, bookSize, bookIn, bookBytes};
 use crate::plans::plan_of;
 use crate::plans::put_plan;
 use book::book::Book;
@@ -18,6 +19,8 @@ use octets::fixed::put64;
 use octets::numbers::number16;
 use octets::numbers::number32;
 use octets::numbers::number64;
+
+pub const BOOK_SIZE: usize = 307;
 
 // The row at a place, counted from 0.
 fn member_at(s: &[u8], place: u8) -> Member
@@ -87,4 +90,15 @@ pub fn put_book(out: &mut [u8], book: Book)
     put_plan(out, 0, book.plan);
     put32(out, 9, book.time);
     put_members(out, rows);
+}
+
+// The end of every call that changes a stored book: the new one is written where nothing refuses it.
+pub fn write_back(book: &mut [u8], refused: u8, next: Book) -> u8
+    ensures { λ r. ⌜ (r ≡ refused) × (now (book .exit) ≡ after refused (now (book .entry)) (sets (now (book .entry)) 0 (bookBytes (stated next)))) × (refused ≡ 0 → length (bookBytes (stated next)) ≡ bookSize) ⌝ }
+{
+    if refused != 0 {
+        return refused;
+    }
+    put_book(book, next);
+    0
 }

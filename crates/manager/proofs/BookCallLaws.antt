@@ -3,16 +3,16 @@
 use mathlib.Core.Path.{_≡_, refl, sym, ap, ap₂, _∙_}
 use mathlib.Core.Bool.{Bool, true, false, not, cond}
 use mathlib.Core.List.{List, [], _∷_}
-use Prim.Native.Nat.{ℕ, _+_, _*_, _≤_}
+use Prim.Native.Nat.{ℕ, _≤_}
 use native.Mathlib.Omega.{arith}
 use borrow.Author.Tests.{eq-eqb, ne-eqb, eqb-true, not-false}
 use lib.Dec.{eqb}
-use lib.ListN.{length, length-map}
+use lib.ListN.{length}
 use lib.Seq.{sets}
 use Rattle.octets.specs.Answers.{reason, first}
-use Rattle.octets.specs.Calls.{after, stored}
+use Rattle.octets.specs.Calls.{stored, writeLeft}
 use Rattle.octets.proofs.AnswerLaws.{numbered, none-holds, unless-number}
-use Rattle.octets.proofs.CallLaws.{written-back, WrittenBack as BytesBack, changed as bytes-changed}
+use Rattle.octets.proofs.CallLaws.{WrittenBack, written-back}
 use Rattle.octets.proofs.StoreLaws.{sets-whole}
 use Rattle.shapes.specs.Writing.{Wrote}
 use Rattle.shapes.proofs.AnsweredLaws.{Valued, Answered, valued, valued-unless, refused-by-some, said-value, answered, told-other, told-done, told-undone}
@@ -22,10 +22,8 @@ use Rattle.frames.specs.Told.{wrote}
 use Rattle.site.specs.declared.plan.Plan.{Plan}
 use Rattle.site.specs.declared.plan.Made.{Made}
 use Rattle.site.specs.Plans.{planRule, slots, toldPlan, planOf}
-use Rattle.members.specs.Members.{rowOf, rowsOf}
-use Rattle.book.specs.declared.book.Book.{Book}
 use Rattle.book.specs.declared.book.Changed.{Changed}
-use Rattle.book.specs.Books.{Stated, stated, withinRule, Left, leftBy, liveAt, freshOf}
+use Rattle.book.specs.Books.{Stated, stated, withinRule, Left, leftBy, liveAt}
 use Rattle.book.specs.Schedules.{scheduleRefusal, scheduleOf}
 use Rattle.site.proofs.PlanLaws.{rule-bounds}
 use Rattle.book.proofs.ScheduleLaws.{few-slots}
@@ -33,9 +31,9 @@ use Rattle.book.proofs.WithinLaws.{within}
 use Rattle.image.specs.Forms.{formSize}
 use Rattle.image.specs.Images.{sections, imageReasons, imageWritten}
 use Rattle.ledgers.specs.PlanBytes.{planSize, planBytes}
-use Rattle.ledgers.specs.BookBytes.{bookSize, bookIn, bookBytes}
-use Rattle.ledgers.proofs.BookByteLaws.{length-plan, length-book}
-use Rattle.manager.specs.BookCalls.{bookLeft, planCall, changedTo, writeLeft, wroteTo}
+use Rattle.ledgers.specs.BookBytes.{bookSize, bookBytes}
+use Rattle.ledgers.proofs.BookByteLaws.{length-plan}
+use Rattle.manager.specs.BookCalls.{bookLeft, planCall, leaves, wroteTo}
 
 -- ---- a plan
 module _ (s : List ℕ) (network manager hops rows dataSlots ms : ℕ) where
@@ -62,45 +60,21 @@ module _ (s : List ℕ) (network manager hops rows dataSlots ms : ℕ) where
         rw (eq-eqb (length s) planSize l, ← e, q, ne-eqb (r .number) 0 z)
 
 -- ---- calls that change a book
--- what `write_back` ensures
-abbrev pub WrittenBack : List ℕ → List ℕ → ℕ → ℕ → Book → Type 0
-WrittenBack s last status number new =
-    (status ≡ number) × (last ≡ after number s (sets s 0 (bookBytes (stated new)))) × (number ≡ 0 → length (new .rows) ≡ 21)
+-- the facts are, in order, what `write_back` and `refuse_if` ensure
+pub kept : (s last : List ℕ) (status number : ℕ) (a : Changed) → WrittenBack bookSize s last status number (bookBytes (stated (a .book)))
+    → number ≡ cond (not (eqb (length s) bookSize)) 14 (a .refused) → bookLeft status last ≡ leaves s (leftBy a)
+kept s last status number a w n =
+    let (x, y) = written-back bookSize s last status number (bookBytes (stated (a .book))) w (eqb (length s) bookSize) (a .refused) (eqb-true (length s) bookSize) n in
+    ap₂ bookLeft x y
 
-pub as-bytes : (s last : List ℕ) (status number : ℕ) (new : Book) → WrittenBack s last status number new
-    → BytesBack bookSize s last status number (bookBytes (stated new))
-unfolding rowsOf
-as-bytes s last status number new w = (w .0, w .1, λ z. length-book (stated new) (length-map (new .rows) rowOf ∙ w .2 z))
-
-module _ (s last : List ℕ) (number status : ℕ) (a : Changed) (w : WrittenBack s last status number (a .book)) where
-  -- the facts are, in order, what `write_back`, `book_of`, the call and `refuse_if` ensure
-  pub changed : (call : Stated → Left) (b : Book) → stated b ≡ bookIn s → leftBy a ≡ call (stated b) → number ≡ cond (not (eqb (length s) bookSize)) 14 (a .refused)
-      → bookLeft status last ≡ changedTo s (stored bookSize s (call (bookIn s) .refused)) (call (bookIn s))
-  changed call b r e n =
-      let (x, y) =
-      bytes-changed (λ (c : Left). c .refused) (λ (c : Left). bookBytes (c .book)) call bookSize s last (eqb (length s) bookSize) (bookIn s) (eqb-true (length s) bookSize) _ (stated b) (leftBy a) number status refl r e n
-      (as-bytes s last status number (a .book) w) in
-      ap₂ bookLeft x y
-
-  -- of a stored plan, with the number that its length gives
-  pub opened : (plan : List ℕ) (p : Plan) (time said : ℕ) → leftBy a ≡ freshOf p time → said ≡ cond (not (eqb (length plan) planSize)) 14 (a .refused)
-      → number ≡ cond (not (eqb (length s) bookSize)) 14 said
-      → bookLeft status last ≡ changedTo s (stored bookSize s (stored planSize plan (freshOf p time .refused))) (freshOf p time)
-  opened plan p time said e m n =
-      let (x, y) = written-back bookSize s last status number _ (as-bytes s last status number (a .book) w) (eqb (length s) bookSize) said (eqb-true (length s) bookSize) n in
-      let f : said ≡ stored planSize plan (a .refused) = m ∙ turned (eqb (length plan) planSize) in
-      rw (← e, ← f) (ap₂ bookLeft x y)
-    where
-      turned : (b : Bool) → cond (not b) 14 (a .refused) ≡ cond b (a .refused) 14
-      turned true = refl
-      turned false = refl
-
-  -- of an image, which needs no book before it
-  pub restored : (new : Left) → leftBy a ≡ new → number ≡ cond (not (eqb (length s) bookSize)) 14 (a .refused)
-      → bookLeft status last ≡ changedTo s (stored bookSize s (new .refused)) new
-  restored new e n =
-      let (x, y) = written-back bookSize s last status number _ (as-bytes s last status number (a .book) w) (eqb (length s) bookSize) (a .refused) (eqb-true (length s) bookSize) n in
-      rw (← e) (ap₂ bookLeft x y)
+-- a fresh book under the number that its plan's length gives
+pub opened : (plan : List ℕ) (a new : Left) (said : ℕ) → a ≡ new → said ≡ cond (not (eqb (length plan) planSize)) 14 (a .refused)
+    → _≡_ {A = Left} (record { refused = said; book = a .book }) (record { refused = stored planSize plan (new .refused); book = new .book })
+opened plan a new said e m = rw (m, e, turned (eqb (length plan) planSize))
+  where
+    turned : (b : Bool) → cond (not b) 14 (new .refused) ≡ cond b (new .refused) 14
+    turned true = refl
+    turned false = refl
 
 -- ---- calls that fill a buffer
 pub schedule-answered : (b : Stated) (unit hop time : ℕ) (out : List ℕ) → Answered out (scheduleOf b unit hop time out)
@@ -130,13 +104,13 @@ image-size b time out size held e =
 
 module _ (s out : List ℕ) (written : ℕ) (answer : Wrote) where
   pub no-book : (length s ≡ bookSize → ⊥) → writeLeft 14 out written ≡ wroteTo s out written answer
-  no-book e = told-other writeLeft out written answer (eqb (length s) bookSize) (ne-eqb (length s) bookSize e)
+  no-book e = told-other out written answer (eqb (length s) bookSize) (ne-eqb (length s) bookSize e)
 
   module _ (l : length s ≡ bookSize) (w : Written) (held : List ℕ) (e : wrote w held ≡ answer) where
     pub filled : (size : ℕ) → w ≡ Written.Done size → writeLeft 0 held size ≡ wroteTo s out written answer
     filled size q =
-        told-done writeLeft out written answer (eqb (length s) bookSize) (eq-eqb (length s) bookSize l) size held (ap (λ (x : Written). wrote x held) (sym q) ∙ e)
+        told-done out written answer (eqb (length s) bookSize) (eq-eqb (length s) bookSize l) size held (ap (λ (x : Written). wrote x held) (sym q) ∙ e)
 
     pub unfilled : Answered out answer → (r : Refusal) → w ≡ Written.Refused r → writeLeft (r .number) held written ≡ wroteTo s out written answer
     unfilled h r q =
-        told-undone writeLeft out written answer (eqb (length s) bookSize) (eq-eqb (length s) bookSize l) (r .number) held h (ap (λ (x : Written). wrote x held) (sym q) ∙ e)
+        told-undone out written answer (eqb (length s) bookSize) (eq-eqb (length s) bookSize l) (r .number) held h (ap (λ (x : Written). wrote x held) (sym q) ∙ e)

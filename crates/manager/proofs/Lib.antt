@@ -1,2 +1,1 @@
 pub mod BookCallLaws
-pub mod RequestCallLaws

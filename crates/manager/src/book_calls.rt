@@ -1,15 +1,14 @@
 // A plan of 9 bytes and a member book of 307, kept by the caller: made, a member heard or gone, and its schedule.
 ghost use mathlib.Core.Path.{_≡_};
-ghost use lib.ListN.{length};
-ghost use lib.Seq.{sets};
-ghost use Rattle.octets.specs.Calls.{after};
-ghost use Rattle.book.specs.Books.{stated};
-ghost use Rattle.ledgers.specs.BookBytes.{bookBytes};
-ghost use Rattle.manager.specs.BookCalls.{bookLeft, planCall, freshCall, heardCall, leaveCall, writeLeft, scheduleCall};
+ghost use Rattle.octets.specs.Calls.{writeLeft};
+ghost use Rattle.book.specs.Books.{leftBy};
+ghost use Rattle.manager.specs.BookCalls.{bookLeft, leaves, planCall, freshCall, heardCall, leaveCall, scheduleCall};
 use book::book::Book;
+use book::book::Changed;
 use frames::answers::Written;
+use ledgers::books::BOOK_SIZE;
 use ledgers::books::book_of;
-use ledgers::books::put_book;
+use ledgers::books::write_back;
 use ledgers::plans::plan_of;
 use ledgers::plans::put_plan;
 use octets::answers::refuse_if;
@@ -18,17 +17,13 @@ use site::plan::Plan;
 
 const PLAN_SIZE: usize = 9;
 
-pub(crate) const BOOK_SIZE: usize = 307;
-
-// The end of every call that changes a book: the new one is written where nothing refuses it.
-pub(crate) fn write_back(book: &mut [u8], refused: u8, next: Book) -> u8
-    ensures { λ r. ⌜ (r ≡ refused) × (now (book .exit) ≡ after refused (now (book .entry)) (sets (now (book .entry)) 0 (bookBytes (stated next)))) × (refused ≡ 0 → length (next .rows) ≡ 21) ⌝ }
+// The end of every call that changes a book: the new one goes to the buffer, unless that is no book's or the call was refused.
+pub(crate) fn keep(book: &mut [u8], changed: Changed) -> u8
+    ensures { λ r. ⌜ bookLeft r (now (book .exit)) ≡ leaves (now (book .entry)) (leftBy changed) ⌝ }
 {
-    if refused != 0 {
-        return refused;
-    }
-    put_book(book, next);
-    0
+    let next = changed.book;
+    let refused = refuse_if(book.len() != BOOK_SIZE, 14, changed.refused);
+    write_back(book, refused, next)
 }
 
 // Makes a site's plan of its six numbers.
@@ -63,9 +58,11 @@ pub extern "C" fn braidlark_book_fresh(book: &mut [u8], plan: &[u8], time: u32) 
 {
     let fresh = Book::fresh(plan_of(plan, 0), time);
     let next = fresh.book;
-    let refused = refuse_if(plan.len() != PLAN_SIZE, 14, fresh.refused);
-    let refused = refuse_if(book.len() != BOOK_SIZE, 14, refused);
-    write_back(book, refused, next)
+    let opened = Changed {
+        refused: refuse_if(plan.len() != PLAN_SIZE, 14, fresh.refused),
+        book: next,
+    };
+    keep(book, opened)
 }
 
 // Renews a live member's time.
@@ -74,9 +71,7 @@ pub extern "C" fn braidlark_heard(book: &mut [u8], unit: u16, time: u32) -> u8
     ensures { λ r. ⌜ bookLeft r (now (book .exit)) ≡ heardCall (now (book .entry)) unit time ⌝ }
 {
     let changed = book_of(&book[..]).heard(unit, time);
-    let next = changed.book;
-    let refused = refuse_if(book.len() != BOOK_SIZE, 14, changed.refused);
-    write_back(book, refused, next)
+    keep(book, changed)
 }
 
 // Frees a live member's row and slots.
@@ -85,9 +80,7 @@ pub extern "C" fn braidlark_leave(book: &mut [u8], unit: u16, time: u32) -> u8
     ensures { λ r. ⌜ bookLeft r (now (book .exit)) ≡ leaveCall (now (book .entry)) unit time ⌝ }
 {
     let changed = book_of(&book[..]).leave(unit, time);
-    let next = changed.book;
-    let refused = refuse_if(book.len() != BOOK_SIZE, 14, changed.refused);
-    write_back(book, refused, next)
+    keep(book, changed)
 }
 
 // Writes a live member's schedule at a hop, one byte a slot, and says how many slots there are.

@@ -1,13 +1,13 @@
 // The stored image of a book of 307 bytes: written at a time, and restored at one.
 ghost use mathlib.Core.Path.{_≡_};
-ghost use Rattle.manager.specs.BookCalls.{bookLeft, writeLeft, imageCall, restoreCall};
-use crate::book_calls::BOOK_SIZE;
-use crate::book_calls::write_back;
+ghost use Rattle.octets.specs.Calls.{writeLeft};
+ghost use Rattle.manager.specs.BookCalls.{bookLeft, imageCall, restoreCall};
+use crate::book_calls::keep;
 use frames::answers::Written;
 use image::restoring::restore;
 use image::writing::write_image;
+use ledgers::books::BOOK_SIZE;
 use ledgers::books::book_of;
-use octets::answers::refuse_if;
 
 // Writes the image of a book, its live members alone, and says how many bytes it has.
 #[no_mangle]
@@ -32,7 +32,5 @@ pub extern "C" fn braidlark_restore(book: &mut [u8], image: &[u8], time: u32) ->
     ensures { λ r. ⌜ bookLeft r (now (book .exit)) ≡ restoreCall (now (book .entry)) (now (image .entry)) time ⌝ }
 {
     let restored = restore(image, time);
-    let next = restored.book;
-    let refused = refuse_if(book.len() != BOOK_SIZE, 14, restored.refused);
-    write_back(book, refused, next)
+    keep(book, restored)
 }

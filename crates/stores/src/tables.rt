@@ -3,6 +3,7 @@ ghost use mathlib.Core.Path.{_≡_};
 ghost use lib.ListN.{length};
 ghost use lib.Seq.{sets};
 ghost use Prim.Native.Nat.{_+_, _*_};
+ghost use Rattle.octets.specs.Calls.{after};
 ghost use Rattle.octets.specs.Layouts.{bytes};
 ghost use Rattle.octets.specs.Lists.{tab};
 ghost use Rattle.stores.specs.TableBytes.{flag, rowWidths, rowValues, headWidths, headValues, rowAt, rowsBytes, tableIn, tableBytes, flagsOk, isTable};
@@ -130,4 +131,15 @@ pub fn put_table(out: &mut [u8], table: Table)
     let rows = table.rows;
     put_head(out, table);
     put_rows(out, rows);
+}
+
+// The end of every call that changes a stored table: the new one is written where nothing refuses it.
+pub fn write_back(table: &mut [u8], refused: u8, next: Table) -> u8
+    ensures { λ r. ⌜ (r ≡ refused) × (now (table .exit) ≡ after refused (now (table .entry)) (sets (now (table .entry)) 0 (tableBytes next))) × (refused ≡ 0 → length (tableBytes next) ≡ 539) ⌝ }
+{
+    if refused != 0 {
+        return refused;
+    }
+    put_table(table, next);
+    0
 }

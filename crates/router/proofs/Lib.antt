@@ -1,0 +1,3 @@
+pub mod RelayCallLaws
+pub mod TableCallLaws
+pub mod UpdateCallLaws

@@ -1,0 +1,3 @@
+pub mod RelayCalls
+pub mod TableCalls
+pub mod UpdateCalls

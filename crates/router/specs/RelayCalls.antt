@@ -1,0 +1,52 @@
+-- What the calls on frames that go on return and leave.
+-- Assumes nothing.
+use Prim.Native.Nat.{ℕ}
+use mathlib.Core.Bool.{cond}
+use mathlib.Core.List.{List}
+use lib.ListN.{getD}
+use Rattle.octets.specs.Calls.{after}
+use Rattle.shapes.specs.Shape.{placeOf}
+use Rattle.traffic.specs.Traffic.{dataKind}
+use Rattle.stores.specs.TableBytes.{tableIn, tableBytes}
+use Rattle.relays.specs.Forwards.{forwardOf}
+use Rattle.relays.specs.Relays.{forUs, relayOf}
+use Rattle.router.specs.TableCalls.{storedTable}
+
+-- ---- relaying: the status, the buffer, the next hop, and the place and the number of the bytes that count
+pub record RelayLeft : Type 0 where
+  pub status : ℕ
+  pub out : List ℕ
+  pub nextHop : ℕ
+  pub place : ℕ
+  pub extent : ℕ
+
+abbrev pub relayLeft : ℕ → List ℕ → ℕ → ℕ → ℕ → RelayLeft
+relayLeft status out nextHop place extent =
+    record { status = status; out = out; nextHop = nextHop; place = place; extent = extent }
+
+-- for this unit: no next hop, the payload's place in the frame and its length; else the next hop, and the bytes written from the buffer's start
+unfoldable pub relayCall : List ℕ → List ℕ → ℕ → List ℕ → ℕ → ℕ → ℕ → RelayLeft
+relayCall s frame time out nextHop place extent =
+    let wrote = relayOf (tableIn s) frame time out in
+    let vs = wrote .said .values in
+    let status = storedTable s (wrote .said .refusal) in
+    let ours = forUs (tableIn s) frame in
+    relayLeft status (after status out (wrote .held)) (after status nextHop (cond ours 0 (getD vs 0 0)))
+    (after status place (cond ours (placeOf dataKind) 0)) (after status extent (cond ours (getD vs 0 0) (getD vs 1 0)))
+
+-- ---- forwarding: the status, the table's bytes, the buffer, and the number of bytes written
+pub record ForwardLeft : Type 0 where
+  pub status : ℕ
+  pub table : List ℕ
+  pub out : List ℕ
+  pub written : ℕ
+
+abbrev pub forwardLeft : ℕ → List ℕ → List ℕ → ℕ → ForwardLeft
+forwardLeft status table out written = record { status = status; table = table; out = out; written = written }
+
+unfoldable pub forwardCall : List ℕ → ℕ → List ℕ → ℕ → ℕ → List ℕ → ℕ → ForwardLeft
+forwardCall s network frame delay time out written =
+    let passed = forwardOf (tableIn s) network frame delay time out in
+    let status = storedTable s (passed .answer .refused) in
+    forwardLeft status (after status s (tableBytes (passed .answer .table))) (after status out (passed .held))
+    (after status written (passed .answer .written))

@@ -1,0 +1,69 @@
+// Frames that go on by a table of 539 bytes: data is handed back or relayed, a beacon is forwarded.
+ghost use mathlib.Core.Path.{_≡_};
+ghost use Rattle.router.specs.RelayCalls.{relayLeft, relayCall, forwardLeft, forwardCall};
+use relays::forwarding::forward;
+use relays::relaying::Relayed;
+use relays::relaying::relay;
+use stores::tables::is_table;
+use stores::tables::table_of;
+use stores::tables::write_back;
+
+// Relays a data frame. For this unit: next hop 0, and where the payload starts in the frame and how long it is. Else: the next hop, place 0, and
+// how many bytes were written.
+#[no_mangle]
+pub extern "C" fn braidlark_relay(
+    table: &[u8],
+    frame: &[u8],
+    time: u32,
+    out: &mut [u8],
+    next_hop: &mut u16,
+    place: &mut u32,
+    length: &mut u32,
+) -> u8
+    ensures { λ r. ⌜ relayLeft r (now (out .exit)) (now («next_hop» .exit)) (now (place .exit)) (now (length .exit)) ≡ relayCall (now (table .entry)) (now (frame .entry)) time (now (out .entry)) (now («next_hop» .entry)) (now (place .entry)) (now (length .entry)) ⌝ }
+{
+    if !is_table(table) {
+        return 14;
+    }
+    match relay(table_of(table), frame, time, out) {
+        Relayed::ForUs(count) => {
+            *next_hop = 0;
+            *place = 9;
+            *length = count as u32;
+            0
+        }
+        Relayed::Passed(passage) => {
+            *next_hop = passage.next_hop;
+            *place = 0;
+            *length = passage.size as u32;
+            0
+        }
+        Relayed::Refused(refusal) => refusal.number,
+    }
+}
+
+// Forwards a beacon with this delay added, and says how many bytes were written. Bytes that are no table are found out before anything is written.
+#[no_mangle]
+pub extern "C" fn braidlark_forward(
+    table: &mut [u8],
+    network: u16,
+    frame: &[u8],
+    delay: u32,
+    time: u32,
+    out: &mut [u8],
+    written: &mut u32,
+) -> u8
+    ensures { λ r. ⌜ forwardLeft r (now (table .exit)) (now (out .exit)) (now (written .exit)) ≡ forwardCall (now (table .entry)) network (now (frame .entry)) delay time (now (out .entry)) (now (written .entry)) ⌝ }
+{
+    if !is_table(&table[..]) {
+        return 14;
+    }
+    let passed = forward(table_of(&table[..]), network, frame, delay, time, out);
+    let next = passed.table;
+    let status = write_back(table, passed.refused, next);
+    if status != 0 {
+        return status;
+    }
+    *written = passed.written as u32;
+    0
+}

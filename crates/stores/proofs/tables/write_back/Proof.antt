@@ -1,0 +1,22 @@
+-- `write_back`: nothing is written where a number refuses it, else the table.
+-- Assumes nothing.
+use mathlib.Core.Path.{refl, sym, _∙_}
+use Rattle.octets.proofs.CallLaws.{after-accepted, after-refused}
+use Rattle.stores.proofs.TableByteLaws.{length-table}
+use borrow.Author.Needs.{needs}
+use Rattle.stores.proofs.tables.write_back.Statement.{statement}
+use Rattle.stores.proofs.tables.write_back.Tie as tie
+
+returns : tie.Need-returns
+returns c = (refl, sym (after-refused _ _ _ (c .if1 .taken)), λ z. absurd (c .if1 .taken z))
+
+returns-2 : tie.Need-returns-2
+returns-2 c =
+    let put = c .before .before .put-table .ensures in
+    let a = c .before .before .before .before .before .before .args in
+    let z = c .before .before .before .before .if1 .left in
+    (sym z, put .0 ∙ sym (after-accepted _ _ _ z), λ q. length-table (a .next) (put .1))
+
+pub write-back-spec : {M : Type 1} → statement M
+write-back-spec =
+    tie.close (tie.spec returns (λ c κs. search needs) (λ c. search needs) returns-2)

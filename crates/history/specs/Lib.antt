@@ -1,2 +1,4 @@
+pub mod BookEvents
+pub mod BookLaws
 pub mod TableCalls
 pub mod TableLaws

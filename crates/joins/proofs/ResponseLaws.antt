@@ -1,26 +1,28 @@
 -- Response frames: their lengths, one of them sealed, and a turn of the loop that stores them.
 -- Assumes nothing.
-use mathlib.Core.Path.{_≡_, refl, sym, ap, _∙_}
+use mathlib.Core.Path.{_≡_, refl, sym, ap, ap₂, _∙_}
 use mathlib.Core.Bool.{Bool, true, false, cond}
-use mathlib.Core.List.{List, [], _∷_, _++_, map, append-nil}
-use Prim.Native.Nat.{ℕ, zero, suc, _+_, _*_, _-_, _≤_, _<_}
+use mathlib.Core.List.{List, [], _∷_, _++_, map, append-nil, append-assoc}
+use Prim.Native.Nat.{ℕ, zero, suc, _+_, _*_, _-_, _/_, _^_, _≤_, _<_}
 use native.Mathlib.Nat.{zero-add}
 use native.Mathlib.Numerals.{add-one}
 use native.Mathlib.Omega.{arith}
-use lib.ListN.{length, take, set, length-append, length-map}
-use lib.Seq.{sets}
+use lib.ListN.{length, take, drop, set, length-append, length-map}
+use lib.Seq.{sets, sets-eq, drop-at}
 use Rattle.octets.specs.Layouts.{bytes}
+use Rattle.octets.specs.Numbers.{num, digits}
 use Rattle.octets.specs.Sums.{xors}
 use Rattle.octets.proofs.LayoutLaws.{length-bytes}
-use Rattle.octets.proofs.NumberLaws.{length-digits}
+use Rattle.octets.proofs.NumberLaws.{length-digits, num-digits}
 use Rattle.octets.proofs.StoreLaws.{sets-append, take-sets, sets-whole}
 use Rattle.shapes.proofs.SealLaws.{length-sealed}
-use Rattle.shapes.specs.Shape.{Kind, placeOf, sealed, frameOf}
+use Rattle.shapes.specs.Shape.{Kind, placeOf, valuesIn, sealed, frameOf}
+use Rattle.requests.specs.Requests.{joinResponse, joinResponseFrom}
 use Rattle.slots.specs.Sets.{Slots, has, count, [] as []ˢ, _∷_ as _∷ˢ_}
 use Rattle.site.specs.declared.plan.Plan.{Plan}
 use Rattle.site.specs.Plans.{controlAt, dataAt}
 use Rattle.site.specs.Schedules.{controlSlot, dataSlot}
-use Rattle.joins.specs.Responses.{listed, response, responsesFor, responses}
+use Rattle.joins.specs.Responses.{listed, response, responsesFor, responses, toldIn}
 
 -- ---- how many bytes
 length-response : (p : Plan) (unit time slot : ℕ) → length (response p unit time slot) ≡ 13
@@ -57,6 +59,58 @@ length-told w p unit time row own =
 
 pub length-responses : (p : Plan) (unit time row : ℕ) (own : Slots 64) → length (responses p unit time row own) ≡ 13 * (1 + count own)
 length-responses p unit time row own = length-told 64 p unit time row own
+
+-- ---- read back
+-- each slot fits its two bytes
+abbrev pub Small : List ℕ → Type 0
+Small [] = Unit
+Small (slot ∷ slots) = (slot < 256 ^ 2) × Small slots
+
+-- the slot of a frame stands behind its type, its node and its status
+slot-behind : (slot : ℕ) (a b c e x r : List ℕ) → length (a ++ (b ++ c)) ≡ 4 → slot < 256 ^ 2
+    → num 2 ((((a ++ (b ++ (c ++ (digits 2 slot ++ e)))) ++ []) ++ x) ++ r) 4 ≡ slot
+slot-behind slot a b c e x r l h =
+    let d = digits 2 slot in
+    let same : (((a ++ (b ++ (c ++ (d ++ e)))) ++ []) ++ x) ++ r ≡ (a ++ (b ++ c)) ++ (d ++ (e ++ (x ++ r))) = simp (append-assoc, append-nil) in
+    ap (λ (s : List ℕ). num 2 s 4) same ∙ num-digits 2 slot (a ++ (b ++ c)) (e ++ (x ++ r)) 4 l h
+
+slot-told : (p : Plan) (unit time slot : ℕ) (rest : List ℕ) → slot < 256 ^ 2 → joinResponseFrom (valuesIn joinResponse (response p unit time slot ++ rest)) .slot ≡ slot
+unfolding sealed
+slot-told p unit time slot rest h =
+    let fields-all = bytes (1 ∷ joinResponse .widths) (joinResponse .code ∷ unit ∷ 0 ∷ slot ∷ time ∷ p .network ∷ []) in
+    slot-behind slot (digits 1 (joinResponse .code)) (digits 2 unit) (digits 1 0) (digits 4 time ++ (digits 2 (p .network) ++ [])) (xors 0 (fields-all ++ []) ∷ []) rest
+    (simp (length-append, length-digits)) h
+
+told-for : (p : Plan) (unit time : ℕ) (slots rest : List ℕ) → Small slots → toldIn (length slots) (responsesFor p unit time slots ++ rest) ≡ slots
+told-for p unit time [] rest h = refl
+told-for p unit time (slot ∷ slots) rest h =
+    let one = response p unit time slot in
+    let more = responsesFor p unit time slots in
+    let behind : drop 13 (one ++ (more ++ rest)) ≡ more ++ rest = drop-at one (more ++ rest) 13 (length-response p unit time slot) in
+    ap (λ (s : List ℕ). joinResponseFrom (valuesIn joinResponse s) .slot ∷ toldIn (length slots) (drop 13 s)) (append-assoc one more rest)
+    ∙ ap₂ {C = List ℕ} _∷_ (slot-told p unit time slot (more ++ rest) (h .0)) (ap (toldIn (length slots)) behind ∙ told-for p unit time slots rest (h .1))
+
+-- of responses in a buffer that has room for them, so many as there are tell their slots
+pub told-back : (p : Plan) (unit time : ℕ) (slots out : List ℕ) → Small slots → let all = responsesFor p unit time slots in
+    length all ≤ length out → toldIn (length all / 13) (sets out 0 all) ≡ slots
+told-back p unit time slots out h l =
+    let all = responsesFor p unit time slots in
+    let many : length all / 13 ≡ length slots = omega (arith, length-for p unit time slots) in
+    let whole : sets out 0 all ≡ all ++ drop (0 + length all) out = sets-eq all out 0 (omega (arith, l)) in
+    ap₂ {C = List ℕ} toldIn many whole ∙ told-for p unit time slots (drop (0 + length all) out) h
+
+-- the slots that a member is told of are among the first of a superframe
+small-listed : {w : ℕ} (p : Plan) (own : Slots w) (i n : ℕ) → dataAt p + i + n ≤ 256 ^ 2 → Small (map (dataSlot p) (listed own i n))
+small-listed p own i zero h = tt
+small-listed p own i (suc n) h = go (has own i) (map (dataSlot p) (listed own (suc i) n)) refl (small-listed p own (suc i) n (omega (arith, h)))
+  where
+    go : (t : Bool) (l : List ℕ) → map (dataSlot p) (listed own (suc i) n) ≡ l → Small l → Small (map (dataSlot p) (cond t (i ∷ listed own (suc i) n) (listed own (suc i) n)))
+    go true l e s = (omega (arith, h), rw e s)
+    go false l e s = rw e s
+
+pub small-told : (w : ℕ) (p : Plan) (row : ℕ) (own : Slots w) → controlSlot p row < 256 ^ 2 → dataAt p + w ≤ 256 ^ 2
+    → Small (controlSlot p row ∷ map (dataSlot p) (listed own 0 w))
+small-told w p row own h l = (h, small-listed p own 0 w (omega (arith, l)))
 
 -- ---- one frame
 -- the type and the fields of a kind that has nothing behind them, and the checksum

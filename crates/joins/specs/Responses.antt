@@ -3,8 +3,9 @@
 use Prim.Native.Nat.{ℕ, zero, suc}
 use mathlib.Core.Bool.{cond}
 use mathlib.Core.List.{List, [], _∷_, _++_, map}
-use Rattle.shapes.specs.Shape.{frameOf}
-use Rattle.requests.specs.Requests.{joinResponse}
+use lib.ListN.{drop}
+use Rattle.shapes.specs.Shape.{frameOf, valuesIn}
+use Rattle.requests.specs.Requests.{joinResponse, joinResponseFrom}
 use Rattle.slots.specs.Sets.{Slots, has}
 use Rattle.site.specs.declared.plan.Plan.{Plan}
 use Rattle.site.specs.Schedules.{controlSlot, dataSlot}
@@ -29,3 +30,8 @@ responsesFor p unit time (slot ∷ slots) = response p unit time slot ++ respons
 
 abbrev pub responses : Plan → ℕ → ℕ → ℕ → Slots 64 → List ℕ
 responses p unit time row own = responsesFor p unit time (slotsTold p row own)
+
+-- the slots that so many responses, one after the other, tell
+abbrev pub toldIn : ℕ → List ℕ → List ℕ
+toldIn zero s = []
+toldIn (suc n) s = joinResponseFrom (valuesIn joinResponse s) .slot ∷ toldIn n (drop 13 s)

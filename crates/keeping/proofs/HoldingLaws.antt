@@ -3,25 +3,27 @@
 use mathlib.Core.Path.{_≡_, refl, sym, ap, _∙_}
 use mathlib.Core.Bool.{true, false≢true}
 use mathlib.Core.List.{List}
-use Prim.Native.Nat.{ℕ}
+use Prim.Native.Nat.{ℕ, zero, suc, _<_}
 use native.Mathlib.Decide.{ℕ-discrete}
+use native.Mathlib.Omega.{arith}
 use lib.ListN.{length, length-set}
 use lib.Seq.{getD-set-other}
+use Rattle.moments.specs.Moments.{inOrder}
 use Rattle.shapes.specs.Rules.{address}
 use Rattle.slots.specs.Sets.{Slots, Apart}
 use Rattle.slots.proofs.SetLaws.{nothing-has, disjoint-is-apart}
-use Rattle.members.specs.Members.{Row, emptyRow, kept, rowFor}
-use Rattle.members.proofs.RowLaws.{row, kept-empty}
+use Rattle.members.specs.Members.{Row, emptyRow, rowFor}
+use Rattle.members.proofs.RowLaws.{row, kept-either, keptAt, length-current, live-before}
 use Rattle.members.proofs.RowSums.{owns, passes-there, only-one}
 use Rattle.members.proofs.LookupLaws.{found-unit, found-other, found-same}
 use Rattle.members.proofs.RowRuleLaws.{Seat, address-some, ruled-current}
-use Rattle.book.specs.Books.{Stated, rowsAt, liveAt, withRow}
+use Rattle.book.specs.Books.{Stated, rowsIn, rowsAt, liveAt, withRow}
 use Rattle.joins.specs.Joins.{askIn, askOf}
 use Rattle.keeping.specs.Calls.{Call, join, ask, heard, leave, schedule, timeOf, unitOf, refusalOf, next}
 use Rattle.keeping.specs.Laws.{SameHolding, OthersStay, repeats, KeepsOwn, holding, HoldApart}
 use Rattle.keeping.proofs.CallLaws.{Allowed}
 use Rattle.book.proofs.WithinLaws.{within}
-use Rattle.keeping.proofs.WrittenLaws.{kept-now, rows-at-written}
+use Rattle.keeping.proofs.WrittenLaws.{rows-later}
 use Rattle.keeping.proofs.TakingLaws.{ruled-rows, Taken, join-taken, ask-taken, heard-taken, taken-row, taken-live, taken-holding, leave-freed}
 use Rattle.keeping.proofs.RuleLaws.{refused-keeps}
 
@@ -56,38 +58,51 @@ by-refusal P b c old new = go (ℕ-discrete (refusalOf b c) 0)
     go (yes z) = new z
     go (no z) = rw (refused-keeps b c z) old
 
-same-or : (b : Stated) (c : Call) (unit : ℕ) → (refusalOf b c ≡ 0 → SameHolding b (timeOf c) (next b c) (timeOf c) unit) → SameHolding b (timeOf c) (next b c) (timeOf c) unit
-same-or b c unit = by-refusal (λ new. SameHolding b (timeOf c) new (timeOf c) unit) b c (record { live = refl; row = refl; slots = refl })
+same-or : (b : Stated) (c : Call) (unit time : ℕ) → (refusalOf b c ≡ 0 → SameHolding b time (next b c) time unit) → SameHolding b time (next b c) time unit
+same-or b c unit time = by-refusal (λ new. SameHolding b time new time unit) b c (record { live = refl; row = refl; slots = refl })
 
 -- ---- calls about others
-module _ (unit : ℕ) (is-address : address unit ≡ true) where
+module _ (unit : ℕ) (is-address : address unit ≡ true) (later : ℕ) where
+  some : unit ≡ 0 → ⊥
+  some = address-some unit is-address
+
+  -- a row that is not the unit's is not then
+  still-other : (at : ℕ) (r : Row) → (r .unit ≡ unit → ⊥) → keptAt later at r .unit ≡ unit → ⊥
+  still-other zero r new = new
+  still-other (suc at) r new = kept-either (λ k. k .unit ≡ unit → ⊥) later r (λ e. new) (λ e. some (sym e))
+
   -- a row written at another's place, or at a free one
-  other-written : {b : Stated} {caller time at : ℕ} (a : Allowed b caller time) → Seat (ruled-rows a) at caller → (unit ≡ caller → ⊥)
-      → (r : Row) → kept time r ≡ r → (r .unit ≡ unit → ⊥) → SameHolding b time (withRow b time at r) time unit
-  other-written {b} {caller} {time} {at} a p n r k new =
-      let rs = rowsAt b time in
-      let old : row rs at .unit ≡ unit → ⊥ = λ e. n (sym e ∙ p .own (λ z. address-some unit is-address (sym e ∙ z))) in
-      let elsewhere : rowFor unit rs ≡ at → ⊥ = λ e. old (rw e at (found-unit unit rs (rw e (p .there)))) in
-      let rows = rows-at-written b time at r (p .there) k in
-      same-holding b time (withRow b time at r) time unit
-      (ap length rows ∙ length-set rs at r)
-      (ap (rowFor unit) rows ∙ found-other unit rs at r old new)
-      (ap (λ (l : List Row). row l (rowFor unit rs)) rows ∙ getD-set-other rs at (rowFor unit rs) r emptyRow elsewhere)
+  other-written : {b : Stated} {caller time at : ℕ} (a : Allowed b caller time) → Seat (ruled-rows a) at caller → (unit ≡ caller → ⊥) → inOrder time later ≡ true
+      → (r : Row) → (r .unit ≡ unit → ⊥) → SameHolding b later (withRow b time at r) later unit
+  other-written {b} {caller} {time} {at} a p n o r new =
+      let rs = rowsAt b later in
+      let before : row rs at .unit ≡ unit → row (rowsAt b time) at .unit ≡ unit =
+      λ e. ap (λ (r : Row). r .unit) (live-before time later o (rowsIn b) at (λ z. some (sym e ∙ z))) ∙ e in
+      let old : row rs at .unit ≡ unit → ⊥ = λ e. n (sym (before e) ∙ p .own (λ z. some (sym (before e) ∙ z))) in
+      let there : at < length rs = omega (arith, p .there, length-current time (rowsIn b), length-current later (rowsIn b)) in
+      let elsewhere : rowFor unit rs ≡ at → ⊥ = λ e. old (rw e at (found-unit unit rs (rw e there))) in
+      let rows = rows-later b time at r (p .there) later o in
+      let written = keptAt later at r in
+      same-holding b later (withRow b time at r) later unit
+      (ap length rows ∙ length-set rs at written)
+      (ap (rowFor unit) rows ∙ found-other unit rs at written old (still-other at r new))
+      (ap (λ (l : List Row). row l (rowFor unit rs)) rows ∙ getD-set-other rs at (rowFor unit rs) written emptyRow elsewhere)
 
-  other-taken : {b : Stated} {c : Call} {at : ℕ} {own : Slots 64} → (unit ≡ unitOf c → ⊥) → Taken b c at own → SameHolding b (timeOf c) (next b c) (timeOf c) unit
-  other-taken {b} {c} {at} {own} n t = rw (t .book) (other-written (t .allowed) (t .place) n _ (kept-now (unitOf c) (timeOf c) own) (λ e. n (sym e)))
+  other-taken : {b : Stated} {c : Call} {at : ℕ} {own : Slots 64} → (unit ≡ unitOf c → ⊥) → inOrder (timeOf c) later ≡ true → Taken b c at own
+      → SameHolding b later (next b c) later unit
+  other-taken n o t = rw (t .book) (other-written (t .allowed) (t .place) n o _ (λ e. n (sym e)))
 
-  other-accepted : (b : Stated) (c : Call) → (unit ≡ unitOf c → ⊥) → refusalOf b c ≡ 0 → SameHolding b (timeOf c) (next b c) (timeOf c) unit
-  other-accepted b (join s time out) n z = other-taken n (join-taken b s time out z)
-  other-accepted b (ask s time out) n z = other-taken n (ask-taken b s time out z)
-  other-accepted b (heard caller time) n z = other-taken n (heard-taken b caller time z)
-  other-accepted b (leave caller time) n z =
+  other-accepted : (b : Stated) (c : Call) → (unit ≡ unitOf c → ⊥) → inOrder (timeOf c) later ≡ true → refusalOf b c ≡ 0 → SameHolding b later (next b c) later unit
+  other-accepted b (join s time out) n o z = other-taken n o (join-taken b s time out z)
+  other-accepted b (ask s time out) n o z = other-taken n o (ask-taken b s time out z)
+  other-accepted b (heard caller time) n o z = other-taken n o (heard-taken b caller time z)
+  other-accepted b (leave caller time) n o z =
       let f = leave-freed b caller time z in
-      rw (f .book) (other-written (f .allowed) (f .place) n emptyRow (kept-empty time) (λ e. address-some unit is-address (sym e)))
-  other-accepted b (schedule caller hop time out) n z = record { live = refl; row = refl; slots = refl }
+      rw (f .book) (other-written (f .allowed) (f .place) n o emptyRow (λ e. some (sym e)))
+  other-accepted b (schedule caller hop time out) n o z = record { live = refl; row = refl; slots = refl }
 
 pub others-stay : OthersStay
-others-stay b c unit a n = same-or b c unit (other-accepted unit a b c n)
+others-stay b c unit later a n o = same-or b c unit later (other-accepted unit a later b c n o)
 
 -- ---- calls about itself
 own-taken : {b : Stated} {c : Call} → Taken b c (rowFor (unitOf c) (rowsAt b (timeOf c))) (holding b (unitOf c) (timeOf c)) → liveAt b (unitOf c) (timeOf c) ≡ true
@@ -98,9 +113,9 @@ pub keeps-own : KeepsOwn
 keeps-own = (again, ask-again)
   where
     again : (b : Stated) (c : Call) → repeats c ≡ true → liveAt b (unitOf c) (timeOf c) ≡ true → SameHolding b (timeOf c) (next b c) (timeOf c) (unitOf c)
-    again b (join s time out) e live = same-or b (join s time out) _ (λ z. own-taken (rw live at (join-taken b s time out z)) live)
+    again b (join s time out) e live = same-or b (join s time out) _ time (λ z. own-taken (rw live at (join-taken b s time out z)) live)
     again b (ask s time out) e live = absurd (false≢true e)
-    again b (heard unit time) e live = same-or b (heard unit time) _ (λ z. own-taken (heard-taken b unit time z) live)
+    again b (heard unit time) e live = same-or b (heard unit time) _ time (λ z. own-taken (heard-taken b unit time z) live)
     again b (leave unit time) e live = absurd (false≢true e)
     again b (schedule unit hop time out) e live = record { live = refl; row = refl; slots = refl }
 

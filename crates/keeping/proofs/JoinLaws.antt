@@ -14,7 +14,7 @@ use Rattle.octets.specs.Lists.{every}
 use Rattle.slots.specs.Sets.{Slots, count}
 use Rattle.members.specs.Members.{Row, vacantRow, rowFor, vacant, spare}
 use Rattle.members.proofs.RowRuleLaws.{vacant-free, ruled-current}
-use Rattle.book.specs.Books.{Stated, rowsAt}
+use Rattle.book.specs.Books.{Stated, withinRule, rowsAt}
 use Rattle.joins.specs.Joins.{granted, joinIn, seat, noRowFor, joinReasons, joinOf, askIn}
 use Rattle.joins.proofs.ResponseLaws.{length-responses}
 use Rattle.keeping.specs.Laws.{full, Newcomer, RefusedIfFull, holding, due, Admitted, GrantedElse, AskedFor}
@@ -41,25 +41,25 @@ either-way false true e = refl
 either-way false false e = absurd (false≢true e)
 
 -- of a newcomer's reasons only room is left
-newcomer-reasons : (b : Stated) (s : List ℕ) (time : ℕ) (noRow short : Bool) → Newcomer b s time
+newcomer-reasons : (b : Stated) (s : List ℕ) (time : ℕ) (noRow short : Bool) → withinRule b ≡ true → Newcomer b s time
     → first (joinReasons b s time noRow short) ≡ cond noRow 12 (cond short 5 0)
-newcomer-reasons b s time noRow short n =
-    rw (n .book, n .frame, ne-eqb (joinIn s .node) (b .plan .manager) (n .other), either-way (eqb (joinIn s .network) 0) (eqb (joinIn s .network) (b .plan .network)) (n .network), n .order)
+newcomer-reasons b s time noRow short w n =
+    rw (w, n .frame, ne-eqb (joinIn s .node) (b .plan .manager) (n .other), either-way (eqb (joinIn s .network) 0) (eqb (joinIn s .network) (b .plan .network)) (n .network), n .order)
 
-module _ (b : Stated) (s : List ℕ) (time : ℕ) (out : List ℕ) (n : Newcomer b s time) where
+module _ (b : Stated) (s : List ℕ) (time : ℕ) (out : List ℕ) (w : withinRule b ≡ true) (n : Newcomer b s time) where
   no-row : noRowFor b (joinIn s .node) time ≡ full b time
   no-row = ap (λ (live : Bool). not live && eqb (vacant (rowsAt b time)) 0) (n .unknown) ∙ sym (full-vacant (rowsAt b time))
 
   newcomer-refused : joinOf b s time out .refused ≡ cond (full b time) 12 (cond (joinShort b s time out) 5 0)
   unfolding joinOf
   newcomer-refused =
-      newcomer-reasons b s time (noRowFor b (joinIn s .node) time) (joinShort b s time out) n
+      newcomer-reasons b s time (noRowFor b (joinIn s .node) time) (joinShort b s time out) w n
       ∙ ap (λ (t : Bool). cond t 12 (cond (joinShort b s time out) 5 0)) no-row
 
 pub refused-if-full : RefusedIfFull
-refused-if-full b s time out n = (
-  λ e. newcomer-refused b s time out n ∙ ap (λ (t : Bool). cond t 12 (cond (joinShort b s time out) 5 0)) e,
-  λ e. go (full b time) (joinShort b s time out) (sym (newcomer-refused b s time out n) ∙ e),
+refused-if-full b s time out w n = (
+  λ e. newcomer-refused b s time out w n ∙ ap (λ (t : Bool). cond t 12 (cond (joinShort b s time out) 5 0)) e,
+  λ e. go (full b time) (joinShort b s time out) (sym (newcomer-refused b s time out w n) ∙ e),
 )
   where
     go : (t short : Bool) → _≡_ {A = ℕ} (cond t 12 (cond short 5 0)) 12 → t ≡ true
@@ -68,7 +68,7 @@ refused-if-full b s time out n = (
     go false false e = absurd (omega arith)
 
 -- ---- what is then held
-module _ (b : Stated) (s : List ℕ) (time : ℕ) (out : List ℕ) (n : Newcomer b s time) (room : full b time ≡ false) where
+module _ (b : Stated) (s : List ℕ) (time : ℕ) (out : List ℕ) (w : withinRule b ≡ true) (n : Newcomer b s time) (room : full b time ≡ false) where
   abbrev rows : List Row
   rows = rowsAt b time
 
@@ -81,9 +81,9 @@ module _ (b : Stated) (s : List ℕ) (time : ℕ) (out : List ℕ) (n : Newcomer
 
   given-due : count given ≡ due b s time
   given-due =
-      let w = within b (n .book) in
+      let parts = within b w in
       let some = eqb-false (vacant rows) 0 (sym (full-vacant rows) ∙ room) in
-      count-granted (b .plan .«data_slots») rows (joinIn s .slots) (omega (arith, some)) (vacant-free (w .few) (ruled-current time (w .rows)))
+      count-granted (b .plan .«data_slots») rows (joinIn s .slots) (omega (arith, some)) (vacant-free (parts .few) (ruled-current time (parts .rows)))
 
   fits : 13 * (1 + due b s time) ≤ length out → joinShort b s time out ≡ false
   fits h =
@@ -93,7 +93,7 @@ module _ (b : Stated) (s : List ℕ) (time : ℕ) (out : List ℕ) (n : Newcomer
       ∙ le-ltb (length out) (13 * (1 + due b s time)) h
 
   accepted : 13 * (1 + due b s time) ≤ length out → joinOf b s time out .refused ≡ 0
-  accepted h = newcomer-refused b s time out n ∙ ap₂ {C = ℕ} (λ (t short : Bool). cond t 12 (cond short 5 0)) room (fits h)
+  accepted h = newcomer-refused b s time out w n ∙ ap₂ {C = ℕ} (λ (t short : Bool). cond t 12 (cond short 5 0)) room (fits h)
 
   admitted : joinOf b s time out .refused ≡ 0 → Admitted b s time out
   admitted e =
@@ -110,7 +110,7 @@ module _ (b : Stated) (s : List ℕ) (time : ℕ) (out : List ℕ) (n : Newcomer
       }
 
 pub granted-else : GrantedElse
-granted-else b s time out n room h = admitted b s time out n room (accepted b s time out n room h)
+granted-else b s time out w n room h = admitted b s time out w n room (accepted b s time out w n room h)
 
 -- ---- a member that asks
 pub asked-for : AskedFor

@@ -3,17 +3,16 @@
 use mathlib.Core.Path.{_≡_, refl, sym, ap, _∙_}
 use mathlib.Core.Bool.{Bool, true, false, false≢true}
 use mathlib.Core.List.{List}
-use Prim.Native.Nat.{ℕ, zero, suc, _<_}
+use Prim.Native.Nat.{ℕ, _<_}
 use native.Mathlib.Omega.{arith}
-use borrow.Author.Tests.{le-leb, leb-true, ltb-true, lt-ltb, le-ltb}
+use borrow.Author.Tests.{ltb-true, lt-ltb, le-ltb}
 use lib.Dec.{leb, ltb}
 use lib.ListN.{length}
 use lib.Seq.{getD-set-same}
-use Rattle.moments.specs.Moments.{ageAt, inOrder}
-use Rattle.moments.proofs.MomentLaws.{older}
+use Rattle.moments.specs.Moments.{ageAt}
 use Rattle.slots.specs.Sets.{Slots}
 use Rattle.members.specs.Members.{Row, emptyRow, kept, current, rowFor}
-use Rattle.members.proofs.RowLaws.{row, kept-either, length-current, first-stays, others-kept, still}
+use Rattle.members.proofs.RowLaws.{row, length-current, others-kept, still, live-before}
 use Rattle.members.proofs.LookupLaws.{found-unit, found-there, found-is}
 use Rattle.members.proofs.RowRuleLaws.{address-some, ruled-current}
 use Rattle.book.specs.Books.{Stated, rowsIn, rowsAt, liveAt}
@@ -25,20 +24,6 @@ use Rattle.keeping.proofs.TakingLaws.{some-unit, Taken, join-taken, ask
 use Rattle.keeping.proofs.HoldingLaws.{same-holding}
 
 -- ---- while a member is live
-module _ (time later : ℕ) (ordered : inOrder time later ≡ true) where
-  kept-before : (r : Row) → (kept later r .unit ≡ 0 → ⊥) → kept time r ≡ kept later r
-  kept-before r =
-      kept-either (λ k. (k .unit ≡ 0 → ⊥) → kept time r ≡ k) later r
-      (λ e n. rw (le-leb (ageAt time (r .time)) 300000 (omega (arith, leb-true (ageAt later (r .time)) 300000 e, older time later (r .time) ordered))))
-      (λ n. absurd (n refl))
-
-  -- a row that is some unit's later is so before
-  live-before : (rs : List Row) (i : ℕ) → (row (current later rs) i .unit ≡ 0 → ⊥) → row (current time rs) i ≡ row (current later rs) i
-  live-before rs zero n = first-stays time rs ∙ sym (first-stays later rs)
-  live-before rs (suc i) n =
-      let now = others-kept later rs (suc i) (λ z. omega (arith, z)) in
-      others-kept time rs (suc i) (λ z. omega (arith, z)) ∙ (kept-before (row rs (suc i)) (rw now at n) ∙ sym now)
-
 pub stays-while-live : StaysWhileLive
 stays-while-live b unit time later w a o e =
     let rs = rowsIn b in

@@ -42,7 +42,6 @@ full b time = every (λ r. not (vacantRow r)) (rowsAt b time)
 
 -- a valid request to join, its time accepted, by a unit that is no live member
 pub record Newcomer (b : Stated) (s : List ℕ) (time : ℕ) : Type 0 where
-  pub book : withinRule b ≡ true
   pub frame : refusalAs joinRequest s ≡ 0
   pub other : joinIn s .node ≡ b .plan .manager → ⊥
   pub network : (eqb (joinIn s .network) 0 || eqb (joinIn s .network) (b .plan .network)) ≡ true
@@ -52,7 +51,7 @@ pub record Newcomer (b : Stated) (s : List ℕ) (time : ℕ) : Type 0 where
 -- it is refused for room exactly if every row is live
 abbrev pub RefusedIfFull : Type 0
 RefusedIfFull =
-    (b : Stated) (s : List ℕ) (time : ℕ) (out : List ℕ) → Newcomer b s time
+    (b : Stated) (s : List ℕ) (time : ℕ) (out : List ℕ) → withinRule b ≡ true → Newcomer b s time
     → (full b time ≡ true → joinOf b s time out .refused ≡ 12) × (joinOf b s time out .refused ≡ 12 → full b time ≡ true)
 
 -- the slots that a unit holds at a time
@@ -75,7 +74,7 @@ pub record Admitted (b : Stated) (s : List ℕ) (time : ℕ) (out : List ℕ) : 
 -- otherwise, given room for a frame of 13 bytes for its control slot and for each of its slots, it gets exactly that count
 abbrev pub GrantedElse : Type 0
 GrantedElse =
-    (b : Stated) (s : List ℕ) (time : ℕ) (out : List ℕ) → Newcomer b s time → full b time ≡ false → 13 * (1 + due b s time) ≤ length out
+    (b : Stated) (s : List ℕ) (time : ℕ) (out : List ℕ) → withinRule b ≡ true → Newcomer b s time → full b time ≡ false → 13 * (1 + due b s time) ≤ length out
     → Admitted b s time out
 
 -- a member that asks, and is accepted, then holds exactly min(max(1, asked), 4, held+spare)
@@ -92,10 +91,11 @@ pub record SameHolding (b : Stated) (time : ℕ) (b′ : Stated) (time′ : ℕ)
   pub row : rowFor unit (rowsAt b′ time′) ≡ rowFor unit (rowsAt b time)
   pub slots : holding b′ unit time′ ≡ holding b unit time
 
--- a call about another unit changes neither a unit's row nor its slots
+-- a call about another unit changes neither a unit's row nor its slots, at its time and at every later one
 abbrev pub OthersStay : Type 0
 OthersStay =
-    (b : Stated) (c : Call) (unit : ℕ) → address unit ≡ true → (unit ≡ unitOf c → ⊥) → SameHolding b (timeOf c) (next b c) (timeOf c) unit
+    (b : Stated) (c : Call) (unit later : ℕ) → address unit ≡ true → (unit ≡ unitOf c → ⊥) → inOrder (timeOf c) later ≡ true
+    → SameHolding b later (next b c) later unit
 
 -- as long as a unit is live its row and its slots stay, while no call is made
 abbrev pub StaysWhileLive : Type 0

@@ -5,10 +5,13 @@ use mathlib.Core.Bool.{Bool, true, false, cond, and-eq-true-iff}
 use mathlib.Core.List.{List, [], _∷_, map}
 use Prim.Native.Nat.{ℕ, zero, suc}
 use native.Mathlib.Decide.{ℕ-discrete}
+use native.Mathlib.Omega.{arith}
+use borrow.Author.Tests.{le-leb, lt-leb, leb-true, leb-false}
 use lib.Dec.{leb}
 use lib.ListN.{length, getD, set, drop, length-map, List·getD-map}
 use Rattle.octets.specs.Lists.{every}
-use Rattle.moments.specs.Moments.{ageAt}
+use Rattle.moments.specs.Moments.{ageAt, inOrder}
+use Rattle.moments.proofs.MomentLaws.{older}
 use Rattle.members.specs.Members.{Row, emptyRow, kept, current}
 
 -- the row at a place, zeros past the end
@@ -79,27 +82,40 @@ every-behind test empty time (suc n) (r ∷ rs) e = go n rs e
 pub kept-empty : (time : ℕ) → kept time emptyRow ≡ emptyRow
 kept-empty time = kept-either (λ k. k ≡ emptyRow) time emptyRow (λ e. refl) refl
 
-kept-kept : (time : ℕ) (r : Row) → kept time (kept time r) ≡ kept time r
-kept-kept time r = kept-either (λ k. kept time k ≡ k) time r (λ e. rw e) (kept-empty time)
+-- a row that is dropped at a time is dropped at every later one
+kept-later : (time later : ℕ) → inOrder time later ≡ true → (r : Row) → kept later (kept time r) ≡ kept later r
+kept-later time later o r = go (leb (ageAt time (r .time)) 300000) refl
+  where
+    go : (b : Bool) → leb (ageAt time (r .time)) 300000 ≡ b → kept later (cond b r emptyRow) ≡ kept later r
+    go true e = refl
+    go false e =
+        let silent = lt-leb (ageAt later (r .time)) 300000 (omega (arith, leb-false (ageAt time (r .time)) 300000 e, older time later (r .time) o)) in
+        kept-empty later ∙ rw silent
 
 cons : {a b : Row} {l m : List Row} → a ≡ b → l ≡ m → a ∷ l ≡ b ∷ m
 cons p q = ap₂ _∷_ p q
 
-dropped-twice : (time : ℕ) (rs : List Row) → map (kept time) (map (kept time) rs) ≡ map (kept time) rs
-dropped-twice time [] = refl
-dropped-twice time (a ∷ rs) = cons (kept-kept time a) (dropped-twice time rs)
+-- what a row written at a place is at a time: the first stays
+abbrev pub keptAt : ℕ → ℕ → Row → Row
+keptAt time zero r = r
+keptAt time (suc at) r = kept time r
 
-dropped-set : (time : ℕ) (rs : List Row) (at : ℕ) (r : Row) → kept time r ≡ r → map (kept time) (set (map (kept time) rs) at r) ≡ set (map (kept time) rs) at r
-dropped-set time [] at r e = refl
-dropped-set time (a ∷ rs) zero r e = cons e (dropped-twice time rs)
-dropped-set time (a ∷ rs) (suc at) r e = cons (kept-kept time a) (dropped-set time rs at r e)
+module _ (time later : ℕ) (o : inOrder time later ≡ true) where
+  dropped-later : (rs : List Row) → map (kept later) (map (kept time) rs) ≡ map (kept later) rs
+  dropped-later [] = refl
+  dropped-later (a ∷ rs) = cons (kept-later time later o a) (dropped-later rs)
 
--- of the rows at a time, one of them written that is not silent then, none is silent
-pub current-set : (time : ℕ) (rs : List Row) (at : ℕ) (r : Row) → kept time r ≡ r → current time (set (current time rs) at r) ≡ set (current time rs) at r
-unfolding current
-current-set time [] at r e = refl
-current-set time (a ∷ rs) zero r e = cons refl (dropped-twice time rs)
-current-set time (a ∷ rs) (suc at) r e = cons refl (dropped-set time rs at r e)
+  dropped-set : (rs : List Row) (at : ℕ) (r : Row) → map (kept later) (set (map (kept time) rs) at r) ≡ set (map (kept later) rs) at (kept later r)
+  dropped-set [] at r = refl
+  dropped-set (a ∷ rs) zero r = cons refl (dropped-later rs)
+  dropped-set (a ∷ rs) (suc at) r = cons (kept-later time later o a) (dropped-set rs at r)
+
+  -- the rows of a time, one of them written, are at a later time the rows of then, with the same one written
+  pub current-set : (rs : List Row) (at : ℕ) (r : Row) → current later (set (current time rs) at r) ≡ set (current later rs) at (keptAt later at r)
+  unfolding current
+  current-set [] at r = refl
+  current-set (a ∷ rs) zero r = cons refl (dropped-later rs)
+  current-set (a ∷ rs) (suc at) r = cons refl (dropped-set rs at r)
 
 -- ---- the row at a place, at a time
 pub first-stays : (time : ℕ) (rs : List Row) → row (current time rs) 0 ≡ row rs 0
@@ -120,3 +136,16 @@ still time rs i = go (ℕ-discrete i 0)
     go : Dec (i ≡ 0) → (row (current time rs) i .unit ≡ 0 → ⊥) → row (current time rs) i ≡ row rs i
     go (yes z) = λ n. rw z (first-stays time rs)
     go (no z) = rw (others-kept time rs i z) (kept-either (λ k. (k .unit ≡ 0 → ⊥) → k ≡ row rs i) time (row rs i) (λ e n. refl) (λ n. absurd (n refl)))
+
+-- and is so at every time before
+pub live-before : (time later : ℕ) → inOrder time later ≡ true → (rs : List Row) (i : ℕ) → (row (current later rs) i .unit ≡ 0 → ⊥) → row (current time rs) i ≡ row (current later rs) i
+live-before time later o rs zero n = first-stays time rs ∙ sym (first-stays later rs)
+live-before time later o rs (suc i) n =
+    let now = others-kept later rs (suc i) (λ z. omega (arith, z)) in
+    others-kept time rs (suc i) (λ z. omega (arith, z)) ∙ (kept-before (row rs (suc i)) (rw now at n) ∙ sym now)
+  where
+    kept-before : (r : Row) → (kept later r .unit ≡ 0 → ⊥) → kept time r ≡ kept later r
+    kept-before r =
+        kept-either (λ k. (k .unit ≡ 0 → ⊥) → kept time r ≡ k) later r
+        (λ e n. rw (le-leb (ageAt time (r .time)) 300000 (omega (arith, leb-true (ageAt later (r .time)) 300000 e, older time later (r .time) o))))
+        (λ n. absurd (n refl))

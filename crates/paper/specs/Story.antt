@@ -1,26 +1,21 @@
 -- Document 01's story of units that join, ask and leave, as calls on one book from its fresh state on.
 -- Assumes nothing.
-use Prim.Native.Nat.{ℕ, zero, suc, _/_}
+use Prim.Native.Nat.{ℕ, _/_}
 use mathlib.Core.List.{List, [], _∷_}
-use lib.ListN.{drop, replicate}
-use Rattle.octets.specs.Numbers.{num}
+use lib.ListN.{replicate}
 use Rattle.shapes.specs.Shape.{frameOf}
 use Rattle.requests.specs.Requests.{joinRequest, joinRequestValues, slotRequest, slotRequestValues}
 use Rattle.site.specs.declared.plan.Plan.{Plan}
 use Rattle.book.specs.Books.{Stated, heardOf, leaveOf, freshBook}
 use Rattle.book.specs.Schedules.{scheduleOf}
 use Rattle.joins.specs.Joins.{Answered, joinOf, askOf}
+use Rattle.joins.specs.Responses.{toldIn}
 use Rattle.keeping.specs.Calls.{Call, join, ask, heard, leave, schedule, next}
 
 -- ---- what a call says
--- the slot fields of so many responses, one behind the other
-abbrev pub slotsIn : ℕ → List ℕ → List ℕ
-slotsIn zero s = []
-slotsIn (suc n) s = num 2 s 4 ∷ slotsIn n (drop 13 s)
-
 -- the number, and the slots that a unit is told: its control slot, then its data slots
 abbrev pub grantTold : Answered → List ℕ
-grantTold a = a .refused ∷ slotsIn (a .written / 13) (a .held)
+grantTold a = a .refused ∷ toldIn (a .written / 13) (a .held)
 
 abbrev pub told : Stated → Call → List ℕ
 told b (join s time out) = grantTold (joinOf b s time out)

@@ -51,8 +51,11 @@ short b unit time at own out = ltb (length out) (length (responses (b .plan) uni
 abbrev pub joinShort : Stated → List ℕ → ℕ → List ℕ → Bool
 joinShort b s time out = short b (joinIn s .node) time (seat b (joinIn s .node) time) (joinedSlots b s time) out
 
+abbrev pub askShort : Stated → List ℕ → ℕ → List ℕ → Bool
+askShort b s time out = short b (askIn s .node) time (rowFor (askIn s .node) (rowsAt b time)) (askedSlots b s time) out
+
 pub join-allowed : (b : Stated) (s : List ℕ) (time : ℕ) (out : List ℕ) → joinOf b s time out .refused ≡ 0
-    → Allowed b (joinIn s .node) time × (noRowFor b (joinIn s .node) time ≡ false)
+    → Allowed b (joinIn s .node) time × (noRowFor b (joinIn s .node) time ≡ false) × (joinShort b s time out ≡ false)
 unfolding joinOf
 join-allowed b s time out e =
     let noRow = noRowFor b (joinIn s .node) time in
@@ -70,15 +73,16 @@ join-allowed b s time out e =
         order = not-false _ (n .1 .1 .1 .1 .0);
       },
       n .1 .1 .1 .1 .1 .0,
+      n .1 .1 .1 .1 .1 .1 .0,
     )
 
 pub ask-allowed : (b : Stated) (s : List ℕ) (time : ℕ) (out : List ℕ) → askOf b s time out .refused ≡ 0
-    → Allowed b (askIn s .node) time × (liveAt b (askIn s .node) time ≡ true)
+    → Allowed b (askIn s .node) time × (liveAt b (askIn s .node) time ≡ true) × (askShort b s time out ≡ false)
 unfolding askOf
 ask-allowed b s time out e =
     let live = liveAt b (askIn s .node) time in
     let n =
-    none-holds (askReasons b s time live (short b (askIn s .node) time (rowFor (askIn s .node) (rowsAt b time)) (askedSlots b s time) out)) (
+    none-holds (askReasons b s time live (askShort b s time out)) (
       numbered _ 14 (λ z. omega arith),
       (
         refusing-numbered (refusalAs slotRequest s),
@@ -91,6 +95,7 @@ ask-allowed b s time out e =
         order = not-false _ (n .1 .1 .1 .0);
       },
       not-false live (n .1 .1 .1 .1 .0),
+      n .1 .1 .1 .1 .1 .0,
     )
 
 module _ (b : Stated) (unit hop time : ℕ) (out : List ℕ) (e : scheduleOf b unit hop time out .said .refusal ≡ 0) where

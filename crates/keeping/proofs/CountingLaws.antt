@@ -11,7 +11,7 @@ use Rattle.book.specs.Books.{rowsAt}
 use Rattle.keeping.specs.Laws.{heldSlots, AllAccounted}
 use Rattle.book.proofs.WithinLaws.{within}
 
-held-sum : (rs : List Row) → heldSlots rs ≡ holdings rs
+pub held-sum : (rs : List Row) → heldSlots rs ≡ holdings rs
 unfolding heldSlots weigh
 held-sum [] = refl
 held-sum (r ∷ rs) = ap (λ (n : ℕ). count (r .slots) + n) (held-sum rs)

@@ -51,7 +51,7 @@ module _ (b : Stated) (time : ℕ) (b′ : Stated) (time′ : ℕ) (unit : ℕ) 
   same-holding l p r = record { live = rw (l, p); row = p; slots = ap (λ (i : ℕ). row then i .slots) p ∙ ap (λ (r : Row). r .slots) r }
 
 -- what holds of the book as it was, and of the next where the call is accepted, holds of the next
-by-refusal : (P : Stated → Type 0) (b : Stated) (c : Call) → P b → (refusalOf b c ≡ 0 → P (next b c)) → P (next b c)
+pub by-refusal : (P : Stated → Type 0) (b : Stated) (c : Call) → P b → (refusalOf b c ≡ 0 → P (next b c)) → P (next b c)
 by-refusal P b c old new = go (ℕ-discrete (refusalOf b c) 0)
   where
     go : Dec (refusalOf b c ≡ 0) → P (next b c)

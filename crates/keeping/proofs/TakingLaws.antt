@@ -91,14 +91,14 @@ pub ask-taken : (b : Stated) (s : List ℕ) (time : ℕ) (out : List ℕ) → as
     → Taken b (ask s time out) (rowFor (askIn s .node) (rowsAt b time)) (askedSlots b s time)
 unfolding askOf
 ask-taken b s time out e =
-    let (a, live) = ask-allowed b s time out e in
+    let (a, live, fits) = ask-allowed b s time out e in
     record { allowed = a; place = own-seat a live; share = asked-slots a live (askIn s .slots); book = after-accepted _ b _ e }
 
 pub join-taken : (b : Stated) (s : List ℕ) (time : ℕ) (out : List ℕ) → joinOf b s time out .refused ≡ 0
     → Taken b (join s time out) (seat b (joinIn s .node) time) (joinedSlots b s time)
 unfolding joinOf
 join-taken b s time out e =
-    let (a, room) = join-allowed b s time out e in
+    let (a, room, fits) = join-allowed b s time out e in
     let (place, share) = joining a (joinIn s .slots) room in
     record { allowed = a; place = place; share = share; book = after-accepted _ b _ e }
 

@@ -1,4 +1,9 @@
+pub mod BookRuleLaws
 pub mod FreshLaws
+pub mod KnownLaws
 pub mod LookupLaws
+pub mod ReasonLaws
+pub mod SettledLaws
 pub mod StepLaws
 pub mod TableHistoryLaws
+pub mod ToldLaws

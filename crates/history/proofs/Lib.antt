@@ -1,9 +1,12 @@
+pub mod BookHistoryLaws
 pub mod BookRuleLaws
 pub mod FreshLaws
 pub mod KnownLaws
 pub mod LookupLaws
+pub mod OwnLaws
 pub mod ReasonLaws
 pub mod SettledLaws
 pub mod StepLaws
 pub mod TableHistoryLaws
 pub mod ToldLaws
+pub mod UnitSums

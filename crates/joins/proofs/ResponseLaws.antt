@@ -22,7 +22,7 @@ use Rattle.slots.specs.Sets.{Slots, has, count, [] as []ˢ, _∷_ as _∷ˢ_}
 use Rattle.site.specs.declared.plan.Plan.{Plan}
 use Rattle.site.specs.Plans.{controlAt, dataAt}
 use Rattle.site.specs.Schedules.{controlSlot, dataSlot}
-use Rattle.joins.specs.Responses.{listed, response, responsesFor, responses, toldIn}
+use Rattle.joins.specs.Responses.{listed, slotsTold, response, responsesFor, responses, toldIn}
 
 -- ---- how many bytes
 length-response : (p : Plan) (unit time slot : ℕ) → length (response p unit time slot) ≡ 13
@@ -51,11 +51,18 @@ listed-all zero []ˢ = refl
 listed-all (suc w) (true ∷ˢ s) = ap suc (listed-later true s 0 w ∙ listed-all w s)
 listed-all (suc w) (false ∷ˢ s) = listed-later false s 0 w ∙ listed-all w s
 
+-- a member is told of as many data slots as it holds
+told-many : (w : ℕ) (p : Plan) (own : Slots w) → length (map (dataSlot p) (listed own 0 w)) ≡ count own
+told-many w p own = length-map (listed own 0 w) (dataSlot p) ∙ listed-all w own
+
+pub slots-told : (p : Plan) (row : ℕ) (own : Slots 64) → length (drop 1 (slotsTold p row own)) ≡ count own
+slots-told p row own = told-many 64 p own
+
 -- the control slot and each data slot are told in 13 bytes; said of any width first, since the list of 64 slots would be computed
 length-told : (w : ℕ) (p : Plan) (unit time row : ℕ) (own : Slots w) → length (responsesFor p unit time (controlSlot p row ∷ map (dataSlot p) (listed own 0 w))) ≡ 13 * (1 + count own)
 length-told w p unit time row own =
     let l = length-for p unit time (controlSlot p row ∷ map (dataSlot p) (listed own 0 w)) in
-    omega (arith, length-map (listed own 0 w) (dataSlot p), listed-all w own)
+    omega (arith, told-many w p own)
 
 pub length-responses : (p : Plan) (unit time row : ℕ) (own : Slots 64) → length (responses p unit time row own) ≡ 13 * (1 + count own)
 length-responses p unit time row own = length-told 64 p unit time row own

@@ -8,5 +8,6 @@ pub mod ReasonLaws
 pub mod SettledLaws
 pub mod StepLaws
 pub mod TableHistoryLaws
+pub mod TableRuleLaws
 pub mod ToldLaws
 pub mod UnitSums

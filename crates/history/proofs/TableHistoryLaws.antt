@@ -109,9 +109,10 @@ paged t p time out e =
     let z : first reasons ≡ 0 = sym (unless-number (first reasons) (length frame ∷ [])) ∙ e in
     not-false (withinRule t) (none-holds reasons (numbered _ 14 (λ q. omega arith), (numbered _ 8 (λ q. omega arith), (numbered _ 14 (λ q. omega arith), (numbered _ 5 (λ q. omega arith), tt)))) z .0)
 
-relayed : (t : Table) (s : List ℕ) (time : ℕ) (out : List ℕ) → relayOf t s time out .said .refusal ≡ 0 → withinRule t ≡ true
+-- the number of a relay
+pub relay-number : (t : Table) (s : List ℕ) (time : ℕ) (out : List ℕ) → relayOf t s time out .said .refusal ≡ relayRefusal t s time (length out)
 unfolding relayOf
-relayed t s time out e = relayable t s time (length out) (sym (number (forUs t s)) ∙ e) .within
+relay-number t s time out = number (forUs t s)
   where
     told : Bool → Said
     told us = cond us (accepted (dataIn s .count ∷ [])) (accepted (getD (lookupOf t (dataIn s .destination) time .values) 0 0 ∷ length (copyOf s) ∷ []))
@@ -119,6 +120,9 @@ relayed t s time out e = relayable t s time (length out) (sym (number (forUs t s
     number : (us : Bool) → unless (relayRefusal t s time (length out)) (told us) .refusal ≡ relayRefusal t s time (length out)
     number true = unless-number _ _
     number false = unless-number _ _
+
+relayed : (t : Table) (s : List ℕ) (time : ℕ) (out : List ℕ) → relayOf t s time out .said .refusal ≡ 0 → withinRule t ≡ true
+relayed t s time out e = relayable t s time (length out) (sym (relay-number t s time out) ∙ e) .within
 
 pub keeps-rule : KeepsRule
 keeps-rule = (fresh-within, every-call)

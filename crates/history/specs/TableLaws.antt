@@ -1,15 +1,17 @@
 -- What holds of every table that comes from a fresh one, as statements.
 -- Assumes nothing.
 use mathlib.Core.Path.{_≡_}
-use mathlib.Core.Bool.{true}
+use mathlib.Core.Bool.{Bool, true, false, not}
 use mathlib.Core.List.{List, [], _∷_}
 use Prim.Native.Nat.{ℕ, _≤_}
 use Rattle.octets.specs.Answers.{accepted}
 use Rattle.moments.specs.Moments.{ageAt, inOrder}
 use Rattle.routes.specs.declared.table.Table.{Table}
-use Rattle.routes.specs.Tables.{withinRule, dropped, freshOf, lookupOf}
+use Rattle.routes.specs.Rows.{standing}
+use Rattle.routes.specs.Tables.{rowsOf, withinRule, dropped, freshOf, lookupOf}
+use Rattle.relays.specs.Pages.{pageThere}
 use Rattle.relays.specs.Relays.{relayOf}
-use Rattle.history.specs.TableCalls.{Call, timeOf, next, answer, Update, after, fresh, timesFrom}
+use Rattle.history.specs.TableCalls.{Call, merge, forget, forward, lookup, relay, page, timeOf, next, answer, Update, after, fresh, timesFrom}
 
 -- ---- freshness
 -- updates from this unit have been accepted, and the last of them no later than this time and at most 300,000 ms before it
@@ -41,6 +43,20 @@ RefusedKeeps = (t : Table) (c : Call) → (answer t c .said .refusal ≡ 0 → �
 -- every table that comes from a fresh one is within rule, so that along a history no call is refused for its table
 abbrev pub StaysWithinRule : Type 0
 StaysWithinRule = (own began : ℕ) (cs : List Call) → freshOf own began .refused ≡ 0 → withinRule (after (fresh own began) cs .table) ≡ true
+
+-- 14 is only for a page that is not there
+abbrev pub wrongPage : Table → Call → Bool
+wrongPage t (merge s quality time) = false
+wrongPage t (forget unit time) = false
+wrongPage t (forward network s delay time out) = false
+wrongPage t (lookup d time) = false
+wrongPage t (relay s time out) = false
+wrongPage t (page p time out) = not (pageThere (standing time (rowsOf t)) p)
+
+abbrev pub OnlyForPages : Type 0
+OnlyForPages =
+    (own began : ℕ) (cs : List Call) (c : Call) → freshOf own began .refused ≡ 0
+    → let t = after (fresh own began) cs .table in answer t c .said .refusal ≡ 14 → wrongPage t c ≡ true
 
 -- ---- gone rows
 -- a table and the same table without the rows that are gone answer every call alike

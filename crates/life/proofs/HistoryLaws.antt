@@ -1,21 +1,64 @@
 -- What holds of calls one after the other: the statements of specs/Laws on lists of calls, proved.
 -- Assumes nothing.
-use mathlib.Core.Path.{_≡_, refl}
+use mathlib.Core.Path.{_≡_, refl, ap}
 use mathlib.Core.Bool.{Bool, true, false, not, _||_, false≢true, and-eq-true-iff}
 use mathlib.Core.List.{List, [], _∷_}
 use Prim.Native.Nat.{ℕ, zero, suc, _*_, _<_, _≤_}
 use native.Mathlib.Omega.{arith}
-use borrow.Author.Tests.{lt-ltb, le-ltb, eq-eqb, leb-true}
+use borrow.Author.Tests.{lt-ltb, le-ltb, eq-eqb, eqb-true, leb-true}
 use lib.Dec.{eqb, ltb}
+use Rattle.octets.specs.Answers.{Reason, reason, first}
+use Rattle.octets.proofs.AnswerLaws.{numbered, never-given}
 use Rattle.moments.specs.Moments.{ageAt, inOrder}
 use Rattle.life.specs.States.{Discovery, Joining, Normal, Recovery, Stopped, Nowhere, ready, beacon, accepted, roleChange, recovered, leadsTo, tickTo}
 use Rattle.life.specs.declared.state.State.{State}
-use Rattle.life.specs.Calls.{withinRule, onEvent, onTick, gone}
+use Rattle.life.specs.Calls.{withinRule, freshState, reasons, onEvent, superframeRule, onTick, gone}
 use Rattle.life.specs.Histories.{Call, event, tick, eventsAt, answer, run, early, quiet}
-use Rattle.life.specs.Laws.{NoOtherTrap, NoticesSilence}
+use Rattle.life.specs.Laws.{StaysWithinRule, wrongSuperframe, OnlyForSuperframes, NoOtherTrap, NoticesSilence}
 use Rattle.moments.proofs.MomentLaws.{in-order-self}
 use Rattle.life.proofs.TableLaws.{of-choice}
 use Rattle.life.proofs.LifeLaws.{keeps-rule}
+
+-- what holds of a state holds after a refused call
+refused-stays : (P : State → Type 0) (s : State) (c : Call) → P s → eqb (answer s c .refused) 0 ≡ false → P (answer s c .state)
+unfolding onEvent onTick
+refused-stays P s (event number time) h e = rw e h
+refused-stays P s (tick ms time) h e = rw e h
+
+-- ---- the rule
+accepted-within : (s : State) (c : Call) → answer s c .refused ≡ 0 → withinRule (answer s c .state) ≡ true
+accepted-within s (event number time) z = keeps-rule .1 s time .0 number z
+accepted-within s (tick ms time) z = keeps-rule .1 s time .1 ms z
+
+next-within : (s : State) (c : Call) → withinRule s ≡ true → withinRule (answer s c .state) ≡ true
+next-within s c w = go (eqb (answer s c .refused) 0) refl
+  where
+    go : (b : Bool) → eqb (answer s c .refused) 0 ≡ b → withinRule (answer s c .state) ≡ true
+    go true e = accepted-within s c (eqb-true (answer s c .refused) 0 e)
+    go false e = refused-stays (λ s. withinRule s ≡ true) s c w e
+
+run-within : (s : State) (cs : List Call) → withinRule s ≡ true → withinRule (run s cs) ≡ true
+run-within s [] w = w
+run-within s (c ∷ cs) w = run-within (answer s c .state) cs (next-within s c w)
+
+pub stays-within-rule : StaysWithinRule
+stays-within-rule began cs = run-within (freshState began) cs (keeps-rule .0 began)
+
+-- 14 is then the call's own
+never-fourteen : (s : State) (time : ℕ) (own : Reason) → withinRule s ≡ true → (own .number ≡ 14 → own .holds ≡ false) → first (reasons s time own) ≡ 14 → ⊥
+never-fourteen s time own w h = never-given 14 (reasons s time own) (λ z. omega arith) (λ e. ap not w, (numbered _ 8 (λ z. omega arith), (h, tt)))
+
+only-superframes : (s : State) (c : Call) → withinRule s ≡ true → answer s c .refused ≡ 14 → wrongSuperframe c ≡ true
+unfolding onEvent onTick
+only-superframes s (event number time) w e = absurd (never-fourteen s time (reason (eqb (leadsTo (s .kind) number) Nowhere) 7) w (numbered _ 7 (λ z. omega arith)) e)
+only-superframes s (tick ms time) w e = go (superframeRule ms) refl
+  where
+    go : (b : Bool) → superframeRule ms ≡ b → not b ≡ true
+    go true q = absurd (never-fourteen s time (reason (not (superframeRule ms)) 14) w (λ z. ap not q) e)
+    go false q = refl
+
+pub only-for-superframes : OnlyForSuperframes
+only-for-superframes began cs c = only-superframes (run (freshState began) cs) c (stays-within-rule began cs)
 
 -- ---- a way to Normal
 -- what an event needs to be accepted: a state of this kind within rule, and a time in order
@@ -66,12 +109,7 @@ record Hearing (heard : ℕ) (s : State) : Type 0 where
   pub normal : s .kind ≡ Normal
   pub last : s .beacon ≡ heard
 
--- a refused call leaves it so, and so does a tick no more than three superframes after that beacon
-refused-stays : {heard : ℕ} {s : State} (c : Call) → Hearing heard s → eqb (answer s c .refused) 0 ≡ false → Hearing heard (answer s c .state)
-unfolding onEvent onTick
-refused-stays (event number time) h e = rw e h
-refused-stays (tick ms time) h e = rw e h
-
+-- a tick no more than three superframes after that beacon leaves it so
 early-stays : {heard : ℕ} {s : State} (c : Call) → Hearing heard s → early heard c ≡ true → Hearing heard (answer s c .state)
 unfolding onTick tickTo gone
 early-stays (event number time) h e = absurd (false≢true e)
@@ -84,7 +122,7 @@ stays {heard} {s} c h e = go (eqb (answer s c .refused) 0) refl e
   where
     go : (b : Bool) → eqb (answer s c .refused) 0 ≡ b → (not b || early heard c) ≡ true → Hearing heard (answer s c .state)
     go true q e = early-stays c h e
-    go false q e = refused-stays c h q
+    go false q e = refused-stays (Hearing heard) s c h q
 
 stays-all : {heard : ℕ} (s : State) (cs : List Call) → Hearing heard s → quiet heard s cs ≡ true → Hearing heard (run s cs)
 stays-all s [] h q = h

@@ -47,8 +47,12 @@ onEvent s event time =
     let to = leadsTo (s .kind) event in
     stepped s time (reason (eqb to Nowhere) 7) to (eqb event beacon)
 
+-- a superframe has 1 to 6,553,500 ms
+abbrev pub superframeRule : ℕ → Bool
+superframeRule ms = leb 1 ms && leb ms 6553500
+
 -- a tick at a time, which names the superframe's ms: 14, 8, 14. It is never 7 and makes one change at most
 unfoldable pub onTick : State → ℕ → ℕ → Lived
 onTick s ms time =
     let to = tickTo (s .kind) (ageAt time (s .entered)) (ageAt time (s .beacon)) ms in
-    stepped s time (reason (not (leb 1 ms && leb ms 6553500)) 14) to Bool.false
+    stepped s time (reason (not (superframeRule ms)) 14) to Bool.false

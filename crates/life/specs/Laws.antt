@@ -1,13 +1,13 @@
 -- What holds of every life, as statements.
 -- Assumes nothing.
 use mathlib.Core.Path.{_≡_}
-use mathlib.Core.Bool.{true}
+use mathlib.Core.Bool.{Bool, true, false, not}
 use mathlib.Core.List.{List}
 use Prim.Native.Nat.{ℕ, _*_, _<_, _≤_}
 use Rattle.moments.specs.Moments.{ageAt, inOrder}
 use Rattle.life.specs.declared.state.State.{State}
-use Rattle.life.specs.Calls.{withinRule, freshState, onEvent, onTick}
-use Rattle.life.specs.Histories.{Call, eventsAt, run, quiet}
+use Rattle.life.specs.Calls.{withinRule, freshState, onEvent, superframeRule, onTick}
+use Rattle.life.specs.Histories.{Call, event, tick, eventsAt, answer, run, quiet}
 use Rattle.life.specs.States.{Normal, Recovery, Stopped, leadsTo}
 
 -- a fresh state is within rule, and every accepted call gives one that is
@@ -17,6 +17,18 @@ KeepsRule =
     × ((s : State) (time : ℕ)
     → ((event : ℕ) → onEvent s event time .refused ≡ 0 → withinRule (onEvent s event time .state) ≡ true)
     × ((ms : ℕ) → onTick s ms time .refused ≡ 0 → withinRule (onTick s ms time .state) ≡ true))
+
+-- so every state of a life is within rule
+abbrev pub StaysWithinRule : Type 0
+StaysWithinRule = (began : ℕ) (cs : List Call) → withinRule (run (freshState began) cs) ≡ true
+
+-- and 14 is never for the state: it is only for a superframe length that the caller names
+abbrev pub wrongSuperframe : Call → Bool
+wrongSuperframe (event number time) = false
+wrongSuperframe (tick ms time) = not (superframeRule ms)
+
+abbrev pub OnlyForSuperframes : Type 0
+OnlyForSuperframes = (began : ℕ) (cs : List Call) (c : Call) → answer (run (freshState began) cs) c .refused ≡ 14 → wrongSuperframe c ≡ true
 
 -- Stopped is never left
 abbrev pub StaysStopped : Type 0

@@ -79,7 +79,7 @@ abbrev pub Knows : Stated → ℕ → Grant → Type 0
 Knows b unit g = (later : ℕ) → inOrder (b .time) later ≡ true → slotsAt b unit later ≡ counts (b .plan) unit later g
 
 nothing-counts : (p : Plan) (unit later time : ℕ) → counts p unit later (grant [] time) ≡ []
-nothing-counts p unit later time = go (eqb unit (p .manager) || leb (ageAt later time) 300000)
+nothing-counts p unit later time = go (eqb unit (p .manager) || leb (ageAt later time) _)
   where
     go : (t : Bool) → _≡_ {A = List ℕ} (cond t [] []) []
     go true = refl
@@ -133,7 +133,7 @@ heard-told b unit time g z k =
     let t = heard-taken b unit time z in
     let live = lt-ltb (rowFor unit (rowsAt b time)) (length (rowsAt b time)) (t .place .there) in
     let slots = slotsTold (b .plan) (rowFor unit (rowsAt b time)) (holding b unit time) in
-    told-of (eqb unit (b .plan .manager) || leb (ageAt time (g .time)) 300000) _ _ (g .told)
+    told-of (eqb unit (b .plan .manager) || leb (ageAt time (g .time)) _) _ _ (g .told)
     (sym (ap (λ (l : Bool). cond l slots []) live) ∙ k time (t .allowed .order))
 
 -- who left has nothing

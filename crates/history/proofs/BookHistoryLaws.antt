@@ -1,17 +1,16 @@
 -- The theorems on books that follow from each book of a history being within rule: joining, counting, sending.
 -- Assumes nothing.
-use mathlib.Core.Path.{_≡_, refl, sym, ap, ap₂, _∙_}
+use mathlib.Core.Path.{_≡_, refl, sym, ap, _∙_}
 use mathlib.Core.Bool.{Bool, true, false, cond, and-eq-true-iff}
-use mathlib.Core.List.{List, [], _∷_, map}
+use mathlib.Core.List.{List, []}
 use Prim.Native.Nat.{ℕ, zero, suc, _+_, _≤_}
 use native.Mathlib.Omega.{arith}
 use borrow.Author.Tests.{le-leb, leb-true}
-use lib.Dec.{leb, ltb}
+use lib.Dec.{leb}
 use lib.ListN.{length, drop}
 use Rattle.moments.specs.Moments.{inOrder}
 use Rattle.shapes.specs.Rules.{address}
 use Rattle.slots.specs.Sets.{Slots, count}
-use Rattle.site.specs.declared.plan.Plan.{Plan}
 use Rattle.members.specs.Members.{rowFor, free}
 use Rattle.members.proofs.RowSums.{weigh}
 use Rattle.members.proofs.RowRuleLaws.{address-some, ruled-current}

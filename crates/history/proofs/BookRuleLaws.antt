@@ -12,11 +12,10 @@ use Rattle.octets.specs.Answers.{reason, first}
 use Rattle.octets.proofs.AnswerLaws.{numbered, never-given, none-holds, unless-number}
 use Rattle.octets.proofs.CallLaws.{after-accepted}
 use Rattle.requests.specs.Requests.{joinRequest, slotRequest}
-use Rattle.site.specs.declared.plan.Plan.{Plan}
 use Rattle.book.specs.Books.{Stated, withinRule, liveAt, noBook, memberReasons, heardOf, leaveOf}
 use Rattle.book.specs.Schedules.{hopRule, scheduleReasons, scheduleRefusal, scheduleOf}
 use Rattle.joins.specs.Joins.{joinIn, noRowFor, joinReasons, joinOf, askIn, askReasons, askOf}
-use Rattle.keeping.specs.Calls.{Call, join, ask, heard, leave, schedule}
+use Rattle.keeping.specs.Calls.{join, ask, heard, leave, schedule}
 use Rattle.keeping.proofs.CallLaws.{joinShort, askShort}
 use Rattle.keeping.proofs.RuleLaws.{keeps-rule, keeps-plan}
 use Rattle.keeping.proofs.HoldingLaws.{by-refusal}

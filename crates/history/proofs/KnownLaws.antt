@@ -23,7 +23,6 @@ use Rattle.members.proofs.LookupLaws.{found-tally, found-none, found-unit}
 use Rattle.members.proofs.RowRuleLaws.{address-some, units-least}
 use Rattle.book.specs.Books.{Stated, withinRule, rowsIn, rowsAt, liveAt, heardOf, leaveOf}
 use Rattle.book.proofs.WithinLaws.{within}
-use Rattle.joins.specs.Joins.{joinOf, askOf}
 use Rattle.joins.specs.Responses.{slotsTold}
 use Rattle.keeping.specs.Calls.{Call, join, ask, heard, leave, schedule, refusalOf}
 use Rattle.keeping.specs.Calls as keeping

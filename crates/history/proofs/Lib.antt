@@ -8,6 +8,7 @@ pub mod ReasonLaws
 pub mod SettledLaws
 pub mod StepLaws
 pub mod TableHistoryLaws
+pub mod TableReasons
 pub mod TableRuleLaws
 pub mod ToldLaws
 pub mod UnitSums

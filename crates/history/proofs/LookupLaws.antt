@@ -1,7 +1,7 @@
 -- What a lookup that is accepted rests on, and a relay that passes a frame on.
 -- Assumes nothing.
 use mathlib.Core.Path.{_≡_, sym, ap, _∙_}
-use mathlib.Core.Bool.{true, not, _&&_, and-eq-true-iff}
+use mathlib.Core.Bool.{true, and-eq-true-iff}
 use mathlib.Core.List.{List, [], _∷_}
 use Prim.Native.Nat.{ℕ}
 use native.Mathlib.Decide.{ℕ-discrete}
@@ -9,7 +9,7 @@ use native.Mathlib.Omega.{arith}
 use borrow.Author.Tests.{eqb-true, not-false}
 use lib.Dec.{eqb}
 use lib.ListN.{length}
-use Rattle.octets.specs.Answers.{Said, accepted, reason, first, unless}
+use Rattle.octets.specs.Answers.{Said, accepted, first, unless}
 use Rattle.octets.proofs.AnswerLaws.{unless-none, unless-some, unless-number, numbered, none-holds}
 use Rattle.moments.specs.Moments.{inOrder}
 use Rattle.shapes.specs.Rules.{address}
@@ -17,6 +17,7 @@ use Rattle.routes.specs.declared.row.Row.{Row}
 use Rattle.routes.specs.declared.table.Table.{Table}
 use Rattle.routes.specs.Rows.{usable, rowFor}
 use Rattle.routes.specs.Tables.{rowsOf, withinRule, lookupOf}
+use Rattle.history.proofs.TableReasons.{lookupReasons}
 
 -- the row that a lookup answers by
 abbrev pub answering : Table → ℕ → Row
@@ -34,12 +35,7 @@ pub found : (t : Table) (d time : ℕ) → lookupOf t d time .refusal ≡ 0 → 
 unfolding lookupOf
 found t d time e =
     let r = answering t d in
-    let reasons =
-    reason (not (withinRule t)) 14 ∷
-    reason (not (address d)) 4 ∷
-    reason (not (inOrder (t .time) time)) 8 ∷
-    reason (not (eqb (r .destination) d && usable time r)) 11 ∷
-    [] in
+    let reasons = lookupReasons t d time in
     let z : first reasons ≡ 0 = sym (unless-number (first reasons) (r .«next_hop» ∷ r .hops ∷ [])) ∙ e in
     let n = none-holds reasons (numbered _ 14 (λ q. omega arith), (numbered _ 4 (λ q. omega arith), (numbered _ 8 (λ q. omega arith), (numbered _ 11 (λ q. omega arith), tt)))) z in
     let (same, carries) = and-eq-true-iff (eqb (r .destination) d) (usable time r) .0 (not-false _ (n .1 .1 .1 .0)) in

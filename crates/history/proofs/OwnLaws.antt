@@ -2,7 +2,7 @@
 -- Assumes nothing.
 use mathlib.Core.Path.{_≡_, refl, sym, ap, subst, _∙_}
 use mathlib.Core.Bool.{Bool, true, false, not, _&&_, false≢true, and-eq-true-iff}
-use mathlib.Core.List.{List, [], _∷_, _++_}
+use mathlib.Core.List.{List, [], _∷_}
 use mathlib.Core.Logic.{_⊎_, inl, inr}
 use Prim.Native.Nat.{ℕ}
 use native.Mathlib.Decide.{ℕ-discrete}
@@ -22,7 +22,7 @@ use Rattle.keeping.proofs.TakingLaws.{heard-taken}
 use Rattle.keeping.proofs.RuleLaws.{refused-keeps}
 use Rattle.keeping.proofs.HoldingLaws.{others-stay, keeps-own}
 use Rattle.keeping.proofs.SilenceLaws.{stays-while-live}
-use Rattle.history.specs.BookEvents.{begun, Event, call, image, next, after, answer, Happened, recorded}
+use Rattle.history.specs.BookEvents.{begun, Event, call, image, next, after, answer, recorded}
 use Rattle.history.specs.BookLaws.{bookAfter, moves, its, StaysItsOwn}
 use Rattle.history.proofs.SettledLaws.{Settled, settles}
 use Rattle.history.proofs.BookRuleLaws.{rule-next, stays-within-rule, plan-after, after-more}

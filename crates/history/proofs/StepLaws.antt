@@ -1,20 +1,17 @@
 -- One call after the other: what holds of a table and its log stays so.
 -- Assumes nothing.
 use mathlib.Core.Path.{_≡_, refl, ap, _∙_}
-use mathlib.Core.Bool.{Bool, true, not, and-eq-true-iff}
+use mathlib.Core.Bool.{Bool, true, and-eq-true-iff}
 use mathlib.Core.List.{List, [], _∷_, map}
 use Prim.Native.Nat.{ℕ}
 use native.Mathlib.Decide.{ℕ-discrete}
 use native.Mathlib.Omega.{arith}
 use borrow.Author.Tests.{eq-eqb, ne-eqb, not-false}
-use lib.Dec.{eqb}
 use lib.ListN.{length}
-use Rattle.octets.specs.Answers.{reason}
 use Rattle.octets.specs.Lists.{every}
 use Rattle.octets.proofs.AnswerLaws.{numbered, none-holds}
 use Rattle.moments.specs.Moments.{inOrder}
 use Rattle.moments.proofs.MomentLaws.{in-order-self, in-order-on}
-use Rattle.shapes.specs.Rules.{address}
 use Rattle.shapes.specs.Shape.{partIn}
 use Rattle.traffic.specs.Traffic.{update, entriesOf}
 use Rattle.routes.specs.declared.row.Row.{Row}
@@ -36,6 +33,7 @@ use Rattle.relays.specs.Forwards.{forwardRefusal, forwardOf}
 use Rattle.relays.proofs.ForwardLaws.{onward, forward-within}
 use Rattle.history.specs.TableCalls.{Call, merge, forget, forward, lookup, relay, page, next, Update, logged, Past, after, fresh}
 use Rattle.history.proofs.FreshLaws.{borne, before, borne-on, borne-new, borne-kept, borne-forgotten, logged-on}
+use Rattle.history.proofs.TableReasons.{forgetReasons}
 
 -- what holds of a table and of the updates that were accepted on the way to it
 pub record Good (p : Past) : Type 0 where
@@ -93,7 +91,7 @@ module _ (t : Table) (log : List Update) (g : Good (record { table = t; log = lo
   unfolding forgetOf
   forgotten-good unit time z =
       let none =
-      none-holds (reason (not (withinRule t)) 14 ∷ reason (not (address unit)) 4 ∷ reason (eqb unit (t .own)) 6 ∷ reason (not (inOrder (t .time) time)) 8 ∷ [])
+      none-holds (forgetReasons t unit time)
       (numbered _ 14 (λ q. omega arith), (numbered _ 4 (λ q. omega arith), (numbered _ 6 (λ q. omega arith), (numbered _ 8 (λ q. omega arith), tt)))) z in
       let o = not-false (inOrder (t .time) time) (none .1 .1 .1 .0) in
       let new = map (forgotten unit time) (standing time rs) in

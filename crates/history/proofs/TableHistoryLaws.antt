@@ -7,25 +7,24 @@ use Prim.Native.Nat.{ℕ}
 use native.Mathlib.Decide.{ℕ-discrete}
 use native.Mathlib.Omega.{arith}
 use borrow.Author.Tests.{ne-eqb, eqb-true, not-false}
-use lib.Dec.{eqb, leb, ltb}
+use lib.Dec.{eqb}
 use lib.ListN.{length, getD}
-use Rattle.octets.specs.Answers.{Said, accepted, reason, refusing, first, unless}
+use Rattle.octets.specs.Answers.{Said, accepted, first, unless}
 use Rattle.octets.proofs.AnswerLaws.{unless-number, numbered, refusing-numbered, none-holds}
-use Rattle.moments.specs.Moments.{inOrder}
 use Rattle.shapes.specs.Reading.{refusalAs}
 use Rattle.traffic.specs.Traffic.{dataKind}
 use Rattle.routes.specs.declared.table.Table.{Table}
-use Rattle.routes.specs.Rows.{standing}
-use Rattle.routes.specs.Tables.{rowsOf, withinRule, lookupOf}
+use Rattle.routes.specs.Tables.{withinRule, lookupOf}
 use Rattle.routes.proofs.DroppedLaws.{dropped-lookup, dropped-forget, dropped-forgets}
 use Rattle.routes.proofs.KeepLaws.{fresh-within, forget-within}
 use Rattle.merges.proofs.KeepLaws.{merge-within, dropped-merge, dropped-merges}
-use Rattle.relays.specs.Pages.{pageFrame, pageThere, pageOf}
+use Rattle.relays.specs.Pages.{pageFrame, pageOf}
 use Rattle.relays.specs.Relays.{dataIn, forUs, copyOf, relayRefusal, relayOf}
 use Rattle.relays.proofs.AlikeLaws.{relay-alike, page-alike, forward-refused, forward-written, forward-held, forward-table}
 use Rattle.relays.proofs.ForwardLaws.{forward-within}
 use Rattle.history.specs.TableCalls.{Call, merge, forget, forward, lookup, relay, page, next, newTable, answer, after, fresh}
 use Rattle.history.specs.TableLaws.{Freshness, KeepsRule, RefusedKeeps, StaysWithinRule, GoneRowsDoNotMatter}
+use Rattle.history.proofs.TableReasons.{relayReasons, pageReasons}
 use Rattle.history.proofs.FreshLaws.{heard}
 use Rattle.history.proofs.LookupLaws.{answering, Found, found, with-values}
 use Rattle.history.proofs.StepLaws.{good-after, good-fresh, merge-kept, forget-kept, forward-kept}
@@ -38,17 +37,8 @@ pub record Relayable (t : Table) (s : List ℕ) (time room : ℕ) : Type 0 where
 relayable : (t : Table) (s : List ℕ) (time room : ℕ) → relayRefusal t s time room ≡ 0 → Relayable t s time room
 unfolding relayRefusal
 relayable t s time room e =
-    let other = not (forUs t s) in
     let n =
-    none-holds
-    (reason (not (withinRule t)) 14 ∷
-    refusing (refusalAs dataKind s) ∷
-    reason (eqb (dataIn s .source) (t .own)) 6 ∷
-    reason (not (inOrder (t .time) time)) 8 ∷
-    reason (other && leb (dataIn s .ttl) 1) 10 ∷
-    reason (other && not (eqb (lookupOf t (dataIn s .destination) time .refusal) 0)) 11 ∷
-    reason (other && ltb room (length (copyOf s))) 5 ∷
-    []) (
+    none-holds (relayReasons t s time room) (
       numbered _ 14 (λ q. omega arith),
       (
         refusing-numbered (refusalAs dataKind s),
@@ -99,14 +89,8 @@ stays-within-rule own began cs z = good-after (fresh own began) cs (good-fresh o
 paged : (t : Table) (p time : ℕ) (out : List ℕ) → pageOf t p time out .said .refusal ≡ 0 → withinRule t ≡ true
 unfolding pageOf
 paged t p time out e =
-    let frame = pageFrame t p time in
-    let reasons =
-    reason (not (withinRule t)) 14 ∷
-    reason (not (inOrder (t .time) time)) 8 ∷
-    reason (not (pageThere (standing time (rowsOf t)) p)) 14 ∷
-    reason (ltb (length out) (length frame)) 5 ∷
-    [] in
-    let z : first reasons ≡ 0 = sym (unless-number (first reasons) (length frame ∷ [])) ∙ e in
+    let reasons = pageReasons t p time (length out) in
+    let z : first reasons ≡ 0 = sym (unless-number (first reasons) (length (pageFrame t p time) ∷ [])) ∙ e in
     not-false (withinRule t) (none-holds reasons (numbered _ 14 (λ q. omega arith), (numbered _ 8 (λ q. omega arith), (numbered _ 14 (λ q. omega arith), (numbered _ 5 (λ q. omega arith), tt)))) z .0)
 
 -- the number of a relay

@@ -1,31 +1,26 @@
 -- Along a history from a fresh table, 14 is only for a page that is not there.
 -- Assumes nothing.
 use mathlib.Core.Path.{_≡_, sym, _∙_}
-use mathlib.Core.Bool.{true, false, not, _&&_}
-use mathlib.Core.List.{List, [], _∷_, _++_}
+use mathlib.Core.Bool.{true, false, not}
+use mathlib.Core.List.{List}
 use Prim.Native.Nat.{ℕ}
 use native.Mathlib.Omega.{arith}
-use lib.Dec.{eqb, leb, ltb}
 use lib.ListN.{length}
-use Rattle.octets.specs.Answers.{reason, refusing, first}
+use Rattle.octets.specs.Answers.{reason}
 use Rattle.octets.proofs.AnswerLaws.{numbered, never-given, unless-number}
-use Rattle.moments.specs.Moments.{inOrder}
-use Rattle.shapes.specs.Reading.{refusalAs}
-use Rattle.shapes.specs.Rules.{address}
-use Rattle.shapes.specs.Rules as rules
 use Rattle.traffic.specs.Traffic.{dataKind, update}
 use Rattle.beacons.specs.Beacons.{beacon}
 use Rattle.routes.specs.declared.table.Table.{Table}
-use Rattle.routes.specs.Rows.{usable, rowFor, standing}
+use Rattle.routes.specs.Rows.{standing}
 use Rattle.routes.specs.Tables.{rowsOf, withinRule, lookupRefusal, lookupOf, forgetOf}
-use Rattle.merges.specs.Merges.{updateIn, mergeRefusal, mergeOf}
-use Rattle.relays.specs.Forwards.{passingOf, passingReasons, beaconIn, forwardRefusal, forwardOf}
-use Rattle.relays.specs.Forwards as forwards
-use Rattle.relays.specs.Pages.{pageThere, pageFrame, pageRefusal, pageOf}
-use Rattle.relays.specs.Relays.{dataIn, forUs, copyOf, relayRefusal}
+use Rattle.merges.specs.Merges.{mergeRefusal, mergeOf}
+use Rattle.relays.specs.Forwards.{forwardRefusal, forwardOf}
+use Rattle.relays.specs.Pages.{pageThere, pageRefusal, pageOf}
+use Rattle.relays.specs.Relays.{relayRefusal}
 use Rattle.history.specs.TableCalls.{Call, merge, forget, forward, lookup, relay, page, answer, after, fresh}
 use Rattle.history.specs.TableLaws.{wrongPage, OnlyForPages}
 use Rattle.history.proofs.ReasonLaws.{some-number, in-rule, read-never, only-so}
+use Rattle.history.proofs.TableReasons.{mergeReasons, forgetReasons, forwardReasons, lookupReasons, relayReasons, pageReasons}
 use Rattle.history.proofs.TableHistoryLaws.{relay-number, stays-within-rule}
 
 module _ (t : Table) (w : withinRule t ≡ true) where
@@ -35,30 +30,19 @@ module _ (t : Table) (w : withinRule t ≡ true) where
   merge-never : (s : List ℕ) (quality time : ℕ) → mergeRefusal t s quality time ≡ 14 → ⊥
   unfolding mergeRefusal
   merge-never s quality time =
-      never-given 14
-      (reason (not (withinRule t)) 14 ∷
-      refusing (refusalAs update s) ∷
-      reason (eqb (updateIn s .origin) (t .own)) 6 ∷
-      reason (not (inOrder (t .time) time)) 8 ∷
-      reason (ltb quality 40) 9 ∷
-      []) some-number
+      never-given 14 (mergeReasons t s quality time) some-number
       (within-reason, (read-never update s, (numbered _ 6 (λ z. omega arith), (numbered _ 8 (λ z. omega arith), (numbered _ 9 (λ z. omega arith), tt)))))
 
   forget-never : (unit time : ℕ) → forgetOf t unit time .refused ≡ 14 → ⊥
   unfolding forgetOf
   forget-never unit time =
-      never-given 14
-      (reason (not (withinRule t)) 14 ∷ reason (not (address unit)) 4 ∷ reason (eqb unit (t .own)) 6 ∷ reason (not (inOrder (t .time) time)) 8 ∷ []) some-number
+      never-given 14 (forgetReasons t unit time) some-number
       (within-reason, (numbered _ 4 (λ z. omega arith), (numbered _ 6 (λ z. omega arith), (numbered _ 8 (λ z. omega arith), tt))))
 
   forward-never : (network : ℕ) (s : List ℕ) (delay time room : ℕ) → forwardRefusal t network s delay time room ≡ 14 → ⊥
   unfolding forwardRefusal
   forward-never network s delay time room =
-      never-given 14
-      (reason (not (withinRule t)) 14 ∷
-      refusing (refusalAs beacon s) ∷
-      reason (not (rules.network network)) 4 ∷
-      passingReasons t network (passingOf (beaconIn s)) delay time ++ (reason (ltb room (length (forwards.copyOf t delay s))) 5 ∷ [])) some-number (
+      never-given 14 (forwardReasons t network s delay time room) some-number (
         within-reason,
         (
           read-never beacon s,
@@ -71,24 +55,13 @@ module _ (t : Table) (w : withinRule t ≡ true) where
 
   lookup-never : (d time : ℕ) → lookupRefusal t d time ≡ 14 → ⊥
   lookup-never d time =
-      let r = rowFor d (rowsOf t) in
-      never-given 14
-      (reason (not (withinRule t)) 14 ∷ reason (not (address d)) 4 ∷ reason (not (inOrder (t .time) time)) 8 ∷ reason (not (eqb (r .destination) d && usable time r)) 11 ∷ [])
-      some-number (within-reason, (numbered _ 4 (λ z. omega arith), (numbered _ 8 (λ z. omega arith), (numbered _ 11 (λ z. omega arith), tt))))
+      never-given 14 (lookupReasons t d time) some-number
+      (within-reason, (numbered _ 4 (λ z. omega arith), (numbered _ 8 (λ z. omega arith), (numbered _ 11 (λ z. omega arith), tt))))
 
   relay-never : (s : List ℕ) (time room : ℕ) → relayRefusal t s time room ≡ 14 → ⊥
   unfolding relayRefusal
   relay-never s time room =
-      let other = not (forUs t s) in
-      never-given 14
-      (reason (not (withinRule t)) 14 ∷
-      refusing (refusalAs dataKind s) ∷
-      reason (eqb (dataIn s .source) (t .own)) 6 ∷
-      reason (not (inOrder (t .time) time)) 8 ∷
-      reason (other && leb (dataIn s .ttl) 1) 10 ∷
-      reason (other && not (eqb (lookupOf t (dataIn s .destination) time .refusal) 0)) 11 ∷
-      reason (other && ltb room (length (copyOf s))) 5 ∷
-      []) some-number (
+      never-given 14 (relayReasons t s time room) some-number (
         within-reason,
         (
           read-never dataKind s,
@@ -98,12 +71,7 @@ module _ (t : Table) (w : withinRule t ≡ true) where
 
   page-never : (p time room : ℕ) → pageThere (standing time (rowsOf t)) p ≡ true → pageRefusal t p time room ≡ 14 → ⊥
   page-never p time room there =
-      never-given 14
-      (reason (not (withinRule t)) 14 ∷
-      reason (not (inOrder (t .time) time)) 8 ∷
-      reason (not (pageThere (standing time (rowsOf t)) p)) 14 ∷
-      reason (ltb room (length (pageFrame t p time))) 5 ∷
-      []) some-number
+      never-given 14 (pageReasons t p time room) some-number
       (within-reason, (numbered _ 8 (λ z. omega arith), (in-rule (pageThere (standing time (rowsOf t)) p) there, (numbered _ 5 (λ z. omega arith), tt))))
 
   only-pages : (c : Call) → answer t c .said .refusal ≡ 14 → wrongPage t c ≡ true

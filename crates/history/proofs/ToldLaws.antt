@@ -1,7 +1,7 @@
 -- What an accepted request is answered with: the responses in the buffer tell the slots that the unit then has.
 -- Assumes nothing.
-use mathlib.Core.Path.{_≡_, refl, ap₂, _∙_}
-use mathlib.Core.Bool.{true, false}
+use mathlib.Core.Path.{_≡_, ap₂, _∙_}
+use mathlib.Core.Bool.{true}
 use mathlib.Core.List.{List}
 use Prim.Native.Nat.{ℕ, _+_, _/_, _^_, _≤_, _<_}
 use native.Mathlib.Omega.{arith}
@@ -19,7 +19,7 @@ use Rattle.book.proofs.WithinLaws.{within}
 use Rattle.joins.specs.Joins.{grants, seat, joinIn, joinOf, askIn, askOf}
 use Rattle.joins.specs.Responses.{slotsTold, responses, toldIn}
 use Rattle.joins.proofs.ResponseLaws.{small-told, told-back}
-use Rattle.keeping.proofs.CallLaws.{Allowed, joinedSlots, askedSlots, join-allowed, ask-allowed}
+use Rattle.keeping.proofs.CallLaws.{joinedSlots, askedSlots, join-allowed, ask-allowed}
 use Rattle.keeping.proofs.TakingLaws.{join-taken, ask-taken}
 
 -- what is written where nothing refuses the request, and there is room for it

@@ -2,7 +2,7 @@
 -- that each unit was granted.
 -- Assumes nothing.
 use Prim.Native.Nat.{ℕ, zero, suc, _+_, _/_}
-use mathlib.Core.Bool.{Bool, true, false, _&&_, _||_, cond}
+use mathlib.Core.Bool.{_&&_, _||_, cond}
 use mathlib.Core.List.{List, [], _∷_}
 use lib.Dec.{eqb, leb}
 use lib.ListN.{length, getD, drop}
@@ -11,7 +11,7 @@ use Rattle.site.specs.declared.plan.Plan.{Plan}
 use Rattle.members.specs.Members.{emptyRow, rowFor}
 use Rattle.book.specs.Books.{Stated, Left, rowsIn, heardOf, leaveOf, freshOf}
 use Rattle.book.specs.Schedules.{scheduleOf}
-use Rattle.joins.specs.Joins.{Answered, joinOf, askOf}
+use Rattle.joins.specs.Joins.{joinOf, askOf}
 use Rattle.joins.specs.Responses.{slotsTold, toldIn}
 use Rattle.keeping.specs.Calls.{Call, join, ask, heard, leave, schedule}
 use Rattle.keeping.specs.Calls as keeping

@@ -29,32 +29,32 @@ step b c said after cs h = rw (h .says, h .leaves)
 
 -- ---- the books, at time 0
 -- a member with the data slots whose bits are set in a mask: 14 is 1 to 3, 16 is 4, 32 is 5, 22 is 1, 2 and 4, 8 is 3
-member : ℕ → ℕ → Row
+unfoldable pub member : ℕ → ℕ → Row
 member unit mask = record { unit = unit; slots = slotsOf mask; time = 0 }
 
-nobody : Row
+unfoldable pub nobody : Row
 nobody = emptyRow
 
 -- the manager with its lowest data slot, and three rows
-site : Row → Row → Row → Stated
+unfoldable pub site : Row → Row → Row → Stated
 site a b c = record { plan = sitePlan; time = 0; places = member 0x0100 1 ∷ a ∷ b ∷ c ∷ replicate 17 emptyRow }
 
-one : Stated
+unfoldable pub one : Stated
 one = site (member 0x0201 14) nobody nobody
 
-two : Stated
+unfoldable pub two : Stated
 two = site (member 0x0201 14) (member 0x0202 16) nobody
 
-full : Stated
+unfoldable pub full : Stated
 full = site (member 0x0201 14) (member 0x0202 16) (member 0x0203 32)
 
-left : Stated
+unfoldable pub left : Stated
 left = site nobody (member 0x0202 16) (member 0x0203 32)
 
-grown : Stated
+unfoldable pub grown : Stated
 grown = site nobody (member 0x0202 22) (member 0x0203 32)
 
-settled : Stated
+unfoldable pub settled : Stated
 settled = site (member 0x0204 8) (member 0x0202 22) (member 0x0203 32)
 
 -- each call, computed

@@ -1,7 +1,8 @@
 -- Document 01's story of units that join, ask and leave, as calls on one book from its fresh state on.
 -- Assumes nothing.
 use Prim.Native.Nat.{ℕ, _/_}
-use mathlib.Core.List.{List, [], _∷_}
+use mathlib.Core.Path.{_≡_}
+use mathlib.Core.List.{List, [], _∷_, map}
 use lib.ListN.{replicate}
 use Rattle.shapes.specs.Shape.{frameOf}
 use Rattle.requests.specs.Requests.{joinRequest, joinRequestValues, slotRequest, slotRequestValues}
@@ -11,6 +12,7 @@ use Rattle.book.specs.Schedules.{scheduleOf}
 use Rattle.joins.specs.Joins.{Answered, joinOf, askOf}
 use Rattle.joins.specs.Responses.{toldIn}
 use Rattle.keeping.specs.Calls.{Call, join, ask, heard, leave, schedule, next}
+use Rattle.history.specs.BookEvents.{fresh, call, grantedAt}
 
 -- ---- what a call says
 -- the number, and the slots that a unit is told: its control slot, then its data slots
@@ -57,3 +59,14 @@ calls =
 
 unfoldable pub story : List (List ℕ)
 story = run (freshBook sitePlan 0) calls
+
+-- ---- what the story grants
+-- the manager and the four units, and the slots that the answers of all the calls grant to each, its control slot first
+abbrev pub units : List ℕ
+units = 0x0100 ∷ 0x0201 ∷ 0x0202 ∷ 0x0203 ∷ 0x0204 ∷ []
+
+abbrev pub storyGrants : List (List ℕ)
+storyGrants = map (λ unit. grantedAt (fresh sitePlan 0) (map call calls) unit 0) units
+
+abbrev pub GrantsInTheStory : Type 0
+GrantsInTheStory = storyGrants ≡ (4 ∷ 8 ∷ []) ∷ [] ∷ (6 ∷ 9 ∷ 10 ∷ 12 ∷ []) ∷ (7 ∷ 13 ∷ []) ∷ (5 ∷ 11 ∷ []) ∷ []

@@ -1,0 +1,95 @@
+-- What the answers of the story grant to each unit, call by call.
+-- Assumes nothing.
+use mathlib.Core.Path.{_≡_, refl, ap, ap₂, _∙_}
+use mathlib.Core.Bool.{_&&_, cond}
+use mathlib.Core.List.{List, [], _∷_, map}
+use Prim.Native.Nat.{ℕ}
+use lib.Dec.{eqb}
+use lib.ListN.{drop}
+use Rattle.octets.specs.Lists.{every}
+use Rattle.octets.specs.Numbers.{num, digits}
+use Rattle.octets.specs.Sums.{xors}
+use Rattle.moments.specs.Moments.{ageAt, inOrder}
+use Rattle.shapes.specs.Reading.{isSealed, readRefusal}
+use Rattle.shapes.specs.Shape.{sealed}
+use Rattle.slots.specs.Sets.{has, count, isEmpty, fill, slotwise, noSlots, allSlots, union, meet, minus, lowest, withoutHighest, bits, slotsOf, firsts}
+use Rattle.site.specs.Plans.{slotsIn}
+use Rattle.members.specs.Members.{current, rowFor, held, vacant}
+use Rattle.members.specs.Rules.{rowsRule}
+use Rattle.book.specs.Books.{Stated, withinRule, freshBook, freshOf, leaveOf}
+use Rattle.joins.specs.Joins.{joinOf, askOf}
+use Rattle.keeping.specs.Calls.{Call, leave}
+use Rattle.keeping.specs.Calls as keeping
+use Rattle.history.specs.BookEvents.{call, answer, Grant, grant, renewed, granted, granting, recorded, counts}
+use Rattle.paper.specs.Story.{sitePlan, joins, asks, calls, GrantsInTheStory}
+use Rattle.paper.proofs.StoryLaws.{member, nobody, site, one, two, full, left, grown, settled}
+
+-- of the manager and of the four units
+record Grants : Type 0 where
+  pub manager : Grant
+  pub first : Grant
+  pub second : Grant
+  pub third : Grant
+  pub fourth : Grant
+
+abbrev ofEach : (ℕ → Grant) → Grants
+ofEach f = record { manager = f 0x0100; first = f 0x0201; second = f 0x0202; third = f 0x0203; fourth = f 0x0204 }
+
+abbrev onEach : (ℕ → Grant → Grant) → Grants → Grants
+onEach f g = record { manager = f 0x0100 (g .manager); first = f 0x0201 (g .first); second = f 0x0202 (g .second); third = f 0x0203 (g .third); fourth = f 0x0204 (g .fourth) }
+
+-- the slots told, all at time 0
+abbrev told : List ℕ → List ℕ → List ℕ → List ℕ → List ℕ → Grants
+told m a b c d = record { manager = grant m 0; first = grant a 0; second = grant b 0; third = grant c 0; fourth = grant d 0 }
+
+-- after one call on a book, and after several
+abbrev once : Stated → Call → Grants → Grants
+once b c = onEach (λ unit g. cond (eqb (answer b (call c) .refused) 0 && eqb (keeping.unitOf c) unit) (renewed (call c) (answer b (call c)) g) g)
+
+abbrev all : Stated → List Call → Grants → Grants
+all b cs = onEach (λ unit g. granted unit g (recorded b (map call cs)))
+
+-- a call on a book leaves that book, and each unit what it grants
+record Happens (b : Stated) (c : Call) (new : Stated) (g g′ : Grants) : Type 0 where
+  pub leaves : keeping.next b c ≡ new
+  pub grants : once b c g ≡ g′
+
+step : {b new : Stated} {c : Call} {g g′ : Grants} (cs : List Call) → Happens b c new g g′ → all b (c ∷ cs) g ≡ all new cs g′
+step cs h = ap₂ {C = Grants} (λ (new : Stated) (g : Grants). all new cs g) (h .leaves) (h .grants)
+
+begun : ofEach (granting (freshBook sitePlan 0)) ≡ told (4 ∷ 8 ∷ []) [] [] [] []
+unfolding rowFor has noSlots allSlots fill lowest firsts
+begun = refl
+
+-- each call, computed
+happened :
+    Happens (freshBook sitePlan 0) (joins 0x0201 4) one (told (4 ∷ 8 ∷ []) [] [] [] []) (told (4 ∷ 8 ∷ []) (5 ∷ 9 ∷ 10 ∷ 11 ∷ []) [] [] [])
+    × Happens one (joins 0x0202 2) two (told (4 ∷ 8 ∷ []) (5 ∷ 9 ∷ 10 ∷ 11 ∷ []) [] [] []) (told (4 ∷ 8 ∷ []) (5 ∷ 9 ∷ 10 ∷ 11 ∷ []) (6 ∷ 12 ∷ []) [] [])
+    × Happens two (joins 0x0203 0) full (told (4 ∷ 8 ∷ []) (5 ∷ 9 ∷ 10 ∷ 11 ∷ []) (6 ∷ 12 ∷ []) [] []) (told (4 ∷ 8 ∷ []) (5 ∷ 9 ∷ 10 ∷ 11 ∷ []) (6 ∷ 12 ∷ []) (7 ∷ 13 ∷ []) [])
+    × Happens full (joins 0x0204 4) full (told (4 ∷ 8 ∷ []) (5 ∷ 9 ∷ 10 ∷ 11 ∷ []) (6 ∷ 12 ∷ []) (7 ∷ 13 ∷ []) []) (told (4 ∷ 8 ∷ []) (5 ∷ 9 ∷ 10 ∷ 11 ∷ []) (6 ∷ 12 ∷ []) (7 ∷ 13 ∷ []) [])
+    × Happens full (leave 0x0201 0) left (told (4 ∷ 8 ∷ []) (5 ∷ 9 ∷ 10 ∷ 11 ∷ []) (6 ∷ 12 ∷ []) (7 ∷ 13 ∷ []) []) (told (4 ∷ 8 ∷ []) [] (6 ∷ 12 ∷ []) (7 ∷ 13 ∷ []) [])
+    × Happens left (asks 0x0202 3) grown (told (4 ∷ 8 ∷ []) [] (6 ∷ 12 ∷ []) (7 ∷ 13 ∷ []) []) (told (4 ∷ 8 ∷ []) [] (6 ∷ 9 ∷ 10 ∷ 12 ∷ []) (7 ∷ 13 ∷ []) [])
+    × Happens grown (joins 0x0204 4) settled (told (4 ∷ 8 ∷ []) [] (6 ∷ 9 ∷ 10 ∷ 12 ∷ []) (7 ∷ 13 ∷ []) []) (told (4 ∷ 8 ∷ []) [] (6 ∷ 9 ∷ 10 ∷ 12 ∷ []) (7 ∷ 13 ∷ []) (5 ∷ 11 ∷ []))
+unfolding member site nobody one two full left grown settled joinOf askOf leaveOf withinRule rowsRule every rowFor current held vacant count isEmpty has fill slotwise noSlots allSlots union meet minus lowest withoutHighest bits slotsOf firsts slotsIn num digits xors isSealed readRefusal sealed ageAt inOrder
+happened = (record { leaves = refl; grants = refl }, record { leaves = refl; grants = refl }, record { leaves = refl; grants = refl }, record { leaves = refl; grants = refl }, record { leaves = refl; grants = refl }, record { leaves = refl; grants = refl }, record { leaves = refl; grants = refl })
+
+-- all of them, one after the other
+all-told : all (freshBook sitePlan 0) calls (ofEach (granting (freshBook sitePlan 0))) ≡ told (4 ∷ 8 ∷ []) [] (6 ∷ 9 ∷ 10 ∷ 12 ∷ []) (7 ∷ 13 ∷ []) (5 ∷ 11 ∷ [])
+all-told =
+    let (a, b, c, d, e, f, g) = happened in
+    ap (all (freshBook sitePlan 0) calls) begun
+    ∙ (step (drop 1 calls) a ∙ (step (drop 2 calls) b ∙ (step (drop 3 calls) c ∙ (step (drop 4 calls) d ∙ (step (drop 5 calls) e ∙ (step (drop 6 calls) f ∙ step [] g))))))
+
+-- what counts at time 0
+abbrev counted : Grants → List (List ℕ)
+counted g =
+    counts sitePlan 0x0100 0 (g .manager) ∷
+    counts sitePlan 0x0201 0 (g .first) ∷
+    counts sitePlan 0x0202 0 (g .second) ∷
+    counts sitePlan 0x0203 0 (g .third) ∷
+    counts sitePlan 0x0204 0 (g .fourth) ∷
+    []
+
+pub grants-in-the-story : GrantsInTheStory
+unfolding freshOf slotsIn ageAt
+grants-in-the-story = ap counted all-told

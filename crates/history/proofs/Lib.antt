@@ -6,6 +6,7 @@ pub mod LookupLaws
 pub mod OwnLaws
 pub mod ReasonLaws
 pub mod SettledLaws
+pub mod SlotsAtLaws
 pub mod StepLaws
 pub mod TableHistoryLaws
 pub mod TableReasons

@@ -26,7 +26,7 @@ use Rattle.history.specs.BookEvents.{begun, Event, call, image, next, af
 use Rattle.history.specs.BookLaws.{bookAfter, moves, its, StaysItsOwn}
 use Rattle.history.proofs.SettledLaws.{Settled, settles}
 use Rattle.history.proofs.BookRuleLaws.{rule-next, stays-within-rule, plan-after, after-more}
-use Rattle.history.proofs.KnownLaws.{same-slots}
+use Rattle.history.proofs.SlotsAtLaws.{same-slots}
 
 -- ---- the same holding
 same-self : {b : Stated} {time unit : ℕ} → SameHolding b time b time unit

@@ -1,13 +1,14 @@
 -- A schedule in a buffer.
 -- Assumes nothing.
-use mathlib.Core.Path.{_≡_, sym, _∙_}
+use mathlib.Core.Path.{_≡_, refl, sym, ap, ap₂, _∙_}
 use mathlib.Core.Bool.{Bool, true}
-use mathlib.Core.List.{List, _++_}
-use Prim.Native.Nat.{ℕ, _≤_}
+use mathlib.Core.List.{List, _∷_, _++_}
+use Prim.Native.Nat.{ℕ, zero, suc, _+_, _-_, _≤_, _<_, min}
 use native.Mathlib.Omega.{arith}
-use native.Mathlib.Nat.{zero-add}
+use native.Mathlib.Nat.{zero-add, suc-add}
+use native.Mathlib.Numerals.{add-one}
 use borrow.Author.Tests.{ne-eqb, ltb-false, not-false}
-use lib.ListN.{length, getD, drop}
+use lib.ListN.{length, getD, drop, set, replicate}
 use lib.Seq.{sets, sets-eq}
 use Rattle.octets.specs.Lists.{tab}
 use Rattle.octets.proofs.AnswerLaws.{numbered, none-holds}
@@ -15,18 +16,49 @@ use Rattle.frames.specs.declared.answers.Written.{Written}
 use Rattle.frames.specs.Told.{wrote}
 use Rattle.slots.specs.Sets.{Slots}
 use Rattle.site.specs.declared.plan.Plan.{Plan}
-use Rattle.site.specs.Plans.{slotsIn, slots}
-use Rattle.site.specs.Schedules.{kindOf}
+use Rattle.site.specs.Plans.{slotsIn, slots, sleepAt}
+use Rattle.site.specs.Schedules.{sleep, kindOf}
+use Rattle.site.proofs.RegionLaws.{kinds-by-region}
 use Rattle.members.specs.Members.{emptyRow, rowFor}
 use Rattle.book.specs.Books.{Stated, withinRule, rowsAt, liveAt}
 use Rattle.book.specs.Schedules.{scheduleReasons, scheduleRefusal, scheduleOf}
 use Rattle.octets.proofs.ListLaws.{length-tab}
+use Rattle.octets.proofs.StoreLaws.{sets-append}
 
 -- so many bytes from the start on, and what was held behind them
 pub all-put : (count slot : ℕ) (f : ℕ → ℕ) (held out : List ℕ) → slot ≡ count → count ≤ length held → out ≡ tab slot f ++ drop slot held → out ≡ sets held 0 (tab count f)
 all-put count slot f held out e h q =
     let n = length-tab count f in
     q ∙ (rw e (sym (sets-eq (tab count f) held 0 (omega (arith, n)) ∙ rw (n, zero-add))))
+
+-- one slot more that sleeps, and none
+module _ (out : List ℕ) (slot to v : ℕ) where
+  pub sleep-turn : slot < to → sets (set out slot v) (slot + 1) (replicate (to - (slot + 1)) v) ≡ sets out slot (replicate (to - slot) v)
+  sleep-turn h =
+      let e : to - slot ≡ suc (to - (slot + 1)) = omega (arith, h) in
+      sym (ap (λ (n : ℕ). sets out slot (replicate n v)) e ∙ rw add-one)
+
+  pub sleep-end : to ≤ slot → sets out slot (replicate (to - slot) v) ≡ out
+  sleep-end h =
+      let e : to - slot ≡ 0 = omega (arith, h) in
+      ap (λ (n : ℕ). sets out slot (replicate n v)) e
+
+-- values that are one from a place on
+same-behind : (m n : ℕ) (f : ℕ → ℕ) (v : ℕ) → ((k : ℕ) → m ≤ k → k < m + n → f k ≡ v) → tab (m + n) f ≡ tab m f ++ replicate n v
+unfolding tab
+same-behind zero zero f v e = refl
+same-behind zero (suc n) f v e = rw zero-add (ap₂ _∷_ (e 0 (omega arith) (omega arith)) (sym (ap (λ (i : ℕ). tab i (λ k. f (suc k))) (zero-add n)) ∙ same-behind zero n (λ k. f (suc k)) v (λ k h l. e (suc k) (omega arith) (omega (arith, l)))))
+same-behind (suc m) n f v e = rw suc-add (ap (λ (l : List ℕ). f 0 ∷ l) (same-behind m n (λ k. f (suc k)) v (λ k h l. e (suc k) (omega (arith, h)) (omega (arith, l)))))
+
+-- the slots awake, and those asleep behind them
+pub both-put : (p : Plan) (row hop : ℕ) (own : Slots 64) (count awake : ℕ) (held out last : List ℕ) → awake ≡ min (sleepAt p) count
+    → out ≡ sets held 0 (tab awake (kindOf p row hop own)) → last ≡ sets out awake (replicate (count - awake) sleep) → last ≡ sets held 0 (tab count (kindOf p row hop own))
+both-put p row hop own count awake held out last a o l =
+    let f = kindOf p row hop own in
+    let n : awake + (count - awake) ≡ count = omega (arith, a) in
+    let whole : tab count f ≡ tab awake f ++ replicate (count - awake) sleep =
+    sym (ap (λ (i : ℕ). tab i f) n) ∙ same-behind awake (count - awake) f sleep (λ k h b. kinds-by-region p row hop own k .behind (omega (arith, a, h, b, n))) in
+    rw (l, o, whole) (sym (sets-append (tab awake f) (replicate (count - awake) sleep) held 0 ∙ rw (length-tab awake f, zero-add)))
 
 -- a superframe has at most 100 slots
 pub few-slots : (p : Plan) → slots p ≤ 100

@@ -1,11 +1,11 @@
 // The schedule of a member: what it does in each slot, one byte a slot.
 ghost use mathlib.Core.Path.{_≡_};
-ghost use Prim.Native.Nat.{_≤_};
-ghost use lib.ListN.{length};
+ghost use Prim.Native.Nat.{_-_, _≤_};
+ghost use lib.ListN.{length, replicate};
 ghost use lib.Seq.{sets};
 ghost use Rattle.octets.specs.Lists.{tab};
 ghost use Rattle.slots.specs.Sets.{slotsOf};
-ghost use Rattle.site.specs.Schedules.{kindOf};
+ghost use Rattle.site.specs.Schedules.{sleep, kindOf};
 ghost use Rattle.frames.specs.Told.{wrote};
 ghost use Rattle.book.specs.Books.{stated};
 ghost use Rattle.book.specs.Schedules.{hopRule, scheduleRefusal, scheduleOf};
@@ -18,6 +18,7 @@ use members::rows::row_for;
 use members::rows::slots_at;
 use moments::in_order;
 use octets::answers::refuse_if;
+use octets::parts::smaller;
 use site::plan::Plan;
 use site::schedules::kind_at;
 
@@ -32,7 +33,7 @@ fn hop_within_rule(plan: Plan, unit: u16, hop: u8) -> bool
 }
 
 // The kinds of the first slots, from the buffer's start on.
-fn put_kinds(out: &mut [u8], plan: Plan, row: u8, hop: u8, own: u64, count: u8)
+fn put_awake(out: &mut [u8], plan: Plan, row: u8, hop: u8, own: u64, count: u8)
     requires { ⌜ count ≤ length (now out) ⌝ }
     ensures { λ _. ⌜ now (out .exit) ≡ sets (now (out .entry)) 0 (tab count (kindOf plan row hop (slotsOf own))) ⌝ }
 {
@@ -41,6 +42,29 @@ fn put_kinds(out: &mut [u8], plan: Plan, row: u8, hop: u8, own: u64, count: u8)
         out[slot as usize] = kind_at(plan, row, hop, own, slot);
         slot += 1;
     }
+}
+
+// Sleep in the slots from one on, as far as to another.
+fn put_sleep(out: &mut [u8], from: usize, to: usize)
+    requires { ⌜ to ≤ length (now out) ⌝ }
+    ensures { λ _. ⌜ now (out .exit) ≡ sets (now (out .entry)) from (replicate (to - from) sleep) ⌝ }
+{
+    let mut slot = from;
+    while slot < to {
+        out[slot] = Plan::SLEEP;
+        slot += 1;
+    }
+}
+
+// The kinds of so many slots. Half of them are asleep, and need not be asked for one by one.
+fn put_kinds(out: &mut [u8], plan: Plan, row: u8, hop: u8, own: u64, count: u8)
+    requires { ⌜ count ≤ length (now out) ⌝ }
+    ensures { λ _. ⌜ now (out .exit) ≡ sets (now (out .entry)) 0 (tab count (kindOf plan row hop (slotsOf own))) ⌝ }
+{
+    let all = count as usize;
+    let awake = smaller(plan.sleep_at() as usize, all);
+    put_awake(out, plan, row, hop, own, awake as u8);
+    put_sleep(out, awake, all);
 }
 
 // Why there is no schedule for a unit that is a live member or not; 0 where there is one.

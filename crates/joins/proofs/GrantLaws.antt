@@ -46,14 +46,14 @@ module _ (to held : ℕ) (own spaces : Slots 64) (e : held ≡ count own) where
   pub shrunk : (left : Slots 64) → to < held → left ≡ withoutHighest (held - to) own → left ≡ brought to own spaces
   shrunk left h w = rw (w, ← e, lt-leb held to h)
 
--- the definitions' numbers, one after the other: what is free, how much of it no free row needs, and what is asked for
-module _ (dataSlots : ℕ) (rs : List Row) (spaces got : Slots 64) (empty more want asked to : ℕ) (s : spaces ≡ free dataSlots rs) (e : empty ≡ vacant rs) (m : more ≡ count spaces - empty)
-    (q : want ≡ wish asked) where
-  pub is-granted : to ≡ min want (more + 1) → got ≡ lowest to spaces → got ≡ granted dataSlots rs asked
-  is-granted t g = rw (g, t, q, m, s, e)
+-- what is granted of the slots that the rows leave free
+module _ (dataSlots : ℕ) (rs : List Row) (spaces held got : Slots 64) (empty asked : ℕ) (s : spaces ≡ free dataSlots rs) (e : empty ≡ vacant rs) where
+  pub is-seated : (live : Bool) (own : Slots 64) → held ≡ own → got ≡ cond live held (lowest (min (wish asked) (count spaces - empty + 1)) spaces)
+      → got ≡ cond live own (granted dataSlots rs asked)
+  is-seated live own h g = rw (g, h, s, e)
 
-  pub is-asked : (held : ℕ) (own : Slots 64) → held ≡ count own → to ≡ min want (held + more) → got ≡ brought to own spaces → got ≡ asks dataSlots rs own asked
-  is-asked held own h t g = rw (g, t, q, m, s, e, h)
+  pub is-asked : got ≡ brought (min (wish asked) (count held + (count spaces - empty))) held spaces → got ≡ asks dataSlots rs held asked
+  is-asked g = rw (g, s, e)
 
 module _ (n : ℕ) (b : Stated) (unit time at : ℕ) (own : Slots 64) (out : List ℕ) where
   pub unsettled : (n ≡ 0 → ⊥) → record { refused = n; written = 0; book = b; held = out } ≡ grants n b unit time at own out

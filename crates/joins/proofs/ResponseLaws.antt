@@ -6,6 +6,7 @@ use mathlib.Core.List.{List, [], _∷_, _++_, map, append-nil, append-assoc}
 use Prim.Native.Nat.{ℕ, zero, suc, _+_, _*_, _-_, _/_, _^_, _≤_, _<_}
 use native.Mathlib.Nat.{zero-add}
 use native.Mathlib.Numerals.{add-one}
+use native.Mathlib.Decide.{decLt}
 use native.Mathlib.Omega.{arith}
 use lib.ListN.{length, take, drop, set, length-append, length-map}
 use lib.Seq.{sets, sets-eq, drop-at}
@@ -57,6 +58,55 @@ told-many w p own = length-map (listed own 0 w) (dataSlot p) ∙ listed-all w ow
 
 pub slots-told : (p : Plan) (row : ℕ) (own : Slots 64) → length (drop 1 (slotsTold p row own)) ≡ count own
 slots-told p row own = told-many 64 p own
+
+-- how many of a set's slots are left from one on; said of any width, since the list of 64 slots would be computed
+unfoldable pub left : (w : ℕ) → Slots w → ℕ → ℕ
+left w s i = length (listed s i (w - i))
+
+pub left-all : (w : ℕ) (s : Slots w) → count s ≡ left w s 0
+unfolding left
+left-all w s = let e : w - 0 ≡ w = omega arith in sym (ap (λ (n : ℕ). length (listed s 0 n)) e ∙ listed-all w s)
+
+module _ (w : ℕ) (s : Slots w) (i : ℕ) where
+  pub none-left : left w s i ≡ 0 → listed s i (w - i) ≡ []
+  unfolding left
+  none-left = go (listed s i (w - i))
+    where
+      go : (l : List ℕ) → length l ≡ 0 → l ≡ []
+      go [] e = refl
+      go (x ∷ l) e = absurd (omega (arith, e))
+
+  pub left-there : 0 < left w s i → i < w
+  unfolding left
+  left-there h = go (decLt i w)
+    where
+      go : Dec (i < w) → i < w
+      go (yes p) = p
+      go (no n) =
+          let e : w - i ≡ 0 = omega (arith, n) in
+          let z : length (listed s i (w - i)) ≡ 0 = ap (λ (k : ℕ). length (listed s i k)) e in
+          absurd (omega (arith, z, h))
+
+  pub left-on : i < w → left w s i ≡ cond (has s i) 1 0 + left w s (i + 1)
+  unfolding left
+  left-on h =
+      let e : w - i ≡ suc (w - (i + 1)) = omega arith in
+      ap (λ (k : ℕ). length (listed s i k)) e ∙ rw add-one (go (has s i) (listed s (suc i) (w - suc i)))
+    where
+      go : (b : Bool) (l : List ℕ) → length (cond b (i ∷ l) l) ≡ cond b 1 0 + length l
+      go true l = omega arith
+      go false l = omega arith
+
+  -- a slot that is none of the set's, and one that is
+  pub left-over : (n : ℕ) → i < w → n ≡ left w s i → has s i ≡ false → n ≡ left w s (i + 1)
+  left-over n h q e =
+      let on : left w s i ≡ 0 + left w s (i + 1) = rw e at (left-on h) in
+      omega (arith, q, on)
+
+  pub left-told : (n : ℕ) → i < w → n ≡ left w s i → has s i ≡ true → n - 1 ≡ left w s (i + 1)
+  left-told n h q e =
+      let on : left w s i ≡ 1 + left w s (i + 1) = rw e at (left-on h) in
+      omega (arith, q, on)
 
 -- the control slot and each data slot are told in 13 bytes; said of any width first, since the list of 64 slots would be computed
 length-told : (w : ℕ) (p : Plan) (unit time row : ℕ) (own : Slots w) → length (responsesFor p unit time (controlSlot p row ∷ map (dataSlot p) (listed own 0 w))) ≡ 13 * (1 + count own)
@@ -140,10 +190,8 @@ abbrev pub later : Plan → ℕ → ℕ → Slots 64 → ℕ → List ℕ
 later p unit time own slot = responsesFor p unit time (map (dataSlot p) (listed own slot (64 - slot)))
 
 module _ (p : Plan) (unit time : ℕ) (own : Slots 64) (slot : ℕ) where
-  pub none-later : 64 ≤ slot → later p unit time own slot ≡ []
-  none-later h =
-      let e : 64 - slot ≡ 0 = omega arith in
-      rw e
+  pub none-later : left 64 own slot ≡ 0 → later p unit time own slot ≡ []
+  none-later e = ap (λ (l : List ℕ). responsesFor p unit time (map (dataSlot p) l)) (none-left 64 own slot e)
 
   module _ (h : slot < 64) where
     listed-on : listed own slot (64 - slot) ≡ cond (has own slot) (slot ∷ listed own (slot + 1) (64 - (slot + 1))) (listed own (slot + 1) (64 - (slot + 1)))

@@ -1,11 +1,10 @@
 // A slot request: a member's holding is brought to as many slots as it asks for and may have.
 ghost use mathlib.Core.Path.{_≡_};
-ghost use lib.ListN.{take};
+ghost use Prim.Native.Nat.{_+_, _-_, min};
 ghost use Rattle.octets.specs.Answers.{first};
-ghost use Rattle.slots.specs.Sets.{slotsOf};
-ghost use Rattle.members.specs.Members.{rowsOf};
+ghost use Rattle.slots.specs.Sets.{slotsOf, count};
 ghost use Rattle.book.specs.Books.{stated};
-ghost use Rattle.joins.specs.Joins.{brought, asks, answeredBy, askReasons, askOf};
+ghost use Rattle.joins.specs.Joins.{wish, brought, answeredBy, askReasons, askOf};
 use crate::grants::Granted;
 use crate::grants::fewer;
 use crate::grants::settle;
@@ -14,17 +13,13 @@ use crate::grants::spare;
 use crate::grants::wish;
 use crate::responses::bytes_for;
 use book::book::Book;
-use members::member::Member;
+use members::census::counted;
 use members::rows::current;
-use members::rows::free;
 use members::rows::in_use;
-use members::rows::row_for;
-use members::rows::vacant;
 use moments::in_order;
 use octets::answers::refuse_if;
 use readers::refusals::slot_request;
 use requests::slot_request::SlotRequest;
-use site::plan::Plan;
 use slots::masks::joined;
 use slots::masks::lowest;
 use slots::masks::released;
@@ -41,12 +36,11 @@ fn brought(to: u32, own: u64, spaces: u64) -> u64
     released(own, held - to)
 }
 
-// What a member that holds `own` has after it asked.
-fn asks(rows: [Member; 21], plan: Plan, own: u64, asked: u8) -> u64
-    ensures { λ r. ⌜ slotsOf r ≡ asks (plan .«data_slots») (take (plan .rows) (rowsOf rows)) (slotsOf own) asked ⌝ }
+// What a member that holds `own` has after it asked, where these slots and so many rows are free.
+fn asks(own: u64, spaces: u64, empty: u8, asked: u8) -> u64
+    ensures { λ r. ⌜ slotsOf r ≡ brought (min (wish asked) (count (slotsOf own) + (count (slotsOf spaces) - empty))) (slotsOf own) (slotsOf spaces) ⌝ }
 {
-    let spaces = free(rows, plan.rows, plan.data_slots);
-    let most = size(own) + spare(spaces, vacant(rows, plan.rows));
+    let most = size(own) + spare(spaces, empty);
     brought(fewer(wish(asked), most), own, spaces)
 }
 
@@ -74,9 +68,11 @@ pub fn ask(book: Book, frame: &[u8], time: u32, out: &mut [u8]) -> Granted
     let plan = book.plan;
     let rows = book.rows;
     let now = current(rows, time);
-    let at = row_for(now, plan.rows, unit);
+    let census = counted(now, plan.rows, plan.data_slots, unit);
+    let at = census.own;
     let live = at < in_use(plan.rows);
-    let own = asks(now, plan, slots_in(now, plan.rows, at), request.slots);
+    let held = slots_in(now, plan.rows, at);
+    let own = asks(held, census.slots, census.vacant, request.slots);
     let short = out.len() < bytes_for(own);
     let refused = refusal(book, frame, time, live, short);
     settle(refused, book, now, unit, time, at as u8, own, out)

@@ -1,12 +1,11 @@
 // A join request: a newcomer takes the lowest free row and its share of the free slots, and a live member is told what it holds.
 ghost use mathlib.Core.Path.{_≡_};
 ghost use mathlib.Core.Bool.{cond};
-ghost use lib.ListN.{getD, take};
+ghost use Prim.Native.Nat.{_+_, _-_, min};
 ghost use Rattle.octets.specs.Answers.{first};
-ghost use Rattle.slots.specs.Sets.{slotsOf};
-ghost use Rattle.members.specs.Members.{rowsOf, emptyRow, vacant};
+ghost use Rattle.slots.specs.Sets.{slotsOf, count, lowest};
 ghost use Rattle.book.specs.Books.{stated};
-ghost use Rattle.joins.specs.Joins.{granted, answeredBy, joinReasons, joinOf};
+ghost use Rattle.joins.specs.Joins.{wish, answeredBy, joinReasons, joinOf};
 use crate::grants::Granted;
 use crate::grants::fewer;
 use crate::grants::settle;
@@ -15,44 +14,32 @@ use crate::grants::spare;
 use crate::grants::wish;
 use crate::responses::bytes_for;
 use book::book::Book;
-use members::member::Member;
+use members::census::counted;
+use members::census::either;
 use members::rows::current;
-use members::rows::free;
 use members::rows::in_use;
-use members::rows::row_for;
-use members::rows::vacant;
 use moments::in_order;
 use octets::answers::refuse_if;
 use readers::refusals::join_request;
 use requests::join_request::JoinRequest;
-use site::plan::Plan;
 use slots::masks::lowest;
 
-fn either(test: bool, first: usize, second: usize) -> usize
-    ensures { λ r. ⌜ r ≡ cond test first second ⌝ }
+// A newcomer's slots: the lowest of the free ones, and no more than leave one for each other empty row.
+fn granted(spaces: u64, empty: u8, asked: u8) -> u64
+    ensures { λ r. ⌜ slotsOf r ≡ lowest (min (wish asked) (count (slotsOf spaces) - empty + 1)) (slotsOf spaces) ⌝ }
 {
-    if test { first } else { second }
-}
-
-// A newcomer's slots: the lowest free ones, and no more than leave one for each other empty row.
-fn granted(rows: [Member; 21], plan: Plan, empty: u8, asked: u8) -> u64
-    requires { ⌜ empty ≡ vacant (take (plan .rows) (rowsOf rows)) ⌝ }
-    ensures { λ r. ⌜ slotsOf r ≡ granted (plan .«data_slots») (take (plan .rows) (rowsOf rows)) asked ⌝ }
-{
-    let spaces = free(rows, plan.rows, plan.data_slots);
     let most = spare(spaces, empty) + 1;
     lowest(spaces, fewer(wish(asked), most))
 }
 
-// What a unit then holds: a live member what it holds in the row where it is found, a newcomer what it is granted.
-fn seated(rows: [Member; 21], plan: Plan, live: bool, found: usize, empty: u8, asked: u8) -> u64
-    requires { ⌜ empty ≡ vacant (take (plan .rows) (rowsOf rows)) ⌝ }
-    ensures { λ r. ⌜ slotsOf r ≡ cond live (getD (take (plan .rows) (rowsOf rows)) found emptyRow .slots) (granted (plan .«data_slots») (take (plan .rows) (rowsOf rows)) asked) ⌝ }
+// What a unit then holds: a live member what it held, a newcomer what it is granted.
+fn seated(live: bool, held: u64, spaces: u64, empty: u8, asked: u8) -> u64
+    ensures { λ r. ⌜ slotsOf r ≡ cond live (slotsOf held) (lowest (min (wish asked) (count (slotsOf spaces) - empty + 1)) (slotsOf spaces)) ⌝ }
 {
     if live {
-        return slots_in(rows, plan.rows, found);
+        return held;
     }
-    granted(rows, plan, empty, asked)
+    granted(spaces, empty, asked)
 }
 
 // Why a join request is refused, where there is no row for the unit or is one, and its responses do not fit or do; 0 where it is not.
@@ -82,11 +69,13 @@ pub fn join(book: Book, frame: &[u8], time: u32, out: &mut [u8]) -> Granted
     let plan = book.plan;
     let rows = book.rows;
     let now = current(rows, time);
-    let found = row_for(now, plan.rows, unit);
+    let census = counted(now, plan.rows, plan.data_slots, unit);
+    let found = census.own;
+    let empty = census.vacant;
     let live = found < in_use(plan.rows);
-    let at = either(live, found, row_for(now, plan.rows, 0));
-    let empty = vacant(now, plan.rows);
-    let own = seated(now, plan, live, found, empty, request.slots);
+    let at = either(live, found, census.place);
+    let held = slots_in(now, plan.rows, found);
+    let own = seated(live, held, census.slots, empty, request.slots);
     let no_row = !live & (empty == 0);
     let short = out.len() < bytes_for(own);
     let refused = refusal(book, frame, time, no_row, short);

@@ -7,7 +7,9 @@ ghost use lib.Seq.{sets};
 ghost use Rattle.slots.specs.Sets.{slotsOf, count};
 ghost use Rattle.site.specs.Schedules.{dataSlot};
 ghost use Rattle.joins.specs.Responses.{listed, response, responsesFor, responses};
-use octets::layouts::put_layout;
+use octets::fixed::put8;
+use octets::fixed::put16;
+use octets::fixed::put32;
 use octets::parts::put_bytes;
 use octets::sums::xor_of;
 use site::plan::Plan;
@@ -26,8 +28,12 @@ fn response(plan: Plan, unit: u16, time: u32, slot: u16) -> [u8; 13]
     ensures { λ r. ⌜ r ≡ response plan unit time slot ⌝ }
 {
     let mut frame = room();
-    let values = [0x22, unit as u32, 0, slot as u32, time, plan.network as u32];
-    put_layout(&mut frame, 0, &[1, 2, 1, 2, 4, 2], &values);
+    put8(&mut frame, 0, 0x22);
+    put16(&mut frame, 1, unit);
+    put8(&mut frame, 3, 0);
+    put16(&mut frame, 4, slot);
+    put32(&mut frame, 6, time);
+    put16(&mut frame, 10, plan.network);
     let sum = xor_of(&frame, 12);
     frame[12] = sum;
     frame
@@ -46,13 +52,18 @@ fn put_data_slots(out: &mut [u8], plan: Plan, unit: u16, time: u32, own: u64)
 {
     let data = plan.data_at();
     let mut place = 13;
-    for slot in 0..64u16 {
+    let mut slot: u16 = 0;
+    let mut left = size(own);
+    while 0 < left {
         if !holds(own, slot as u32) {
+            slot += 1;
             continue;
         }
         let frame = response(plan, unit, time, data + slot);
         put_bytes(out, place, &frame);
         place += 13;
+        slot += 1;
+        left -= 1;
     }
 }
 

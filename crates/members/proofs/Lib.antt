@@ -1,3 +1,5 @@
+pub mod CensusLaws
+pub mod DistinctLaws
 pub mod LookupLaws
 pub mod PairLaws
 pub mod RowLaws

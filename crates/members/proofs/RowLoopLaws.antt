@@ -1,7 +1,7 @@
 -- The loops over the rows of a book: from the last row down, from the first up, and each row changed.
 -- Assumes nothing.
 use mathlib.Core.Path.{_≡_, refl, sym, ap, _∙_}
-use mathlib.Core.Bool.{Bool, true, false, _&&_, _||_, cond}
+use mathlib.Core.Bool.{Bool, true, false, _&&_}
 use mathlib.Core.List.{List, [], _∷_, _++_, map, append-nil}
 use Prim.Native.Nat.{ℕ, zero, suc, _+_, _-_, _≤_, _<_, min}
 use native.Mathlib.Numerals.{add-one}
@@ -10,14 +10,13 @@ use borrow.Author.Tests.{eq-eqb, ne-eqb, lt-ltb, le-leb, lt-leb}
 use lib.Dec.{eqb, leb, ltb}
 use lib.ListN.{length, getD, take, drop, set, length-map, length-take, List·getD-map, List·getD-eq-default, drop-of-length-le}
 use lib.Seq.{drop-cons, getD-take, take-all, take-suc-set, drop-set-lt, append-snoc, set-out}
-use mir.Val.{boolByte}
 use Rattle.members.specs.declared.member.Member.{Member}
 use Rattle.octets.specs.Lists.{every}
 use Rattle.moments.specs.Moments.{ageAt}
 use Rattle.slots.specs.Sets.{slotsOf, disjoint, count}
 use Rattle.slots.proofs.MaskLaws.{mask-nothing}
-use Rattle.members.specs.Members.{Row, rowOf, rowsOf, emptyRow, vacantRow, kept, current, rowFor, held, free, vacant}
-use Rattle.members.specs.Rules.{emptyIs, rowRule, unknownIn, distinct, apart, judged, ledBy, rowsRule}
+use Rattle.members.specs.Members.{Row, rowOf, rowsOf, emptyRow, kept, current, rowFor, held, free, vacant}
+use Rattle.members.specs.Rules.{emptyIs, rowRule, distinct, apart, judged, ledBy, rowsRule}
 
 -- what an array reads as past its end
 abbrev pub nobody : Member
@@ -67,19 +66,6 @@ module _ (ms : List Member) (n : ℕ) (l : length ms ≡ 21) where
         let z : rowFor unit (drop i rows) ≡ 0 = ap (rowFor unit) (none-left i (omega (arith, h))) in
         omega (arith, e, z)
 
--- counting free rows
-pub bit : (b : Bool) → boolByte b ≤ 1
-bit true = omega arith
-bit false = omega arith
-
-pub vacant-below : (r : Row) (rs : List Row) (n : ℕ) → n ≡ vacant rs → n + boolByte (eqb (r .unit) 0) ≡ vacant (r ∷ rs)
-unfolding vacant
-vacant-below r rs n e = go (eqb (r .unit) 0)
-  where
-    go : (b : Bool) → n + boolByte b ≡ cond b 1 0 + vacant rs
-    go true = omega (arith, e)
-    go false = omega (arith, e)
-
 -- ---- live or silent
 module _ (time : ℕ) (r : Row) (age : ℕ) (e : age ≡ ageAt time (r .time)) where
   pub live-kept : age ≤ 300000 → r ≡ kept time r
@@ -117,32 +103,18 @@ module _ (time i : ℕ) (ms : List Member) (whole : List Row) (e : take i (rowsO
       sym (append-nil (map rowOf ms)) ∙ (rw (take-all i (map rowOf ms) long, drop-of-length-le (map rowOf ms) long) at e)
 
 -- ---- judging rows
-module _ (ms : List Member) (n : ℕ) (l : length ms ≡ 21) (unit i : ℕ) (whole : Bool) (e : unknownIn unit (drop i (take n (rowsOf ms))) ≡ whole) where
-  pub unknown-stop : i < min n 21 → getD ms i nobody .unit ≡ unit → false ≡ whole
-  unknown-stop h q = sym (ap (unknownIn unit) (row-and-rest ms n l i h) ∙ rw (eq-eqb (getD ms i nobody .unit) unit q)) ∙ e
-
-  pub unknown-on : i < min n 21 → (getD ms i nobody .unit ≡ unit → ⊥) → unknownIn unit (drop (i + 1) (take n (rowsOf ms))) ≡ whole
-  unknown-on h q = rw add-one (sym (ap (unknownIn unit) (row-and-rest ms n l i h) ∙ rw (ne-eqb (getD ms i nobody .unit) unit q)) ∙ e)
-
-  pub unknown-end : min n 21 ≤ i → true ≡ whole
-  unknown-end h = sym (ap (unknownIn unit) (none-left ms n l i h)) ∙ e
-
--- what one loop sees of the rows is what the three rules say
-regroup : (r u d e n a : Bool) → (r && u && d && (e && n && a)) ≡ ((r && e) && (u && n) && (d && a))
-regroup true true true e n a = refl
-regroup true true false true true a = refl
-regroup true true false true false a = refl
-regroup true true false false n a = refl
-regroup true false d true n a = refl
-regroup true false d false n a = refl
-regroup false u d e n a = refl
-
-pub judged-all : (dataSlots last : ℕ) (rs : List Row) → judged dataSlots last rs ≡ (every (rowRule dataSlots last) rs && distinct rs && apart rs)
+-- what one loop sees of the rows is what two of the rules say
+pub judged-all : (dataSlots last : ℕ) (rs : List Row) → judged dataSlots last rs ≡ (every (rowRule dataSlots last) rs && apart rs)
 unfolding every
 judged-all dataSlots last [] = refl
 judged-all dataSlots last (r ∷ rs) =
-    rw (judged-all dataSlots last rs)
-    (regroup (rowRule dataSlots last r) (vacantRow r || unknownIn (r .unit) rs) (disjoint (r .slots) (held rs)) (every (rowRule dataSlots last) rs) (distinct rs) (apart rs))
+    rw (judged-all dataSlots last rs) (regroup (rowRule dataSlots last r) (disjoint (r .slots) (held rs)) (every (rowRule dataSlots last) rs) (apart rs))
+  where
+    regroup : (r d e a : Bool) → (r && d && (e && a)) ≡ ((r && e) && (d && a))
+    regroup true true e a = refl
+    regroup true false true a = refl
+    regroup true false false a = refl
+    regroup false d e a = refl
 
 -- the rows of a plan within rule, from what the code sees of them
 led : (ms : List Member) (n : ℕ) → length ms ≡ 21 → (manager : ℕ) → (ltb 0 n && eqb (getD ms 0 nobody .unit) manager) ≡ ledBy manager (take n (rowsOf ms))
@@ -151,16 +123,20 @@ led [] n l manager = absurd (omega (arith, l))
 led (m ∷ ms) zero l manager = refl
 led (m ∷ ms) (suc n) l manager = rw (lt-ltb 0 (suc n) (omega arith))
 
-pub rows-ruled : (ms : List Member) (n : ℕ) → length ms ≡ 21 → (manager dataSlots last : ℕ) (good : Bool) (empty room : ℕ) → good ≡ judged dataSlots last (take n (rowsOf ms))
-    → empty ≡ vacant (take n (rowsOf ms)) → room ≡ count (free dataSlots (take n (rowsOf ms)))
-    → (ltb 0 n && eqb (getD ms 0 nobody .unit) manager && good && leb empty room) ≡ rowsRule manager dataSlots last (take n (rowsOf ms))
+pub rows-ruled : (ms : List Member) (n : ℕ) → length ms ≡ 21 → (manager dataSlots last : ℕ) (good unlike : Bool) (empty room : ℕ) → good ≡ judged dataSlots last (take n (rowsOf ms))
+    → unlike ≡ distinct (take n (rowsOf ms)) → empty ≡ vacant (take n (rowsOf ms)) → room ≡ count (free dataSlots (take n (rowsOf ms)))
+    → (ltb 0 n && eqb (getD ms 0 nobody .unit) manager && good && unlike && leb empty room) ≡ rowsRule manager dataSlots last (take n (rowsOf ms))
 unfolding rowsRule
-rows-ruled ms n l manager dataSlots last good empty room g e r =
-    rw (g, e, r, judged-all dataSlots last (take n (rowsOf ms)), ← led ms n l manager)
+rows-ruled ms n l manager dataSlots last good unlike empty room g u e r =
+    rw (g, u, e, r, judged-all dataSlots last (take n (rowsOf ms)), ← led ms n l manager)
     (regrouped (ltb 0 n && eqb (getD ms 0 nobody .unit) manager) (every (rowRule dataSlots last) (take n (rowsOf ms))) (distinct (take n (rowsOf ms))) (apart (take n (rowsOf ms))) _)
   where
-    regrouped : (x e d a v : Bool) → (x && (e && d && a) && v) ≡ (x && e && d && a && v)
-    regrouped true e d a v = refl
+    regrouped : (x e d a v : Bool) → (x && (e && a) && d && v) ≡ (x && e && d && a && v)
+    regrouped true true true true v = refl
+    regrouped true true true false v = refl
+    regrouped true true false true v = refl
+    regrouped true true false false v = refl
+    regrouped true false d a v = refl
     regrouped false e d a v = refl
 
 -- ---- one row

@@ -35,11 +35,10 @@ abbrev pub apart : List Row → Bool
 apart [] = true
 apart (r ∷ rs) = disjoint (r .slots) (held rs) && apart rs
 
--- each row by itself and against those behind it, as one loop sees them
+-- each row by itself, and its slots against those of the rows behind it, as one loop sees them
 abbrev pub judged : ℕ → ℕ → List Row → Bool
 judged dataSlots last [] = true
-judged dataSlots last (r ∷ rs) =
-    rowRule dataSlots last r && (vacantRow r || unknownIn (r .unit) rs) && disjoint (r .slots) (held rs) && judged dataSlots last rs
+judged dataSlots last (r ∷ rs) = rowRule dataSlots last r && disjoint (r .slots) (held rs) && judged dataSlots last rs
 
 -- the first row is the manager's
 abbrev pub ledBy : ℕ → List Row → Bool

@@ -4,53 +4,15 @@ ghost use mathlib.Core.Bool.{cond};
 ghost use Prim.Native.Nat.{min, _≤_};
 ghost use lib.ListN.{length, getD, take, set};
 ghost use Rattle.slots.specs.Sets.{slotsOf};
-ghost use Rattle.members.specs.Members.{rowOf, rowsOf, emptyRow, kept, current, rowFor, held, free, vacant};
+ghost use Rattle.members.specs.Members.{rowOf, rowsOf, emptyRow, kept, current, rowFor};
 use crate::member::Member;
 use moments::age;
-use slots::masks::below;
-use slots::masks::joined;
-use slots::masks::without;
 
 // How many places are in use: no more than there are.
 pub fn in_use(count: u8) -> usize
     ensures { λ r. ⌜ r ≡ min count 21 ⌝ }
 {
     if count < 21 { count as usize } else { 21 }
-}
-
-// The slots that some row holds.
-fn held(rows: [Member; 21], count: u8) -> u64
-    ensures { λ r. ⌜ slotsOf r ≡ held (take count (rowsOf rows)) ⌝ }
-{
-    let mut all: u64 = 0;
-    let mut i = in_use(count);
-    while 0 < i {
-        i -= 1;
-        let member = rows[i];
-        all = joined(member.slots, all);
-    }
-    all
-}
-
-// The data slots that no row holds.
-pub fn free(rows: [Member; 21], count: u8, data_slots: u8) -> u64
-    ensures { λ r. ⌜ slotsOf r ≡ free «data_slots» (take count (rowsOf rows)) ⌝ }
-{
-    without(below(data_slots as u32), held(rows, count))
-}
-
-// How many rows are free.
-pub fn vacant(rows: [Member; 21], count: u8) -> u8
-    ensures { λ r. ⌜ (r ≡ vacant (take count (rowsOf rows))) × (r ≤ 21) ⌝ }
-{
-    let mut found: u8 = 0;
-    let mut i = in_use(count);
-    while 0 < i {
-        i -= 1;
-        let member = rows[i];
-        found += (member.unit == 0) as u8;
-    }
-    found
 }
 
 // The first row of a unit, or how many rows there are; of unit 0 the lowest free row.
@@ -101,7 +63,6 @@ pub fn with_row(rows: [Member; 21], at: usize, member: Member) -> [Member; 21]
     let mut out = rows;
     if at < 21 {
         out[at] = member;
-        return out;
     }
     out
 }

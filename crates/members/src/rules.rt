@@ -2,12 +2,11 @@
 ghost use mathlib.Core.Path.{_≡_};
 ghost use lib.ListN.{take, drop};
 ghost use Rattle.octets.specs.Lists.{every};
-ghost use Rattle.members.specs.Members.{rowOf, rowsOf};
-ghost use Rattle.members.specs.Rules.{emptyIs, rowRule, unknownIn, judged, rowsRule};
+ghost use Rattle.slots.specs.Sets.{slotsOf};
+ghost use Rattle.members.specs.Members.{rowOf, rowsOf, held, vacant};
+ghost use Rattle.members.specs.Rules.{emptyIs, rowRule, distinct, judged, rowsRule};
 use crate::member::Member;
-use crate::rows::free;
 use crate::rows::in_use;
-use crate::rows::vacant;
 use moments::in_order;
 use slots::masks::apart;
 use slots::masks::below;
@@ -39,38 +38,52 @@ impl Member {
     }
 }
 
-// Whether no row from a place on is this unit's.
-fn unknown_from(rows: [Member; 21], from: usize, count: u8, unit: u16) -> bool
-    ensures { λ r. ⌜ r ≡ unknownIn unit (drop from (take count (rowsOf rows))) ⌝ }
+// Whether no two rows are one unit's: each is compared with those before it.
+fn distinct(rows: [Member; 21], count: u8) -> bool
+    ensures { λ r. ⌜ r ≡ distinct (take count (rowsOf rows)) ⌝ }
 {
     let used = in_use(count);
-    let mut i = from;
-    while i < used {
-        let member = rows[i];
-        if member.unit == unit {
+    let mut at = 0;
+    let mut other = 0;
+    while at < used {
+        let member = rows[at];
+        if (member.unit == 0) | (other == at) {
+            at += 1;
+            other = 0;
+            continue;
+        }
+        let before = rows[other];
+        if before.unit == member.unit {
             return false;
         }
-        i += 1;
+        other += 1;
     }
     true
 }
 
+// What the rows are together: whether each is within rule by itself and holds no slot of those behind it, what they hold, and how many are free.
+struct Together {
+    good: bool,
+    held: u64,
+    vacant: u8,
+}
+
 // Each row by itself and against those behind it.
-fn judged(rows: [Member; 21], count: u8, data_slots: u8, last: u32) -> bool
-    ensures { λ r. ⌜ r ≡ judged «data_slots» last (take count (rowsOf rows)) ⌝ }
+fn judged(rows: [Member; 21], count: u8, data_slots: u8, last: u32) -> Together
+    ensures { λ r. ⌜ (r .good ≡ judged «data_slots» last (take count (rowsOf rows))) × (slotsOf (r .held) ≡ held (take count (rowsOf rows))) × (r .vacant ≡ vacant (take count (rowsOf rows))) ⌝ }
 {
     let mut good = true;
-    let mut all: u64 = 0;
+    let mut held: u64 = 0;
+    let mut vacant: u8 = 0;
     let mut i = in_use(count);
     while 0 < i {
         i -= 1;
         let member = rows[i];
-        let unknown = unknown_from(rows, i + 1, count, member.unit);
-        let distinct = (member.unit == 0) | unknown;
-        good = member.within_rule(data_slots, last) & distinct & apart(member.slots, all) & good;
-        all = joined(member.slots, all);
+        good = member.within_rule(data_slots, last) & apart(member.slots, held) & good;
+        held = joined(member.slots, held);
+        vacant += (member.unit == 0) as u8;
     }
-    good
+    Together { good, held, vacant }
 }
 
 // Whether the rows that a plan uses are within rule, with its manager in the first and a free slot for each free row.
@@ -84,11 +97,13 @@ pub fn rows_within_rule(
     ensures { λ r. ⌜ r ≡ rowsRule manager «data_slots» last (take count (rowsOf rows)) ⌝ }
 {
     let first = rows[0];
-    let room = size(free(rows, count, data_slots));
+    let all = judged(rows, count, data_slots, last);
+    let room = size(without(below(data_slots as u32), all.held));
     (0 < count)
         & (first.unit == manager)
-        & judged(rows, count, data_slots, last)
-        & (vacant(rows, count) as u32 <= room)
+        & all.good
+        & distinct(rows, count)
+        & (all.vacant as u32 <= room)
 }
 
 // Whether every row from a place on is zeros.

@@ -20,7 +20,7 @@ module _ (s from to : ℕ) where
   in-to : within from to s ≡ true → s < to
   in-to e = ltb-true _ _ (and-eq-true-iff (leb from s) (ltb s to) .0 e .1)
 
-  inside : from ≤ s → s < to → within from to s ≡ true
+  pub inside : from ≤ s → s < to → within from to s ≡ true
   inside h l = rw (le-leb from s h, lt-ltb s to l)
 
   before : s < from → within from to s ≡ false

@@ -8,18 +8,19 @@ use lib.ListN.{take}
 use Rattle.slots.specs.Sets.{slotsOf}
 use Rattle.members.specs.Members.{rowsOf}
 use Rattle.joins.proofs.AnswerLaws.{asked}
-use Rattle.joins.proofs.GrantLaws.{row-within}
+use Rattle.joins.proofs.GrantLaws.{row-within, is-asked}
 use borrow.Author.Needs.{needs}
 use Rattle.joins.proofs.asking.ask.Statement.{statement}
 use Rattle.joins.proofs.asking.ask.Tie as tie
 
 cast-settle : tie.Need-cast-settle
 cast-settle c =
-    let found = c .before .before .before .before .before in
-    let current = found .before in
+    let census = c .before .before .before .before .before in
+    let current = census .before in
     let request = current .before .before .before in
     let rows = take (request .before .before .before .args .book .plan .rows) (rowsOf (current .current .result)) in
-    fits-under _ _ 22 (omega (arith, found .row-for .ensures, row-within (request .of .result .node) rows)) _
+    let (own, place, spaces, empty, few, long) = census .counted .ensures in
+    fits-under _ _ 22 (omega (arith, own, long, row-within (request .of .result .node) rows)) _
 
 returns : tie.Need-returns
 returns c =
@@ -29,14 +30,17 @@ returns c =
     let own = bytes .before in
     let held = own .before in
     let used = held .before in
-    let found = used .before in
-    let current = found .before in
+    let census = used .before in
+    let current = census .before in
     let request = current .before .before .before in
     let a = request .before .before .before .args in
+    let (found, place, spaces, empty, few, long) = census .counted .ensures in
+    let rows = take (a .book .plan .rows) (rowsOf (current .current .result)) in
+    let slots = is-asked (a .book .plan .«data_slots») rows _ (slotsOf (held .slots-in .result)) _ _ (request .of .result .slots) spaces empty (own .asks .ensures) in
     settled .settle .ensures ∙
-    asked (a .book) (a .time) (current .current .result) (current .current .ensures) (found .row-for .result) (used .in-use .result) (used .in-use .ensures) (found .row-for .ensures .1)
+    asked (a .book) (a .time) (current .current .result) (current .current .ensures) (census .counted .result .own) (used .in-use .result) (used .in-use .ensures) long
     (now (a .frame)) (now (a .out)) (slotsOf (own .asks .result)) (bytes .bytes-for .result) (refused .refusal .result) (bytes .bytes-for .ensures)
-    (request .of .result) (slotsOf (held .slots-in .result)) (request .of .ensures) (found .row-for .ensures .0) (held .slots-in .ensures) (own .asks .ensures) (refused .refusal .ensures)
+    (request .of .result) (slotsOf (held .slots-in .result)) (request .of .ensures) found (held .slots-in .ensures) slots (refused .refusal .ensures)
 
 pub ask-spec : {M : Type 1} → statement M
 ask-spec =

@@ -6,11 +6,10 @@ use Rattle.joins.proofs.joining.seated.Statement.{statement}
 use Rattle.joins.proofs.joining.seated.Tie as tie
 
 returns : tie.Need-returns
-returns c = c .slots-in .ensures ∙ rw (c .before .if1 .taken)
+returns c = rw (c .if1 .taken)
 
 returns-2 : tie.Need-returns-2
 returns-2 c = c .granted .ensures ∙ rw (c .before .if1 .left)
 
 pub seated-spec : {M : Type 1} → statement M
-seated-spec =
-    tie.close (tie.spec (λ c κs. search needs) returns (λ c κs. search needs) returns-2)
+seated-spec = tie.close (tie.spec returns (λ c κs. search needs) returns-2)

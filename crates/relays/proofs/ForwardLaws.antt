@@ -1,7 +1,7 @@
 -- Forwarding a beacon, from what its parts say.
 -- Assumes nothing.
 use mathlib.Core.Path.{_≡_, refl, sym, ap, _∙_}
-use mathlib.Core.Bool.{Bool, true, false, not, _&&_, and-eq-true-iff, false≢true}
+use mathlib.Core.Bool.{Bool, true, false, not, _&&_, cond, and-eq-true-iff, false≢true}
 use mathlib.Core.List.{List, [], _∷_, _++_}
 use Prim.Native.Nat.{ℕ, _+_, _*_, _≤_, _<_}
 use native.Mathlib.Omega.{arith}
@@ -24,9 +24,10 @@ use Rattle.frames.specs.Told.{wrote}
 use Rattle.writers.proofs.WritingLaws.{frame-length}
 use Rattle.routes.specs.declared.row.Row.{Row}
 use Rattle.routes.specs.declared.table.Table.{Table}
-use Rattle.routes.specs.Rows.{standing, standingPlaces}
-use Rattle.routes.specs.Tables.{rowsOf, withinRule}
+use Rattle.routes.specs.Rows.{leads, standing, standingPlaces, rowFor}
+use Rattle.routes.specs.Tables.{rowsOf, withinRule, leadsTo, lookupOf}
 use Rattle.routes.proofs.KeepLaws.{standing-rules}
+use Rattle.routes.proofs.LookupLaws.{lookup-told, lookup-leads}
 use Rattle.routes.proofs.RuleLaws.{within-pad}
 use Rattle.routes.proofs.StandingLaws.{standing-ascending, standing-places}
 use Rattle.routes.proofs.TableLaws.{within, held}
@@ -34,7 +35,7 @@ use Rattle.relays.specs.declared.passing.Passing.{Passing}
 use Rattle.relays.specs.Forwards as forwards
 use Rattle.relays.specs.Forwards.{passingOf, toForward, passingReasons, beaconIn, passedBy, copyOf, recorded, forwardRefusal, forwardOf}
 use Rattle.relays.proofs.CopyLaws.{written-whole}
-use Rattle.relays.proofs.ReasonLaws.{first-append}
+use Rattle.relays.proofs.ReasonLaws.{first-append, first-behind}
 
 pub beacon-in : (b : Beacon) (s : List ℕ) → beaconValues b ≡ valuesIn beacon s → b ≡ beaconIn s
 beacon-in b s e = ap beaconFrom e
@@ -51,14 +52,6 @@ passing-numbered t network p delay time =
 module _ (t : Table) (network : ℕ) (s : List ℕ) (delay time room : ℕ) where
   abbrev p : Passing
   p = passingOf (beaconIn s)
-
-  pub refusal-is : (b : Beacon) (q : Passing) (unread unpassed : ℕ) → b ≡ beaconIn s → q ≡ passingOf b → unread ≡ refusalAs beacon s
-      → unpassed ≡ first (passingReasons t network q delay time)
-      → first (reason (not (withinRule t)) 14 ∷ refusing unread ∷ reason (not (rules.network network)) 4 ∷ refusing unpassed ∷ reason (ltb room 34) 5 ∷ [])
-      ≡ forwardRefusal t network s delay time room
-  unfolding forwardRefusal
-  refusal-is b q unread unpassed e c u l =
-      rw (l, c, e, u, copy-length t delay s, first-append (passingReasons t network p delay time) (reason (ltb room 34) 5 ∷ []) (passing-numbered t network p delay time))
 
   abbrev reasons : List Reason
   reasons =
@@ -127,6 +120,51 @@ ruled b e =
 
 pub read-ruled : (s : List ℕ) → refusalAs beacon s ≡ 0 → Ruled (beaconIn s)
 read-ruled s e = ruled (beaconIn s) (passed _ _ _ s e .kept)
+
+-- why a beacon that was read is not passed on, from the row for its original source
+module _ (t : Table) (network : ℕ) (p : Passing) (delay time : ℕ) where
+  abbrev from : ℕ
+  from = p .«original_source»
+
+  -- the reasons before the row is asked for, and those behind: whether it leads there, and with how many hops
+  abbrev before : List Reason
+  before = reason (eqb (p .source) (t .own)) 6 ∷ reason (not (eqb (p .network) network)) 15 ∷ reason (not (inOrder (t .time) time)) 8 ∷ []
+
+  abbrev behind : Bool → ℕ → List Reason
+  behind leads hops =
+      reason (not leads) 11 ∷
+      reason (not (eqb hops (p .hop + 1) && ltb (p .hop) (p .«max_hops») && not (forwards.again t p))) 16 ∷
+      reason (ltb 0xFFFFFFFF (p .delay + delay)) 4 ∷
+      []
+
+  pub unpassed-is : (row : Row) → row ≡ rowFor from (rowsOf t) → withinRule t ≡ true → rules.address from ≡ true
+      → first (before ++ behind (leads from time row) (row .hops)) ≡ first (passingReasons t network p delay time)
+  unpassed-is row e w a =
+      let hops = rowFor from (rowsOf t) .hops in
+      let m = lookupOf t from time .refusal in
+      rw e
+      (first-behind before (behind (leadsTo t from time) hops) (behind (eqb m 0) (forwards.ownHop t p time))
+      (λ n. go (leadsTo t from time) (lookup-leads t from time w a (not-false _ (n .1 .1 .0)))))
+    where
+      go : (b : Bool) → eqb (lookupOf t from time .refusal) 0 ≡ b
+          → first (behind b (rowFor from (rowsOf t) .hops)) ≡ first (behind (eqb (lookupOf t from time .refusal) 0) (forwards.ownHop t p time))
+      go true q = rw (q, lookup-told t from time (eqb-true _ 0 q))
+      go false q = rw q
+
+module _ (t : Table) (network : ℕ) (s : List ℕ) (delay time room : ℕ) where
+  pub refusal-is : (b : Beacon) (q : Passing) (unread unpassed : ℕ) → b ≡ beaconIn s → q ≡ passingOf b → unread ≡ refusalAs beacon s
+      → (withinRule t ≡ true → rules.address (q .«original_source») ≡ true → unpassed ≡ first (passingReasons t network q delay time))
+      → first (reason (not (withinRule t)) 14 ∷ refusing unread ∷ reason (not (rules.network network)) 4 ∷ refusing unpassed ∷ reason (ltb room 34) 5 ∷ [])
+      ≡ forwardRefusal t network s delay time room
+  unfolding forwardRefusal
+  refusal-is b q unread unpassed e c u l =
+      rw (u, copy-length t delay s)
+      (first-behind (reason (not (withinRule t)) 14 ∷ refusing (refusalAs beacon s) ∷ reason (not (rules.network network)) 4 ∷ [])
+      (refusing unpassed ∷ reason (ltb room 34) 5 ∷ []) (passingReasons t network (passingOf (beaconIn s)) delay time ++ (reason (ltb room 34) 5 ∷ []))
+      (λ n.
+      let known = read-ruled s (eqb-true (refusalAs beacon s) 0 (not-false _ (n .1 .0))) in
+      let why : unpassed ≡ first (passingReasons t network (passingOf (beaconIn s)) delay time) = rw (c, e) at (l (not-false _ (n .0)) (rw (c, e) (known .origin))) in
+      rw why (sym (first-append (passingReasons t network (passingOf (beaconIn s)) delay time) (reason (ltb room 34) 5 ∷ []) (passing-numbered t network (passingOf (beaconIn s)) delay time)))))
 
 module _ (t : Table) (network : ℕ) (s : List ℕ) (delay time : ℕ) (out : List ℕ) (b : Beacon) (n : ℕ) (e : n ≡ forwardRefusal t network s delay time (length out)) where
   abbrev copy : Beacon

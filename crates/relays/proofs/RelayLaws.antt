@@ -2,79 +2,95 @@
 -- Assumes nothing.
 use mathlib.Core.Path.{_≡_, refl, sym, ap, _∙_}
 use mathlib.Core.Bool.{Bool, true, false, not, _&&_, cond, and-eq-true-iff, false≢true}
-use mathlib.Core.List.{List, [], _∷_}
+use mathlib.Core.List.{List, [], _∷_, _++_}
 use Prim.Native.Nat.{ℕ, _+_, _≤_}
 use native.Mathlib.Omega.{arith}
-use borrow.Author.Tests.{eqb-true, not-true, not-false}
+use borrow.Author.Tests.{eqb-true, ltb-false, not-true, not-false}
 use lib.Dec.{eqb, leb, ltb}
 use lib.ListN.{length, getD, drop, length-take, length-drop}
 use lib.Seq.{sets}
-use Rattle.octets.specs.Answers.{Said, accepted, refused, Reason, reason, refusing, first, unless}
+use Rattle.octets.specs.Answers.{accepted, refused, Reason, reason, refusing, first, unless}
 use Rattle.octets.proofs.AnswerLaws.{numbered, refusing-numbered, none-holds}
 use Rattle.moments.specs.Moments.{inOrder}
 use Rattle.shapes.specs.Reading.{refusalAs}
-use Rattle.shapes.specs.Shape.{lengthOf, valuesIn, partIn}
-use Rattle.shapes.specs.Writing.{Wrote, writeAs}
+use Rattle.shapes.specs.Rules.{address}
+use Rattle.shapes.specs.Shape.{lengthOf, valuesIn, partIn, frameOf}
+use Rattle.shapes.specs.Writing.{Wrote}
 use Rattle.shapes.proofs.ReadingLaws.{Passed, passed}
 use Rattle.traffic.specs.declared.data_frame.DataHeader.{DataHeader}
 use Rattle.traffic.specs.Traffic.{dataKind, dataValues, dataFrom}
-use Rattle.frames.specs.declared.answers.Written.{Written}
-use Rattle.frames.specs.Told.{toldWritten, wrote}
 use Rattle.writers.proofs.WritingLaws.{frame-length}
-use Rattle.routes.specs.declared.table.Found.{Found}
+use Rattle.routes.specs.declared.row.Row.{Row}
 use Rattle.routes.specs.declared.table.Table.{Table}
-use Rattle.routes.specs.Tables.{withinRule, lookupOf}
-use Rattle.routes.specs.Told.{toldFound}
+use Rattle.routes.specs.Rows.{leads, rowFor}
+use Rattle.routes.specs.Tables.{rowsOf, withinRule, leadsTo, lookupOf}
+use Rattle.routes.proofs.LookupLaws.{lookup-told, lookup-leads}
 use Rattle.relays.specs.declared.relaying.Relayed.{Relayed}
 use Rattle.relays.specs.Relays.{dataIn, forUs, passedOn, copyOf, relayRefusal, relayOf, handedBack, toldRelayed, relayed}
-use Rattle.relays.proofs.CopyLaws.{written-whole}
+use Rattle.relays.proofs.ReasonLaws.{first-behind}
 
 pub header-in : (h : DataHeader) (s : List ℕ) → dataValues h ≡ valuesIn dataKind s → h ≡ dataIn s
 header-in h s e = ap dataFrom e
 
--- what the lookup of its destination says
-pub lost-is : (t : Table) (s : List ℕ) (time : ℕ) (h : DataHeader) (found : Found) (n : ℕ) → dataValues h ≡ valuesIn dataKind s
-    → toldFound found ≡ lookupOf t (h .destination) time → n ≡ toldFound found .refusal → n ≡ lookupOf t (dataIn s .destination) time .refusal
-lost-is t s time h found n e l q =
-    q ∙ (ap (λ (said : Said). said .refusal) l ∙ ap (λ (f : DataHeader). lookupOf t (f .destination) time .refusal) (header-in h s e))
+-- whether the row that was looked up leads there
+pub leads-is : (t : Table) (s : List ℕ) (time : ℕ) (h : DataHeader) (row : Row) (b : Bool) → dataValues h ≡ valuesIn dataKind s
+    → row ≡ rowFor (h .destination) (rowsOf t) → b ≡ leads (h .destination) time row → b ≡ leadsTo t (dataIn s .destination) time
+leads-is t s time h row b e r q = q ∙ rw (r, header-in h s e)
 
 -- a copy has its payload and ten bytes
 pub copy-length : (s : List ℕ) → length (partIn dataKind s) + 10 ≡ length (copyOf s)
 copy-length s =
     omega (arith, frame-length (1 ∷ dataKind .widths) (dataKind .code ∷ dataValues (passedOn (dataIn s))) (partIn dataKind s) [] 9 refl refl)
 
+-- the addresses of a frame that was read
+pub read-destination : (s : List ℕ) → refusalAs dataKind s ≡ 0 → address (dataIn s .destination) ≡ true
+read-destination s e = and-eq-true-iff (address (dataIn s .source)) (address (dataIn s .destination)) .0 (passed _ _ _ s e .kept) .1
+
 module _ (t : Table) (s : List ℕ) (time room : ℕ) where
-  -- the reasons, as the code sees them
-  abbrev reasons : DataHeader → ℕ → ℕ → ℕ → List Reason
-  reasons h unread lost size =
-      reason (not (withinRule t)) 14 ∷
-      refusing unread ∷
-      reason (eqb (h .source) (t .own)) 6 ∷
-      reason (not (inOrder (t .time) time)) 8 ∷
+  -- the reasons, as the code sees them: those before a row is asked for, and those behind
+  abbrev before : Bool → DataHeader → ℕ → List Reason
+  before within h unread =
+      reason (not within) 14 ∷ refusing unread ∷ reason (eqb (h .source) (t .own)) 6 ∷ reason (not (inOrder (t .time) time)) 8 ∷ []
+
+  abbrev behind : DataHeader → Bool → ℕ → List Reason
+  behind h leads size =
       reason (not (eqb (h .destination) (t .own)) && leb (h .ttl) 1) 10 ∷
-      reason (not (eqb (h .destination) (t .own)) && not (eqb lost 0)) 11 ∷
+      reason (not (eqb (h .destination) (t .own)) && not leads) 11 ∷
       reason (not (eqb (h .destination) (t .own)) && ltb room size) 5 ∷
       []
 
-  pub refusal-is : (h : DataHeader) (unread lost size : ℕ) → h ≡ dataIn s → unread ≡ refusalAs dataKind s
-      → lost ≡ lookupOf t (dataIn s .destination) time .refusal → size ≡ length (copyOf s) → first (reasons h unread lost size) ≡ relayRefusal t s time room
+  pub refusal-is : (h : DataHeader) (within leads : Bool) (unread size : ℕ) → h ≡ dataIn s → within ≡ withinRule t
+      → leads ≡ leadsTo t (dataIn s .destination) time → unread ≡ refusalAs dataKind s → size ≡ length (copyOf s)
+      → first (before within h unread ++ behind h leads size) ≡ relayRefusal t s time room
   unfolding relayRefusal
-  refusal-is h unread lost size e u l z = rw (e, u, l, z)
+  refusal-is h within leads unread size e w l u z =
+      let m = lookupOf t (dataIn s .destination) time .refusal in
+      rw (e, w, l, u, z)
+      (first-behind (before (withinRule t) (dataIn s) (refusalAs dataKind s)) (behind (dataIn s) (leadsTo t (dataIn s .destination) time) (length (copyOf s))) (behind (dataIn s) (eqb m 0) (length (copyOf s)))
+      (λ n.
+      rw (lookup-leads t (dataIn s .destination) time (not-false _ (n .0)) (read-destination s (eqb-true (refusalAs dataKind s) 0 (not-false _ (n .1 .0))))
+      (not-false _ (n .1 .1 .1 .0)))))
 
   -- what is known of a frame that is passed on
   pub record Onward : Type 0 where
     pub unread : refusalAs dataKind s ≡ 0
+    pub found : lookupOf t (dataIn s .destination) time .refusal ≡ 0
     pub fits : ltb room (length (copyOf s)) ≡ false
 
   onward : relayRefusal t s time room ≡ 0 → forUs t s ≡ false → Onward
   unfolding relayRefusal
   onward e o =
       let n = refusalAs dataKind s in
-      let none = none-holds (reasons (dataIn s) n (lookupOf t (dataIn s .destination) time .refusal) (length (copyOf s)))
+      let m = lookupOf t (dataIn s .destination) time .refusal in
+      let none = none-holds (before (withinRule t) (dataIn s) n ++ behind (dataIn s) (eqb m 0) (length (copyOf s)))
       (numbered _ 14 (λ z. omega arith), (refusing-numbered n, (numbered _ 6 (λ z. omega arith), (numbered _ 8 (λ z. omega arith), (numbered _ 10 (λ z. omega arith), (numbered _ 11 (λ z. omega arith), (numbered _ 5 (λ z. omega arith), tt))))))) e in
-      record { unread = eqb-true n 0 (not-false _ (none .1 .0)); fits = (rw o at (none .1 .1 .1 .1 .1 .1 .0)) }
+      record {
+        unread = eqb-true n 0 (not-false _ (none .1 .0));
+        found = eqb-true m 0 (not-false _ (rw o at (none .1 .1 .1 .1 .1 .0)));
+        fits = (rw o at (none .1 .1 .1 .1 .1 .1 .0));
+      }
 
--- the copy of a frame that was read breaks no rule
+-- the copy of a frame that is passed on
 module _ (t : Table) (s : List ℕ) (time : ℕ) (out : List ℕ) (e : relayRefusal t s time (length out) ≡ 0) (o : forUs t s ≡ false) where
   known : Passed (dataKind .code) (lengthOf dataKind (dataIn s .count)) (dataKind .rule (valuesIn dataKind s) (partIn dataKind s)) s
   known = passed _ _ _ s (onward t s time (length out) e o .unread)
@@ -86,38 +102,30 @@ module _ (t : Table) (s : List ℕ) (time : ℕ) (out : List ℕ) (e : relayRefu
   pub copy-short : length (copyOf s) ≤ 255
   copy-short = omega (arith, copy-length s, part-length, known .sized, known .short)
 
-  pub copied : writeAs dataKind (dataValues (passedOn (dataIn s))) (partIn dataKind s) out
-      ≡ record { said = accepted (length (copyOf s) ∷ []); held = sets out 0 (copyOf s) }
-  copied =
-      written-whole _ _ (copyOf s) out
-      (omega (arith, copy-length s, part-length))
-      copy-short
-      (known .kept) (onward t s time (length out) e o .fits)
+  pub copy-fits : 10 + length (partIn dataKind s) ≤ length out
+  copy-fits = omega (arith, copy-length s, ltb-false (length out) (length (copyOf s)) (onward t s time (length out) e o .fits))
 
-  onto : (w : Written) (held : List ℕ) (next size : ℕ)
-      → wrote w held ≡ writeAs dataKind (dataValues (passedOn (dataIn s))) (partIn dataKind s) out
-      → next ≡ getD (lookupOf t (dataIn s .destination) time .values) 0 0
-      → size ≡ getD (toldWritten w .values) 0 0
-      → record { said = accepted (next ∷ size ∷ []); held = held } ≡ relayOf t s time out
+  onto : record { said = accepted (rowFor (dataIn s .destination) (rowsOf t) .«next_hop» ∷ length (copyOf s) ∷ []); held = sets out 0 (copyOf s) } ≡ relayOf t s time out
   unfolding relayOf
-  onto w held next size p n q =
-      let told : size ≡ length (copyOf s) = q ∙ ap (λ (x : Wrote). getD (x .said .values) 0 0) (p ∙ copied) in
-      let kept : held ≡ sets out 0 (copyOf s) = ap (λ (x : Wrote). x .held) (p ∙ copied) in
-      rw (told, kept, n, e, o)
+  onto = rw (lookup-told t (dataIn s .destination) time (onward t s time (length out) e o .found), e, o)
 
 -- ---- the answers, with what was read as the code has it
 module _ (t : Table) (s : List ℕ) (time : ℕ) (out : List ℕ) (h : DataHeader) (n : ℕ) where
-  pub relayed-on : (w : Written) (held : List ℕ) (found : Found) (next size : ℕ) (copy : DataHeader) (part : List ℕ)
-      → dataValues h ≡ valuesIn dataKind s → n ≡ relayRefusal t s time (length out)
-      → (eqb n 0 && not (eqb (h .destination) (t .own))) ≡ true → copy ≡ passedOn h → part ≡ partIn dataKind s
-      → wrote w held ≡ writeAs dataKind (dataValues copy) part out → toldFound found ≡ lookupOf t (h .destination) time
-      → next ≡ getD (toldFound found .values) 0 0 → size ≡ getD (toldWritten w .values) 0 0
-      → record { said = accepted (next ∷ size ∷ []); held = held } ≡ relayOf t s time out
-  relayed-on w held found next size copy part e z f c p q l m a =
-      let g = header-in h s e in
-      let (none, other) = and-eq-true-iff (eqb n 0) (not (eqb (h .destination) (t .own))) .0 f in
-      onto t s time out (sym z ∙ eqb-true n 0 none) (rw g at (not-true (eqb (h .destination) (t .own)) other)) w held next size
-      (q ∙ rw (c, p, g)) (m ∙ rw (l, g)) a
+  module _ (e : dataValues h ≡ valuesIn dataKind s) (z : n ≡ relayRefusal t s time (length out)) (f : (eqb n 0 && not (eqb (h .destination) (t .own))) ≡ true) where
+    accepts : relayRefusal t s time (length out) ≡ 0
+    accepts = sym z ∙ eqb-true n 0 (and-eq-true-iff (eqb n 0) (not (eqb (h .destination) (t .own))) .0 f .0)
+
+    others : forUs t s ≡ false
+    others =
+        rw (header-in h s e) at (not-true (eqb (h .destination) (t .own)) (and-eq-true-iff (eqb n 0) (not (eqb (h .destination) (t .own))) .0 f .1))
+
+    pub has-room : (part : List ℕ) → part ≡ partIn dataKind s → 10 + length part ≤ length out
+    has-room part p = rw p (copy-fits t s time out accepts others)
+
+    pub relayed-on : (row : Row) (copy : DataHeader) (part held : List ℕ) → row ≡ rowFor (h .destination) (rowsOf t) → copy ≡ passedOn h → part ≡ partIn dataKind s
+        → held ≡ sets out 0 (frameOf dataKind (dataValues copy) part)
+        → record { said = accepted (row .«next_hop» ∷ (length part + 10) ∷ []); held = held } ≡ relayOf t s time out
+    relayed-on row copy part held r c p q = rw (r, q, c, p, header-in h s e, copy-length s) (onto t s time out accepts others)
 
   -- a frame of which nothing is written
   pub relayed-off : (r : Relayed) → dataValues h ≡ valuesIn dataKind s → n ≡ relayRefusal t s time (length out)

@@ -2,14 +2,14 @@
 ghost use mathlib.Core.Path.{_≡_};
 ghost use mathlib.Core.Bool.{true};
 ghost use Rattle.octets.specs.Answers.{first};
+ghost use Rattle.shapes.specs.Rules.{address};
 ghost use Rattle.routes.specs.Tables.{withinRule};
 ghost use Rattle.relays.specs.Forwards.{again, passingReasons, recorded};
-use crate::lookups::hops;
-use crate::lookups::number;
 use moments::in_order;
 use octets::answers::refuse_if;
 use routes::standing::standing_places;
 use routes::table::Table;
+use routes::table::row_for;
 
 pub struct Passing {
     pub source: u16,
@@ -30,7 +30,7 @@ fn again(table: Table, passing: Passing) -> bool
         & (table.sequence == passing.sequence)
 }
 
-// Why a beacon that was read is not passed on with this delay, whatever the room; 0 where it is.
+// Why a beacon that was read is not passed on by a table within rule with this delay, whatever the room; 0 where it is.
 pub(crate) fn why_not_passed(
     table: Table,
     network: u16,
@@ -38,15 +38,16 @@ pub(crate) fn why_not_passed(
     delay: u32,
     time: u32,
 ) -> u8
-    ensures { λ r. ⌜ r ≡ first (passingReasons table network passing delay time) ⌝ }
+    ensures { λ r. ⌜ (withinRule table ≡ true → address (passing .«original_source») ≡ true → r ≡ first (passingReasons table network passing delay time)) ⌝ }
 {
-    let found = table.lookup(passing.original_source, time);
-    let next = hops(found) as u16 == passing.hop as u16 + 1;
+    let rows = table.rows;
+    let row = row_for(rows, passing.original_source);
+    let next = row.hops as u16 == passing.hop as u16 + 1;
     let ours = next & (passing.hop < passing.max_hops) & !again(table, passing);
     let sum = passing.delay as u64 + delay as u64;
     let refused = refuse_if(0xFFFFFFFF < sum, 4, 0);
     let refused = refuse_if(!ours, 16, refused);
-    let refused = refuse_if(!(number(found) == 0), 11, refused);
+    let refused = refuse_if(!row.leads(passing.original_source, time), 11, refused);
     let refused = refuse_if(!in_order(table.time, time), 8, refused);
     let refused = refuse_if(!(passing.network == network), 15, refused);
     refuse_if(passing.source == table.own, 6, refused)

@@ -14,7 +14,7 @@ use Rattle.moments.proofs.MomentLaws.{in-order-self}
 use Rattle.shapes.specs.Rules.{address}
 use Rattle.routes.specs.declared.row.Row.{Row}
 use Rattle.routes.specs.declared.table.Table.{Table}
-use Rattle.routes.specs.Rows.{none, usable, stands, forgotten, ascending, standing, rowFor}
+use Rattle.routes.specs.Rows.{none, usable, leads, stands, forgotten, ascending, standing, rowFor}
 use Rattle.routes.specs.Tables.{rowsOf, withinRule, withRows, dropped, lookupOf, forgetOf}
 use Rattle.routes.proofs.KeepLaws.{ascending-above, standing-rules}
 use Rattle.routes.proofs.RuleLaws.{within-pad}
@@ -59,16 +59,12 @@ absent d (r ∷ rs) e =
     let (here, later) = and-eq-true-iff (ltb d (r .destination)) (every (λ s. ltb d (s .destination)) rs) .0 e in
     rw (ne-eqb (r .destination) d (λ z. omega (arith, ltb-true d (r .destination) here)), absent d rs later)
 
--- the row for a destination is usable
-abbrev carries : ℕ → ℕ → Row → Bool
-carries time d r = eqb (r .destination) d && usable time r
-
 -- two lists answer a lookup alike
 record Alike (time d : ℕ) (xs ys : List Row) : Type 0 where
-  test : carries time d (rowFor d xs) ≡ carries time d (rowFor d ys)
-  row : carries time d (rowFor d ys) ≡ true → rowFor d xs ≡ rowFor d ys
+  test : leads d time (rowFor d xs) ≡ leads d time (rowFor d ys)
+  row : leads d time (rowFor d ys) ≡ true → rowFor d xs ≡ rowFor d ys
 
-alike-none : (time d : ℕ) → (d ≡ 0 → ⊥) → carries time d none ≡ false
+alike-none : (time d : ℕ) → (d ≡ 0 → ⊥) → leads d time none ≡ false
 alike-none time d h = rw (ne-eqb 0 d (λ z. h (sym z)))
 
 alike : (time d : ℕ) → (d ≡ 0 → ⊥) → (rs : List Row) → ascending rs ≡ true → Alike time d (standing time rs) rs

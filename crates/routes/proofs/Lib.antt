@@ -1,5 +1,6 @@
 pub mod DroppedLaws
 pub mod KeepLaws
+pub mod LookupLaws
 pub mod PlaceLaws
 pub mod RowLaws
 pub mod RuleLaws

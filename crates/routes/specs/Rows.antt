@@ -20,6 +20,10 @@ none = record { destination = 0; «next_hop» = 0; hops = 0; quality = 0; time =
 abbrev pub usable : ℕ → Row → Bool
 usable time r = not (r .withdrawn) && leb (ageAt time (r .time)) 300000
 
+-- traffic to a destination may go by a row: it is the destination's, and usable
+abbrev pub leads : ℕ → ℕ → Row → Bool
+leads d time r = eqb (r .destination) d && usable time r
+
 -- a row stands, usable or dead, until it is gone: up to 360,000 ms, or 60,000 after its withdrawal
 abbrev pub stands : ℕ → Row → Bool
 stands time r = leb (ageAt time (r .time)) (cond (r .withdrawn) 60000 360000)

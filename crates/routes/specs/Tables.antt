@@ -12,7 +12,7 @@ use Rattle.shapes.specs.Rules.{address}
 use Rattle.routes.specs.declared.row.Row.{Row}
 use Rattle.routes.specs.declared.table.Table.{Table}
 use Rattle.routes.specs.declared.table.Changed.{Changed}
-use Rattle.routes.specs.Rows.{none, usable, rowRule, isNone, forgotten, ascending, inUse, pad, standing, rowFor}
+use Rattle.routes.specs.Rows.{none, usable, leads, rowRule, isNone, forgotten, ascending, inUse, pad, standing, rowFor}
 
 -- the rows of a table, in order
 abbrev pub rowsOf : Table → List Row
@@ -39,6 +39,10 @@ dropped time t = withRows t (t .time) (standing time (rowsOf t))
 -- a changing call: the number that refuses it with the table as it was, or the new table
 abbrev pub settled : ℕ → Table → Table → Changed
 settled number t new = record { refused = number; table = cond (eqb number 0) new t }
+
+-- the row for a destination, if there is one, may carry traffic there at this time
+abbrev pub leadsTo : Table → ℕ → ℕ → Bool
+leadsTo t d time = leads d time (rowFor d (rowsOf t))
 
 -- ---- the calls
 

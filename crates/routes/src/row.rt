@@ -2,7 +2,7 @@
 ghost use mathlib.Core.Path.{_≡_};
 ghost use mathlib.Core.Bool.{cond};
 ghost use Rattle.routes.specs.Places.{okRow};
-ghost use Rattle.routes.specs.Rows.{none, usable, stands, rowRule, isNone, withdrawnAt, forgotten};
+ghost use Rattle.routes.specs.Rows.{none, usable, leads, stands, rowRule, isNone, withdrawnAt, forgotten};
 use moments::age;
 use moments::in_order;
 
@@ -48,6 +48,13 @@ impl Row {
         ensures { λ r. ⌜ r ≡ usable time self ⌝ }
     {
         !self.withdrawn & (age(time, self.time) <= 300000)
+    }
+
+    // Whether traffic to a destination may go by it at this time.
+    pub fn leads(self, destination: u16, time: u32) -> bool
+        ensures { λ r. ⌜ r ≡ leads destination time self ⌝ }
+    {
+        (self.destination == destination) & self.usable(time)
     }
 
     // Whether it is not gone at this time.

@@ -66,7 +66,7 @@ fn pair_ok(forwarded: bool, origin: u16, sequence: u16) -> bool
 }
 
 // The row for a destination, or none.
-fn row_for(rows: [Row; 48], destination: u16) -> Row
+pub fn row_for(rows: [Row; 48], destination: u16) -> Row
     ensures { λ r. ⌜ r ≡ rowFor destination (inUse rows) ⌝ }
 {
     for i in 0..48 {
@@ -167,8 +167,7 @@ impl Table {
         let rows = self.rows;
         let row = row_for(rows, destination);
         let address = (1 <= destination) & (destination <= 0xFFFE);
-        let usable = (row.destination == destination) & row.usable(time);
-        let refused = refuse_if(!usable, 11, 0);
+        let refused = refuse_if(!row.leads(destination, time), 11, 0);
         let refused = refuse_if(!in_order(self.time, time), 8, refused);
         let refused = refuse_if(!address, 4, refused);
         answered(refuse_if(!self.within_rule(), 14, refused), row)

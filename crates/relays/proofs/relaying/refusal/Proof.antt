@@ -11,24 +11,29 @@ use Rattle.relays.proofs.relaying.refusal.Tie as tie
 
 returns : tie.Need-returns
 returns c =
-    let a = c .before .before .before .before .before .before .before .before .before .before .before .before .before .before .before .before .before .before .args in
+    let fifth = c .before .before in
+    let fourth = fifth .before .before .before in
+    let third = fourth .before .before in
+    let second = third .before .before in
+    let first = second .before in
+    let unread = first .before .before .before .before in
+    let header = unread .before in
+    let start = header .before .before in
+    let a = start .args in
     c .refuse-if7 .ensures ∙
     rw (
-      c .before .before .refuse-if6 .ensures,
-      c .before .before .before .refuse-if5 .ensures,
-      c .before .before .before .before .before .before .refuse-if4 .ensures,
-      c .before .before .before .before .before .before .before .before .refuse-if3 .ensures,
-      c .before .before .before .before .before .before .before .before .before .before .refuse-if2 .ensures,
-      c .before .before .before .before .before .before .before .before .before .before .before .refuse-if .ensures,
-      c .before .within-rule .ensures,
-      c .before .before .before .before .before .before .before .in-order .ensures,
+      c .before .refuse-if6 .ensures,
+      fifth .refuse-if5 .ensures,
+      fourth .refuse-if4 .ensures,
+      third .refuse-if3 .ensures,
+      second .refuse-if2 .ensures,
+      first .refuse-if .ensures,
+      fourth .before .in-order .ensures,
     )
-    (refusal-is (a .table) (a .frame .now) (a .time) (a .room) (c .before .before .before .before .before .before .before .before .before .before .before .before .before .before .before .before .of .result) (c .before .before .before .before .before .before .before .before .before .before .before .before .before .before .before .data-frame .result) (a .lost) _
-    (header-in _ _ (c .before .before .before .before .before .before .before .before .before .before .before .before .before .before .before .before .of .ensures))
-    (c .before .before .before .before .before .before .before .before .before .before .before .before .before .before .before .data-frame .ensures)
-    (c .before .before .before .before .before .before .before .before .before .before .before .before .before .before .before .before .before .before .pre)
-    (ap (λ (l : List ℕ). length l + 10) (c .before .before .before .before .before .before .before .before .before .before .before .before .payload .ensures) ∙ copy-length (a .frame .now)))
+    (refusal-is (a .table) (a .frame .now) (a .time) (a .room) (header .of .result) (a .within) (a .leads) (unread .data-frame .result) _
+    (header-in _ _ (header .of .ensures)) (start .pre .0) (start .pre .1) (unread .data-frame .ensures)
+    (ap (λ (l : List ℕ). length l + 10) (first .before .payload .ensures) ∙ copy-length (a .frame .now)))
 
 pub refusal-spec : {M : Type 1} → statement M
 refusal-spec =
-    tie.close (tie.spec (λ c κs. search needs) (λ c κs. search needs) (λ c κs. search needs) (λ c. search needs) (λ c κs. search needs) (λ c κs. search needs) (λ c κs. search needs) (λ c κs. search needs) (λ c κs. search needs) (λ c κs. search needs) (λ c κs. search needs) (λ c κs. search needs) (λ c κs. search needs) returns)
+    tie.close (tie.spec (λ c κs. search needs) (λ c κs. search needs) (λ c κs. search needs) (λ c. search needs) (λ c κs. search needs) (λ c κs. search needs) (λ c κs. search needs) (λ c κs. search needs) (λ c κs. search needs) (λ c κs. search needs) (λ c κs. search needs) (λ c κs. search needs) returns)

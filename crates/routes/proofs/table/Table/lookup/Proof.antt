@@ -19,8 +19,8 @@ returns c =
       first .refuse-if .ensures,
       c .before .before .within-rule .ensures,
       third .before .before .in-order .ensures,
-      first .before .usable .ensures,
-      first .before .before .before .row-for .ensures,
+      first .before .leads .ensures,
+      first .before .before .row-for .ensures,
     )
 
 pub lookup-spec : {M : Type 1} → statement M

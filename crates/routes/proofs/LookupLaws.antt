@@ -1,0 +1,34 @@
+-- A lookup, from the row for its destination.
+-- Assumes nothing.
+use mathlib.Core.Path.{_≡_, refl, sym, ap, _∙_}
+use mathlib.Core.Bool.{Bool, true, false, not, cond}
+use mathlib.Core.List.{List, [], _∷_}
+use Prim.Native.Nat.{ℕ}
+use lib.Dec.{eqb}
+use Rattle.octets.specs.Answers.{Said, accepted, unless}
+use Rattle.octets.proofs.AnswerLaws.{unless-none, unless-number}
+use Rattle.moments.specs.Moments.{inOrder}
+use Rattle.shapes.specs.Rules.{address}
+use Rattle.routes.specs.declared.row.Row.{Row}
+use Rattle.routes.specs.declared.table.Table.{Table}
+use Rattle.routes.specs.Rows.{rowFor}
+use Rattle.routes.specs.Tables.{rowsOf, withinRule, leadsTo, lookupRefusal, lookupOf}
+
+module _ (t : Table) (d time : ℕ) where
+  abbrev hop : List ℕ
+  hop = rowFor d (rowsOf t) .«next_hop» ∷ rowFor d (rowsOf t) .hops ∷ []
+
+  -- one that is accepted tells the row
+  pub lookup-told : lookupOf t d time .refusal ≡ 0 → lookupOf t d time .values ≡ hop
+  unfolding lookupOf
+  lookup-told z =
+      ap (λ (said : Said). said .values) (unless-none (lookupRefusal t d time) (accepted hop) (sym (unless-number (lookupRefusal t d time) hop) ∙ z))
+
+  -- where nothing else refuses it, it is accepted exactly if the row leads there
+  pub lookup-leads : withinRule t ≡ true → address d ≡ true → inOrder (t .time) time ≡ true → eqb (lookupOf t d time .refusal) 0 ≡ leadsTo t d time
+  unfolding lookupOf
+  lookup-leads w a o = rw (w, a, o) (go (leadsTo t d time))
+    where
+      go : (b : Bool) → eqb (unless (cond (not b) 11 0) (accepted hop) .refusal) 0 ≡ b
+      go true = refl
+      go false = refl

@@ -1,7 +1,7 @@
 -- The loop over an update's candidates: what is learned so far, with what is left to learn, is the whole.
 -- Assumes nothing.
 use mathlib.Core.Path.{_≡_, refl, sym, ap, _∙_}
-use mathlib.Core.Bool.{Bool, true, false, not}
+use mathlib.Core.Bool.{Bool, true, false, not, cond}
 use mathlib.Core.List.{List, []}
 use Prim.Native.Nat.{ℕ, suc, _+_, _-_, _*_, _≤_, _<_}
 use native.Mathlib.Nat.{add-zero}
@@ -9,7 +9,7 @@ use native.Mathlib.Numerals.{add-one}
 use native.Mathlib.Omega.{arith}
 use borrow.Author.Tests.{not-true, not-false, ltb-true}
 use lib.Dec.{eqb, ltb}
-use lib.ListN.{length, getD, drop, set, drop-of-length-le}
+use lib.ListN.{length, getD, take, drop, set, drop-of-length-le}
 use lib.Seq.{drop-cons}
 use mir.Val.{boolByte}
 use Rattle.octets.specs.Lists.{every}
@@ -20,9 +20,9 @@ use Rattle.routes.proofs.StandingLaws.{pad-length}
 use Rattle.merges.specs.declared.candidate.Candidate.{Candidate}
 use Rattle.merges.specs.Learning.{put, learned, learn, learnAll}
 use Rattle.merges.specs.Offering.{nothing, offerAt, candidateNo, walked, fair}
-use Rattle.merges.specs.Searching.{goesOn, stores, skips, made, movedIn}
+use Rattle.merges.specs.Searching.{goesOn, startsAt, stores, skips, made, movedIn}
 use Rattle.merges.proofs.PadLaws.{pad-at, used-within}
-use Rattle.merges.proofs.SearchLaws.{Searched, searched-start, searched-on}
+use Rattle.merges.proofs.SearchLaws.{Searched, searched-start, searched-on, put-keeps, searched-next}
 use Rattle.merges.proofs.StepLaws.{Sound, Stored, stored-sound, step-off, step-set, step-move}
 
 numbered : (own origin quality : ℕ) (part : List ℕ) (n : ℕ) → offerAt own origin quality part n ≡ candidateNo own origin quality part (n + 1)
@@ -111,8 +111,8 @@ module _ (part : List ℕ) (count own origin quality time : ℕ) (rows₀ : List
     pub less-on : (b : Bool) → b ≡ goesOn at (c .destination) row → b ≡ true → done ≤ count → (count + 1 - done) * 48 - (at + 1) < (count + 1 - done) * 48 - at
     less-on b e t h = omega (arith, goes-far at (c .destination) row (sym e ∙ t) .0)
 
-    pub less-next : done ≤ count → (count + 1 - (done + 1)) * 48 - 0 < (count + 1 - done) * 48 - at
-    less-next h = omega (arith, m .place)
+    pub less-next : done ≤ count → (from : ℕ) → (count + 1 - (done + 1)) * 48 - from < (count + 1 - done) * 48 - at
+    less-next h from = omega (arith, m .place)
 
     pub done-fits : done ≤ count → done + 1 < 64
     done-fits h = omega (arith, m .few)
@@ -129,7 +129,8 @@ module _ (part : List ℕ) (count own origin quality time : ℕ) (rows₀ : List
     -- ---- where the search stops
     module _ (h : done ≤ count) (goes there full stored skip : Bool) (new : Row) (eg : goes ≡ goesOn at (c .destination) row) (stop : goes ≡ false)
         (et : there ≡ eqb (row .destination) (c .destination)) (ef : full ≡ ltb 0 (getD out 47 none .destination)) (es : stored ≡ stores origin time c row there full)
-        (ek : skip ≡ skips c there full) (en : new ≡ made origin time c row) (c′ : Candidate) (next′ : c′ ≡ offerAt own origin quality part done) where
+        (ek : skip ≡ skips c there full) (en : new ≡ made origin time c row) (c′ : Candidate) (next′ : c′ ≡ offerAt own origin quality part done)
+        (from : ℕ) (starts : from ≡ startsAt at (c .destination) (c′ .destination)) where
       fit : done < length all
       fit = omega (arith, length-tab (count + 1) (candidateNo own origin quality part))
 
@@ -142,9 +143,16 @@ module _ (part : List ℕ) (count own origin quality time : ℕ) (rows₀ : List
       turned : learnAll origin time (drop (done + 1) all) (learn origin time c (learned (m .rows) skipped)) ≡ learnAll origin time all (learned rows₀ 0)
       turned = rw add-one (ap (λ x. learnAll origin time (drop (suc done) all) (learn origin time x (learned (m .rows) skipped))) (sym this) ∙ (rw (drop-cons all done nothing fit) at (m .rest)))
 
-      one-more : (rows′ out′ : List Row) → out′ ≡ pad rows′ → Sound rows′ → learn origin time c (learned (m .rows) skipped) ≡ learned rows′ (skipped + boolByte skip)
-          → Merging out′ c′ (done + 1) (skipped + boolByte skip) 0
-      one-more rows′ out′ held′ sound′ e =
+      from-place : from ≤ 47
+      from-place = rw starts (go (ltb (c′ .destination) (c .destination)))
+        where
+          go : (b : Bool) → cond b 0 at ≤ 47
+          go true = omega arith
+          go false = m .place
+
+      one-more : (rows′ out′ : List Row) → out′ ≡ pad rows′ → Sound rows′ → (take at rows′ ≡ take at (m .rows)) × (at ≤ length rows′)
+          → learn origin time c (learned (m .rows) skipped) ≡ learned rows′ (skipped + boolByte skip) → Merging out′ c′ (done + 1) (skipped + boolByte skip) from
+      one-more rows′ out′ held′ sound′ kept e =
           record {
             rows = rows′;
             held = held′;
@@ -156,8 +164,8 @@ module _ (part : List ℕ) (count own origin quality time : ℕ) (rows₀ : List
             counted = omega arith;
             small = omega (arith, m .small, bit skip);
             next = next′ ∙ numbered own origin quality part done;
-            place = omega arith;
-            search = searched-start (c′ .destination) rows′;
+            place = from-place;
+            search = rw starts (searched-next (c .destination) (m .rows) at (m .search) (c′ .destination) rows′ kept);
             rest = rw (← e) turned;
           }
 
@@ -180,26 +188,27 @@ module _ (part : List ℕ) (count own origin quality time : ℕ) (rows₀ : List
       is-there : eqb (seen .destination) (c .destination) ≡ there
       is-there = rw (← m .held) (sym et)
 
-      stored-more : (out′ : List Row) (new′ : Row) → Stored new′ (learn origin time c (learned (m .rows) skipped)) (m .rows) skipped → out′ ≡ pad (put new′ (m .rows)) → skip ≡ false
-          → Merging out′ c′ (done + 1) (skipped + boolByte skip) 0
+      stored-more : (out′ : List Row) (new′ : Row) → Stored (c .destination) new′ (learn origin time c (learned (m .rows) skipped)) (m .rows) skipped → out′ ≡ pad (put new′ (m .rows)) → skip ≡ false
+          → Merging out′ c′ (done + 1) (skipped + boolByte skip) from
       stored-more out′ new′ s held′ none-skipped =
-          one-more (put new′ (m .rows)) out′ held′ (stored-sound new′ _ (m .rows) skipped (m .sound) s) (s .learns ∙ rw (none-skipped, add-zero))
+          one-more (put new′ (m .rows)) out′ held′ (stored-sound (c .destination) new′ _ (m .rows) skipped (m .sound) s)
+          (put-keeps (c .destination) (m .rows) at (m .search) new′ (s .leads)) (s .learns ∙ rw (none-skipped, add-zero))
 
-      pub turn-off : not stored ≡ true → Merging out c′ (done + 1) (skipped + boolByte skip) 0
+      pub turn-off : not stored ≡ true → Merging out c′ (done + 1) (skipped + boolByte skip) from
       turn-off t =
-          one-more (m .rows) out (m .held) (m .sound)
+          one-more (m .rows) out (m .held) (m .sound) (refl, m .search .within)
           (step-off origin time c (m .rows) skipped at (m .sound) (m .search) (m .place) halted (m .via) this-fair (decided ∙ not-true stored t) ∙ rw no-room)
 
       module _ (t : not stored ≡ false) where
         taken : stores origin time c seen (eqb (seen .destination) (c .destination)) (ltb 0 (getD (pad (m .rows)) 47 none .destination)) ≡ true
         taken = decided ∙ not-false stored t
 
-        pub turn-set : there ≡ true → Merging (set out at new) c′ (done + 1) (skipped + boolByte skip) 0
+        pub turn-set : there ≡ true → Merging (set out at new) c′ (done + 1) (skipped + boolByte skip) from
         turn-set y =
             let (s, placed, unskipped) = step-set origin time c (m .rows) skipped at (m .sound) (m .search) (m .place) halted (m .via) this-fair taken (is-there ∙ y) in
             stored-more (set out at new) (made origin time c seen) s (rw (m .held, ← same-row) placed) (sym no-room ∙ unskipped)
 
-        pub turn-move : there ≡ false → (moved : List Row) → moved ≡ movedIn out at new → Merging moved c′ (done + 1) (skipped + boolByte skip) 0
+        pub turn-move : there ≡ false → (moved : List Row) → moved ≡ movedIn out at new → Merging moved c′ (done + 1) (skipped + boolByte skip) from
         turn-move y moved e =
             let (s, placed, unskipped) = step-move origin time c (m .rows) skipped at (m .sound) (m .search) (m .place) halted (m .via) this-fair taken (is-there ∙ y) in
             stored-more moved (made origin time c seen) s (e ∙ rw (m .held, ← same-row) placed) (sym no-room ∙ unskipped)

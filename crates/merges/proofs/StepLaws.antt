@@ -29,14 +29,15 @@ pub record Sound (rs : List Row) : Type 0 where
   pub ascends : ascending rs ≡ true
   pub fits : length rs ≤ 48
 
--- a candidate has stored a row among some rows
-pub record Stored (new : Row) (after : Learned) (rows : List Row) (skipped : ℕ) : Type 0 where
+-- a candidate for a destination has stored a row among some rows
+pub record Stored (d : ℕ) (new : Row) (after : Learned) (rows : List Row) (skipped : ℕ) : Type 0 where
+  pub leads : new .destination ≡ d
   pub learns : after ≡ learned (put new rows) skipped
   pub isUsed : used new ≡ true
   pub fits : length (put new rows) ≤ 48
 
-pub stored-sound : (new : Row) (after : Learned) (rows : List Row) (skipped : ℕ) → Sound rows → Stored new after rows skipped → Sound (put new rows)
-stored-sound new after rows skipped sound s =
+pub stored-sound : (d : ℕ) (new : Row) (after : Learned) (rows : List Row) (skipped : ℕ) → Sound rows → Stored d new after rows skipped → Sound (put new rows)
+stored-sound d new after rows skipped sound s =
     record { inUse = put-every used new rows (s .isUsed) (sound .inUse); ascends = put-ascending new rows (sound .ascends); fits = s .fits }
 
 -- no row in use is for no unit
@@ -221,7 +222,7 @@ module _ (via time : ℕ) (c : Candidate) where
         abbrev new : Row
         new = made via time c row
 
-        pub step-set : there ≡ true → Stored new after rows skipped × (set (pad rows) at new ≡ pad (put new rows)) × (skips c there filled ≡ false)
+        pub step-set : there ≡ true → Stored d new after rows skipped × (set (pad rows) at new ≡ pad (put new rows)) × (skips c there filled ≡ false)
         step-set t =
             let k = eqb-true (row .destination) d t in
             let q = some-unit e in
@@ -229,6 +230,7 @@ module _ (via time : ℕ) (c : Candidate) where
             let same = there-put q k in
             let size : length (put new rows) ≡ length rows = ap length same ∙ length-set rows at new in (
               record {
+                leads = made-for row k;
                 learns = there-learns q k ∙ rw change;
                 isUsed = lt-ltb 0 (new .destination) (omega (arith, q, made-for row k));
                 fits = omega (arith, size, sound .fits);
@@ -237,7 +239,7 @@ module _ (via time : ℕ) (c : Candidate) where
               rw t,
             )
 
-        pub step-move : there ≡ false → Stored new after rows skipped × (movedIn (pad rows) at new ≡ pad (put new rows)) × (skips c there filled ≡ false)
+        pub step-move : there ≡ false → Stored d new after rows skipped × (movedIn (pad rows) at new ≡ pad (put new rows)) × (skips c there filled ≡ false)
         step-move t =
             let k = eqb-false (row .destination) d t in
             let q = some-unit e in
@@ -246,6 +248,7 @@ module _ (via time : ℕ) (c : Candidate) where
             let n : new ≡ rowBy via time c = rw good in
             let target : new .destination ≡ d = ap (λ (r : Row). r .destination) n in (
               record {
+                leads = target;
                 learns = new-learns q k ∙ rw (good, room);
                 isUsed = lt-ltb 0 (new .destination) (omega (arith, q, target));
                 fits = omega (arith, few, put-length new rows);

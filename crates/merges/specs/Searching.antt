@@ -1,5 +1,5 @@
--- What the code sees of a table's 48 places while it looks for a candidate's row: the search goes up from the first place and stops at the first
--- that is not lower. The laws carry it to the list of rows.
+-- What the code sees of a table's 48 places while it looks for a candidate's row: the search goes up from a place behind lower ones and stops at the
+-- first that is not lower. The laws carry it to the list of rows.
 -- Assumes nothing.
 use Prim.Native.Nat.{ℕ}
 use mathlib.Core.Bool.{Bool, not, _&&_, _||_, cond}
@@ -15,6 +15,10 @@ use Rattle.merges.specs.Learning.{rowBy, givesWay, takenBack}
 -- the search for a destination goes on from the place `at`, which holds the row r; the last place ends it in any case
 abbrev pub goesOn : ℕ → ℕ → Row → Bool
 goesOn at destination r = ltb at 47 && ltb 0 (r .destination) && ltb (r .destination) destination
+
+-- where the search for a destination starts, when that for the one before it stopped at a place: there, or anew where it is lower
+abbrev pub startsAt : ℕ → ℕ → ℕ → ℕ
+startsAt place before destination = cond (ltb destination before) 0 place
 
 -- a candidate changes the row for its destination
 abbrev pub changes : ℕ → ℕ → Candidate → Row → Bool

@@ -12,6 +12,7 @@ use crate::moving::moved_in;
 use crate::steps::goes_on;
 use crate::steps::made;
 use crate::steps::skips;
+use crate::steps::starts;
 use crate::steps::stores;
 use moments::in_order;
 use octets::answers::refuse_if;
@@ -36,7 +37,8 @@ struct Rows {
 }
 
 // Every candidate of an update in turn: one loop on one array. A turn takes the search for the candidate's row one place on, or, where that stops,
-// does with the candidate and takes the next. Only a new row is moved in by a call that copies the array.
+// does with the candidate and takes the next. The entries of a page ascend, so that all their searches together pass each row about once. Only a new
+// row is moved in by a call that copies the array.
 fn learn_all(
     rows: [Row; 48],
     part: &[u8],
@@ -66,10 +68,11 @@ fn learn_all(
         let stored = stores(origin, time, candidate, row, there, full);
         let new = made(origin, time, candidate, row);
         let place = at;
+        let sought = candidate.destination;
         skipped += skips(candidate, there, full) as u8;
         candidate = Candidate::at(part, done, own, origin, quality);
         done += 1;
-        at = 0;
+        at = starts(place, sought, candidate.destination);
         if !stored {
             continue;
         }

@@ -3,7 +3,7 @@ ghost use mathlib.Core.Path.{_≡_};
 ghost use mathlib.Core.Bool.{cond};
 ghost use Prim.Native.Nat.{_-_};
 ghost use lib.Dec.{eqb};
-ghost use Rattle.merges.specs.Searching.{goesOn, changes, stores, skips, made};
+ghost use Rattle.merges.specs.Searching.{goesOn, startsAt, changes, stores, skips, made};
 use crate::candidate::Candidate;
 use routes::row::Row;
 
@@ -31,6 +31,13 @@ pub(crate) fn goes_on(at: usize, destination: u16, row: Row) -> bool
     ensures { λ r. ⌜ r ≡ goesOn at destination row ⌝ }
 {
     (at < 47) & (rank(row.destination) < limit(destination))
+}
+
+// Where the search for the next destination starts, when that for the one before stopped at a place: only lower rows stand before the start.
+pub(crate) fn starts(place: usize, before: u16, destination: u16) -> usize
+    ensures { λ r. ⌜ r ≡ startsAt place before destination ⌝ }
+{
+    if destination < before { 0 } else { place }
 }
 
 // Whether a candidate changes the row for its destination.

@@ -48,53 +48,53 @@ add-done c =
 
 loop-less-2 : tie.Need-loop-less-2 Inv-loop μ-loop
 loop-less-2 c =
-    let turn = c .before .before .before .before .before .before .before .before .before .before .before .before in
-    less-next _ _ _ _ _ _ _ _ _ _ _ _ (turn .before .loop .inv) (turn .loop-test .taken)
+    let turn = c .before .before .before .before .before .before .before .before .before .before .before .before .before in
+    less-next _ _ _ _ _ _ _ _ _ _ _ _ (turn .before .loop .inv) (turn .loop-test .taken) _
 
 loop-again-2 : tie.Need-loop-again-2 Inv-loop μ-loop
 loop-again-2 c =
-    let stop = c .before .before .before .before .before .before .before .before .before in
+    let stop = c .before .before .before .before .before .before .before .before .before .before in
     let turn = stop .before .before .before in
     turn-off _ _ _ _ _ _ _ _ _ _ _ _ (turn .before .loop .inv) (turn .loop-test .taken) _ _ _ _ _ _ (stop .before .goes-on .ensures) (stop .if1 .left) refl refl
-    (c .before .before .before .before .stores .ensures) (c .before .before .skips .ensures) (c .before .before .before .made .ensures) _ (c .before .at .ensures) (c .if2 .taken)
+    (c .before .before .before .before .before .stores .ensures) (c .before .before .before .skips .ensures) (c .before .before .before .before .made .ensures) _ (c .before .before .at .ensures) _ (c .before .starts .ensures) (c .if2 .taken)
 
 mul-out : tie.Need-mul-out Inv-loop μ-loop
 mul-out c =
-    let l = c .before .before .before .before .before .before .before .before .before .before .before .before .before .before .loop .inv in
+    let l = c .before .before .before .before .before .before .before .before .before .before .before .before .before .before .before .loop .inv in
     omega (arith, l .place)
 
 array-set-from-out : tie.Need-array-set-from-out Inv-loop μ-loop
 array-set-from-out c =
-    let l = c .before .before .before .before .before .before .before .before .before .before .before .before .before .before .loop .inv in
+    let l = c .before .before .before .before .before .before .before .before .before .before .before .before .before .before .before .loop .inv in
     omega (arith, l .place, l .long)
 
 loop-less-3 : tie.Need-loop-less-3 Inv-loop μ-loop
 loop-less-3 c =
-    let turn = c .before .before .before .before .before .before .before .before .before .before .before .before .before in
-    less-next _ _ _ _ _ _ _ _ _ _ _ _ (turn .before .loop .inv) (turn .loop-test .taken)
+    let turn = c .before .before .before .before .before .before .before .before .before .before .before .before .before .before in
+    less-next _ _ _ _ _ _ _ _ _ _ _ _ (turn .before .loop .inv) (turn .loop-test .taken) _
 
 loop-again-3 : tie.Need-loop-again-3 Inv-loop μ-loop
 loop-again-3 c =
-    let stop = c .before .before .before .before .before .before .before .before .before .before in
+    let stop = c .before .before .before .before .before .before .before .before .before .before .before in
     let turn = stop .before .before .before in
     turn-set _ _ _ _ _ _ _ _ _ _ _ _ (turn .before .loop .inv) (turn .loop-test .taken) _ _ _ _ _ _ (stop .before .goes-on .ensures) (stop .if1 .left) refl refl
-    (c .before .before .before .before .before .stores .ensures) (c .before .before .before .skips .ensures) (c .before .before .before .before .made .ensures) _ (c .before .before .at .ensures) (c .before .if2 .left) (c .if3 .taken)
+    (c .before .before .before .before .before .before .stores .ensures) (c .before .before .before .before .skips .ensures) (c .before .before .before .before .before .made .ensures) _ (c .before .before .before .at .ensures) _ (c .before .before .starts .ensures) (c .before .if2 .left) (c .if3 .taken)
 
 loop-less-4 : tie.Need-loop-less-4 Inv-loop μ-loop
 loop-less-4 c =
-    let turn = c .before .before .before .before .before .before .before .before .before .before .before .before .before .before in
-    less-next _ _ _ _ _ _ _ _ _ _ _ _ (turn .before .loop .inv) (turn .loop-test .taken)
+    let turn = c .before .before .before .before .before .before .before .before .before .before .before .before .before .before .before in
+    less-next _ _ _ _ _ _ _ _ _ _ _ _ (turn .before .loop .inv) (turn .loop-test .taken) _
 
 loop-again-4 : tie.Need-loop-again-4 Inv-loop μ-loop
 loop-again-4 c =
-    let stop = c .before .before .before .before .before .before .before .before .before .before .before in
+    let stop = c .before .before .before .before .before .before .before .before .before .before .before .before in
     let turn = stop .before .before .before in
     turn-move _ _ _ _ _ _ _ _ _ _ _ _ (turn .before .loop .inv) (turn .loop-test .taken) _ _ _ _ _ _ (stop .before .goes-on .ensures) (stop .if1 .left) refl refl
-    (c .before .before .before .before .before .before .stores .ensures) (c .before .before .before .before .skips .ensures) (c .before .before .before .before .before .made .ensures) _ (c .before .before .before .at .ensures) (c .before .before .if2 .left) (c .before .if3 .left) _ (c .moved-in .ensures)
+    (c .before .before .before .before .before .before .before .stores .ensures) (c .before .before .before .before .before .skips .ensures) (c .before .before .before .before .before .before .made .ensures) _ (c .before .before .before .before .at .ensures) _ (c .before .before .before .starts .ensures) (c .before .before .if2 .left) (c .before .if3 .left) _ (c .moved-in .ensures)
 
 returns : tie.Need-returns Inv-loop μ-loop
 returns c = merging-end _ _ _ _ _ _ _ _ _ _ _ _ (c .before .loop .inv) (c .loop-test .left)
 
 pub learn-all-spec : {M : Type 1} → statement M
 learn-all-spec =
-    tie.close (tie.spec Inv-loop μ-loop (λ c κs. search needs) loop-holds (λ c. search needs) (λ c. search needs) (λ c κs. search needs) (λ c. search needs) loop-less loop-again (λ c. search needs) (λ c κs. search needs) (λ c κs. search needs) (λ c κs. search needs) (λ c. search needs) add-skipped (λ c κs. search needs) add-done loop-less-2 loop-again-2 mul-out array-set-from-out loop-less-3 loop-again-3 (λ c κs. search needs) loop-less-4 loop-again-4 returns)
+    tie.close (tie.spec Inv-loop μ-loop (λ c κs. search needs) loop-holds (λ c. search needs) (λ c. search needs) (λ c κs. search needs) (λ c. search needs) loop-less loop-again (λ c. search needs) (λ c κs. search needs) (λ c κs. search needs) (λ c κs. search needs) (λ c. search needs) add-skipped (λ c κs. search needs) add-done (λ c κs. search needs) loop-less-2 loop-again-2 mul-out array-set-from-out loop-less-3 loop-again-3 (λ c κs. search needs) loop-less-4 loop-again-4 returns)

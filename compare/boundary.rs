@@ -5,7 +5,7 @@
 //! A call is a value that holds its arguments: it can be made and shown. Its answer is the status together with the
 //! whole exit contents of every buffer lent for output, so that what a call must leave alone is compared as well.
 
-use crate::frames::Reading;
+use crate::frames::{Reading, Step};
 use crate::refusal::Refusal;
 use std::fmt;
 
@@ -28,6 +28,15 @@ extern "C" {
         out: *mut u8,
         out_length: usize,
         written: *mut u32,
+    ) -> u8;
+
+    fn braidlark_entry(
+        frame: *const u8,
+        frame_length: usize,
+        position: u32,
+        entry: *mut u32,
+        entry_length: usize,
+        next: *mut u32,
     ) -> u8;
 
     fn braidlark_state_fresh(state: *mut u8, state_length: usize, time: u32) -> u8;
@@ -243,6 +252,88 @@ impl fmt::Display for WriteAnswer {
     fn fmt(&self, text: &mut fmt::Formatter) -> fmt::Result {
         write!(text, "status {}; out: {}", self.status, buffer_shown(&self.out))?;
         write!(text, "; written: {}", number_shown(self.written))?;
+        show_disturbed(text, &self.disturbed)
+    }
+}
+
+/// `braidlark_entry` with `places` places for the entry.
+pub struct EntryCall<'a> {
+    pub frame: &'a [u8],
+    pub position: u32,
+    pub places: usize,
+    pub empty: Empty,
+}
+
+#[derive(PartialEq, Eq)]
+pub struct EntryAnswer {
+    status: u8,
+    entry: Vec<u32>,
+    next: u32,
+    disturbed: Vec<&'static str>,
+}
+
+impl EntryAnswer {
+    /// The answer with this step: places past its numbers stay as they were.
+    pub fn accepted(step: &Step, places: usize) -> EntryAnswer {
+        let entry = laid_over_filler(&step.numbers, places);
+        EntryAnswer { status: 0, entry, next: step.next, disturbed: Vec::new() }
+    }
+
+    /// The answer with this refusal: nothing is written.
+    pub fn refused(refusal: Refusal, places: usize) -> EntryAnswer {
+        let entry = laid_over_filler(&[], places);
+        EntryAnswer { status: refusal.number(), entry, next: u32::FILLER[0], disturbed: Vec::new() }
+    }
+}
+
+impl Call for EntryCall<'_> {
+    type Answer = EntryAnswer;
+
+    fn make(&self) -> EntryAnswer {
+        let mut frame = Lent::input(self.frame);
+        let mut entry = Lent::output(self.places);
+        let mut next = Lent::output(1);
+        // SAFETY: each address is that of a live buffer of the length given with it, or NULL with length 0.
+        let status = unsafe {
+            braidlark_entry(
+                frame.address(self.empty),
+                self.frame.len(),
+                self.position,
+                entry.address(self.empty),
+                self.places,
+                next.address(self.empty),
+            )
+        };
+        EntryAnswer {
+            status,
+            disturbed: names_of(&[
+                ("frame", frame.is_changed(self.frame)),
+                ("around entry", entry.is_overrun()),
+                ("around next", next.is_overrun()),
+            ]),
+            entry: entry.contents().to_vec(),
+            next: next.contents()[0],
+        }
+    }
+}
+
+impl fmt::Display for EntryCall<'_> {
+    fn fmt(&self, text: &mut fmt::Formatter) -> fmt::Result {
+        write!(text, "braidlark_entry(frame: {}; position: {}", input_shown(self.frame), self.position)?;
+        write!(text, "; entry: {} places; {})", self.places, self.empty)
+    }
+}
+
+impl Answer for EntryAnswer {
+    fn status(&self) -> u8 {
+        self.status
+    }
+}
+
+impl fmt::Display for EntryAnswer {
+    fn fmt(&self, text: &mut fmt::Formatter) -> fmt::Result {
+        write!(text, "status {}; entry: {}", self.status, buffer_shown(&self.entry))?;
+        write!(text, "; next: {}", number_shown(self.next))?;
         show_disturbed(text, &self.disturbed)
     }
 }

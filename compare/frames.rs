@@ -1,4 +1,4 @@
-//! The independent implementation of frames: reading and writing, from the paper's table and rules alone.
+//! The independent implementation of frames: reading, writing and walking, from the paper's table and rules alone.
 //! The library is held to what these functions answer.
 
 use crate::refusal::Refusal;
@@ -187,6 +187,32 @@ pub fn read(frame: &[u8], room: usize) -> Result<Reading, Refusal> {
         return Err(Refusal::Room);
     }
     Ok(Reading { numbers, part })
+}
+
+/// Reads a frame of the one kind that a call wants: any other type is refused before its length is looked at.
+pub fn read_wanted(frame: &[u8], code: u8) -> Result<Reading, Refusal> {
+    match frame.first() {
+        Some(&first) if first != code && frame.len() <= LONGEST_FRAME => Err(Refusal::Type),
+        _ => read(frame, usize::MAX),
+    }
+}
+
+/// What a step over the entries of an update meets: the numbers of an entry and the position behind it. At the end
+/// there are no numbers, and the position is 0.
+pub struct Step {
+    pub numbers: Vec<u32>,
+    pub next: u32,
+}
+
+/// Steps over the entries of an update from a position, counted from 0; `room` is how many numbers the caller has
+/// places for.
+pub fn step(frame: &[u8], position: u32, room: usize) -> Result<Step, Refusal> {
+    let reading = read_wanted(frame, ROUTING_UPDATE)?;
+    match frame[reading.part].chunks(ENTRY_LENGTH).nth(position as usize) {
+        None => Ok(Step { numbers: Vec::new(), next: 0 }),
+        Some(_) if room < ENTRY.len() => Err(Refusal::Room),
+        Some(entry) => Ok(Step { numbers: numbers_in(&ENTRY, entry), next: position + 1 }),
+    }
 }
 
 /// Writes the frame with these numbers, the type first, and this variable part; `room` is how many bytes the caller

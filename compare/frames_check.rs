@@ -1,7 +1,7 @@
-//! The comparison of frames: every limit of the paper in turn, then random frames, whole and damaged, read and
-//! written.
+//! The comparison of frames: every limit of the paper in turn, then random frames, whole and damaged, read, written
+//! and walked.
 
-use crate::boundary::{Empty, ReadAnswer, ReadCall, WriteAnswer, WriteCall};
+use crate::boundary::{Empty, EntryAnswer, EntryCall, ReadAnswer, ReadCall, WriteAnswer, WriteCall};
 use crate::frames::{self, *};
 use crate::frames_drafts::{mended, Draft, LIMITS};
 use crate::hostile::{every_length, BOTH_WAYS};
@@ -13,6 +13,9 @@ type Agreement = Result<(), Difference>;
 
 /// Longer than the longest frame of a fixed length.
 const SHORT_INPUT: usize = 40;
+
+/// Positions past the end of every update, some of them within if only their low bytes are looked at.
+const FAR_POSITIONS: [u32; 8] = [25, 254, 255, 0x100, 0x101, 0x1_0000, 0x8000_0000, 0xFFFF_FFFF];
 
 /// How many drafts of each kind meet every length of an output buffer.
 const DRAFTS_FOR_EVERY_ROOM: usize = 4;
@@ -33,6 +36,7 @@ pub fn check(options: &Options, progress: &mut Progress) -> Result<Tally, Differ
     check.hop_with_max_hops()?;
     check.superframe_with_slots()?;
     check.entries_at_limits()?;
+    check.every_position()?;
     for (done, kind) in (0..options.frames).zip(KINDS.iter().cycle()) {
         check.random_frame(kind)?;
         progress.step(done + 1, options.frames);
@@ -86,6 +90,25 @@ impl Check {
         self.tally.compare(&call, &expected)
     }
 
+    /// Steps over the entries from a position, with so many places for the numbers of one.
+    fn step(&mut self, frame: &[u8], position: u32, places: usize) -> Agreement {
+        let call = EntryCall { frame, position, places, empty: self.empty() };
+        let expected = match frames::step(frame, position, places) {
+            Ok(step) => EntryAnswer::accepted(&step, places),
+            Err(refusal) => EntryAnswer::refused(refusal, places),
+        };
+        self.tally.compare(&call, &expected)
+    }
+
+    /// Steps from a position within most updates, or from a far one.
+    fn step_somewhere(&mut self, frame: &[u8]) -> Agreement {
+        let far = self.random.one_of(&FAR_POSITIONS);
+        let near = self.random.within(0, 24);
+        let position = self.random.one_of(&[0, near, near, far]);
+        let places = self.about(ENTRY.len());
+        self.step(frame, position, places)
+    }
+
     /// Reads and writes what is drafted, within the rules or not.
     fn read_and_write(&mut self, draft: &Draft) -> Agreement {
         let frame = draft.frame();
@@ -93,11 +116,14 @@ impl Check {
         self.write(&draft.numbers, &draft.part, frame.len())
     }
 
-    /// Reads damaged bytes as they are and with their checksum mended.
+    /// Reads damaged bytes, and steps over their entries, as they are and with their checksum mended.
     fn read_damaged(&mut self, kind: &Kind, frame: &[u8]) -> Agreement {
         let places = self.about(kind.fields.len());
-        self.read(frame, places)?;
-        self.read(&mended(frame), places)
+        for bytes in [frame, &mended(frame)] {
+            self.read(bytes, places)?;
+            self.step_somewhere(bytes)?;
+        }
+        Ok(())
     }
 
     fn write_damaged(&mut self, draft: &Draft) -> Agreement {
@@ -295,8 +321,22 @@ impl Check {
                         let mut changed = draft.clone();
                         changed.part[place..place + field.width].copy_from_slice(&limit.to_le_bytes()[..field.width]);
                         self.read_and_write(&changed)?;
+                        self.step_somewhere(&changed.frame())?;
                     }
                     place += field.width;
+                }
+            }
+        }
+        Ok(())
+    }
+
+    /// Every position of updates of every length, and far ones, with every number of places.
+    fn every_position(&mut self) -> Agreement {
+        for count in 0..=24 {
+            let frame = Draft::with_count(kind_of_type(ROUTING_UPDATE), count, &mut self.random).frame();
+            for position in (0..=count + 1).chain(FAR_POSITIONS) {
+                for places in 0..=ENTRY.len() + 1 {
+                    self.step(&frame, position, places)?;
                 }
             }
         }
@@ -315,6 +355,7 @@ impl Check {
         let draft = Draft::new(kind, &mut self.random);
         let frame = draft.frame();
         self.read(&frame, draft.numbers.len())?;
+        self.step_somewhere(&frame)?;
         match self.random.below(7) {
             0 => self.other_rooms(&draft, &frame),
             1 => self.byte_changed(&draft, &frame),

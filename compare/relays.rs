@@ -1,6 +1,6 @@
 //! What the independent table does with frames: it writes the pages of its update, relays data and forwards beacons.
 
-use crate::frames::{self, checksum, kind_of, Reading, BEACON, DATA, ENTRY_LENGTH, LONGEST_FRAME, ROUTING_UPDATE};
+use crate::frames::{self, checksum, kind_of, read_wanted, BEACON, DATA, ENTRY_LENGTH, ROUTING_UPDATE};
 use crate::refusal::Refusal;
 use crate::routes::{Pair, Row, Table, SHORTEST_UPDATE, UNREACHABLE, UPDATE_HEAD};
 use std::ops::Range;
@@ -126,14 +126,6 @@ impl Beacon {
 
 fn beacon_kind() -> &'static frames::Kind {
     kind_of(u32::from(BEACON)).expect("the beacon is one of the kinds")
-}
-
-/// Reads a frame of the one kind that a call wants: any other type is refused before its length is looked at.
-fn read_wanted(frame: &[u8], code: u8) -> Result<Reading, Refusal> {
-    match frame.first() {
-        Some(&first) if first != code && frame.len() <= LONGEST_FRAME => Err(Refusal::Type),
-        _ => frames::read(frame, usize::MAX),
-    }
 }
 
 /// A dead row goes out as unreachable, with its stored time and next hop.

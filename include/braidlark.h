@@ -153,6 +153,14 @@ enum {
     BRAIDLARK_UPDATE_TIME,
     BRAIDLARK_UPDATE_FIELDS
 };
+enum { /* of one entry of an update */
+    BRAIDLARK_ENTRY_DESTINATION,
+    BRAIDLARK_ENTRY_HOPS, /* 255 is unreachable */
+    BRAIDLARK_ENTRY_QUALITY,
+    BRAIDLARK_ENTRY_NEXT_HOP,
+    BRAIDLARK_ENTRY_TIMESTAMP,
+    BRAIDLARK_ENTRY_FIELDS
+};
 enum {
     BRAIDLARK_BEACON_DESTINATION = 1,
     BRAIDLARK_BEACON_SOURCE,
@@ -212,6 +220,11 @@ enum {
  * entries of an update) start and how many they are. Refusals: 1 2 1 3 4 5. */
 uint8_t braidlark_read(const uint8_t *frame, size_t frame_length, uint32_t *fields, size_t fields_length,
                        uint32_t *part_place, uint32_t *part_length);
+
+/* Walks the entries of an update, one a call: the numbers of the entry at a position, counted from 0, and the next
+ * position. At the end it is accepted, writes no number, and the next position is 0. Refusals: 1 2 1 3 4 5. */
+uint8_t braidlark_entry(const uint8_t *frame, size_t frame_length, uint32_t position, uint32_t *entry,
+                        size_t entry_length, uint32_t *next);
 
 /* Writes the frame with these numbers and these bytes behind its fields, and says how many bytes it has.
  * Refusals: 2 1 4 5. */

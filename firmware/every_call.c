@@ -182,6 +182,18 @@ static void hear_update(uint8_t *table, const uint8_t *frame, uint32_t length)
     EXPECT(skipped == 0);
 }
 
+/* The update's one entry, then the end: it says how far the far unit is from the manager. */
+static void walk_entries(const uint8_t *update, uint32_t length)
+{
+    uint32_t entry[BRAIDLARK_ENTRY_FIELDS], next = 0;
+    EXPECT(braidlark_entry(update, length, 0, entry, BRAIDLARK_ENTRY_FIELDS, &next) == BRAIDLARK_ACCEPTED);
+    EXPECT(entry[BRAIDLARK_ENTRY_DESTINATION] == FAR_UNIT && entry[BRAIDLARK_ENTRY_HOPS] == 1);
+    EXPECT(entry[BRAIDLARK_ENTRY_QUALITY] == QUALITY && entry[BRAIDLARK_ENTRY_NEXT_HOP] == FAR_UNIT);
+    EXPECT(entry[BRAIDLARK_ENTRY_TIMESTAMP] == NOW && next == 1);
+    EXPECT(braidlark_entry(update, length, next, entry, BRAIDLARK_ENTRY_FIELDS, &next) == BRAIDLARK_ACCEPTED);
+    EXPECT(next == 0);
+}
+
 /* The far unit tells the manager of itself, the manager tells the unit of both. */
 static void learn_routes(uint8_t *table)
 {
@@ -197,6 +209,7 @@ static void learn_routes(uint8_t *table)
     EXPECT(length == BRAIDLARK_UPDATE_LENGTH + BRAIDLARK_ENTRY_SIZE);
     EXPECT(read_whole(update, length, fields) == BRAIDLARK_UPDATE_LENGTH - 1);
     EXPECT(fields[BRAIDLARK_UPDATE_ORIGIN] == MANAGER && fields[BRAIDLARK_UPDATE_COUNT] == 1);
+    walk_entries(update, length);
     hear_update(table, update, length);
 }
 

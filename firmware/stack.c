@@ -32,6 +32,12 @@ static uint8_t call_read_update(void)
     return braidlark_read(scene.update, FULL_UPDATE, scene.fields, BRAIDLARK_MOST_FIELDS, &scene.place, &scene.length);
 }
 
+static uint8_t call_entry(void)
+{
+    return braidlark_entry(scene.update, FULL_UPDATE, BRAIDLARK_MOST_ENTRIES - 1, scene.fields, BRAIDLARK_ENTRY_FIELDS,
+                           &scene.place);
+}
+
 static uint8_t call_write(void)
 {
     return braidlark_write(scene.beacon_fields, BRAIDLARK_BEACON_FIELDS, NULL, 0, scene.out, sizeof scene.out,
@@ -155,6 +161,7 @@ static const struct {
 } calls[] = {
     {"read, a beacon", call_read},
     {"read, 24 entries", call_read_update},
+    {"entry, the last of 24", call_entry},
     {"write, a beacon", call_write},
     {"write, 245 bytes", call_write_data},
     {"table_fresh", call_table_fresh},

@@ -2,17 +2,16 @@
 ghost use mathlib.Core.Path.{_≡_};
 ghost use lib.ListN.{length};
 ghost use lib.Seq.{sets};
-ghost use Prim.Native.Nat.{_+_, _*_};
 ghost use Rattle.octets.specs.Calls.{after};
-ghost use Rattle.octets.specs.Layouts.{bytes};
-ghost use Rattle.octets.specs.Lists.{tab};
-ghost use Rattle.stores.specs.TableBytes.{flag, rowWidths, rowValues, headWidths, headValues, rowAt, rowsBytes, tableIn, tableBytes, flagsOk, isTable};
+ghost use Rattle.octets.specs.Layouts.{fields, bytes};
+ghost use Rattle.stores.specs.TableBytes.{flag, rowWidths, rowValues, rowFrom, headWidths, headValues, rowAt, rowsBytes, tableIn, tableBytes, flagsOk, isTable};
 use octets::fixed::put8;
 use octets::fixed::put16;
 use octets::fixed::put32;
 use octets::numbers::number8;
 use octets::numbers::number16;
 use octets::numbers::number32;
+use octets::parts::part;
 use routes::row::Row;
 use routes::table::Table;
 
@@ -22,23 +21,35 @@ fn flag(b: bool) -> u8
     if b { 1 } else { 0 }
 }
 
-// The row at a place, counted from 0.
-fn row_at(s: &[u8], place: u8) -> Row
-    ensures { λ r. ⌜ r ≡ rowAt (now (s .entry)) place ⌝ }
+// The row in the first 11 bytes of a slice.
+fn row_in(s: &[u8]) -> Row
+    ensures { λ r. ⌜ r ≡ rowFrom (fields rowWidths (now (s .entry)) 0) ⌝ }
 {
-    let at = 11 + 11 * (place as usize);
     Row {
-        destination: number16(s, at),
-        next_hop: number16(s, at + 2),
-        hops: number8(s, at + 4),
-        quality: number8(s, at + 5),
-        time: number32(s, at + 6),
-        withdrawn: number8(s, at + 10) == 1,
+        destination: number16(s, 0),
+        next_hop: number16(s, 2),
+        hops: number8(s, 4),
+        quality: number8(s, 5),
+        time: number32(s, 6),
+        withdrawn: number8(s, 10) == 1,
     }
 }
 
-fn rows_of(s: &[u8]) -> [Row; 48]
-    ensures { λ r. ⌜ r ≡ tab 48 (rowAt (now (s .entry))) ⌝ }
+// The row at a place, counted from 0. A part of known length spares a test of the buffer's end before each field.
+fn row_at(s: &[u8], place: u8) -> Row
+    ensures { λ r. ⌜ r ≡ rowAt (now (s .entry)) place ⌝ }
+{
+    let start = 11 + 11 * (place as usize);
+    let end = start + 11;
+    if s.len() < end {
+        return row_in(part(s, start, 11));
+    }
+    row_in(&s[start..end])
+}
+
+// The table that the bytes hold. A byte past the end is 0, and a flag that is not 1 is off.
+pub fn table_of(s: &[u8]) -> Table
+    ensures { λ r. ⌜ r ≡ tableIn (now (s .entry)) ⌝ }
 {
     let mut rows = [Row {
         destination: 0,
@@ -53,14 +64,6 @@ fn rows_of(s: &[u8]) -> [Row; 48]
         rows[place as usize] = row_at(s, place);
         place += 1;
     }
-    rows
-}
-
-// The table that the bytes hold. A byte past the end is 0, and a flag that is not 1 is off.
-pub fn table_of(s: &[u8]) -> Table
-    ensures { λ r. ⌜ r ≡ tableIn (now (s .entry)) ⌝ }
-{
-    let rows = rows_of(s);
     Table {
         own: number16(s, 0),
         time: number32(s, 2),
@@ -88,28 +91,40 @@ fn flags_ok(s: &[u8]) -> bool
 pub fn is_table(s: &[u8]) -> bool
     ensures { λ r. ⌜ r ≡ isTable (now (s .entry)) ⌝ }
 {
-    (s.len() == 539) & (number8(s, 6) <= 1) & flags_ok(s)
+    if s.len() != 539 {
+        return false;
+    }
+    (number8(s, 6) <= 1) & flags_ok(s)
 }
 
-fn put_row(out: &mut [u8], place: u8, row: Row)
-    ensures { λ _. ⌜ now (out .exit) ≡ sets (now (out .entry)) (11 + 11 * place) (bytes rowWidths (rowValues row)) ⌝ }
+// The bytes of a row, from a place on.
+fn put_row(out: &mut [u8], place: u16, row: Row)
+    ensures { λ _. ⌜ now (out .exit) ≡ sets (now (out .entry)) place (bytes rowWidths (rowValues row)) ⌝ }
 {
-    let start = 11 + 11 * (place as usize);
-    put16(out, start, row.destination);
-    put16(out, start + 2, row.next_hop);
-    put8(out, start + 4, row.hops);
-    put8(out, start + 5, row.quality);
-    put32(out, start + 6, row.time);
-    put8(out, start + 10, flag(row.withdrawn));
+    let at = place as usize;
+    put16(out, at, row.destination);
+    put16(out, at + 2, row.next_hop);
+    put8(out, at + 4, row.hops);
+    put8(out, at + 5, row.quality);
+    put32(out, at + 6, row.time);
+    put8(out, at + 10, flag(row.withdrawn));
 }
 
+// Each row is put into a part of known length, which spares a test of the buffer's end before each field. The row that the end cuts is the last.
 fn put_rows(out: &mut [u8], rows: [Row; 48])
     ensures { λ _. ⌜ (now (out .exit) ≡ sets (now (out .entry)) 11 (rowsBytes rows)) × (length rows ≡ 48) ⌝ }
 {
     let mut written: u8 = 0;
     while written < 48 {
         let row = rows[written as usize];
-        put_row(out, written, row);
+        let place = 11 + 11 * (written as u16);
+        let start = place as usize;
+        let end = start + 11;
+        if out.len() < end {
+            put_row(out, place, row);
+            return;
+        }
+        put_row(&mut out[start..end], 0, row);
         written += 1;
     }
 }

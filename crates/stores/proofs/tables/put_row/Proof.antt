@@ -1,7 +1,6 @@
--- `put_row`: the row's numbers, one behind the other from its place on.
+-- `put_row`: the row's numbers, one behind the other from a place on.
 -- Assumes nothing.
 use mathlib.Core.Path.{refl}
-use Prim.Native.Nat.{_+_, _*_}
 use native.Mathlib.Omega.{arith}
 use denote.Ref.{now}
 use Rattle.octets.proofs.StoreLaws.{all-put, put, done}
@@ -19,7 +18,7 @@ returns c =
     let next-hop = hops .before .before .before .before in
     let destination = next-hop .before .before .before .before in
     let a = destination .before .before .before .args in
-    all-put (now (a .out)) (11 + 11 * a .place) rowWidths (rowValues (a .row)) _
+    all-put (now (a .out)) (a .place) rowWidths (rowValues (a .row)) _
     (put (destination .put16 .ensures) (omega arith)
     (put (next-hop .put162 .ensures) (omega arith)
     (put (hops .put8 .ensures) (omega arith)
@@ -28,4 +27,4 @@ returns c =
     (put (rw (withdrawn .before .flag .ensures) at (withdrawn .put83 .ensures)) refl done))))))
 
 pub put-row-spec : {M : Type 1} → statement M
-put-row-spec = tie.close (tie.spec (λ c. search needs) (λ c. search needs) (λ c κs. search needs) (λ c. search needs) (λ c κs. search needs) (λ c. search needs) (λ c κs. search needs) (λ c. search needs) (λ c κs. search needs) (λ c. search needs) (λ c κs. search needs) (λ c. search needs) (λ c κs. search needs) (λ c κs. search needs) (λ c. search needs) returns)
+put-row-spec = tie.close (tie.spec (λ c κs. search needs) (λ c. search needs) (λ c κs. search needs) (λ c. search needs) (λ c κs. search needs) (λ c. search needs) (λ c κs. search needs) (λ c. search needs) (λ c κs. search needs) (λ c. search needs) (λ c κs. search needs) (λ c κs. search needs) (λ c. search needs) returns)

@@ -1,11 +1,11 @@
 -- `put_rows`'s loop: to write the rows that are left is to write them all.
 -- Assumes nothing.
-use mathlib.Core.Path.{_≡_, refl, sym, _∙_}
+use mathlib.Core.Path.{_≡_, refl, _∙_}
 use Prim.Native.Nat.{_+_, _*_, _≤_, _-_}
 use native.Mathlib.Omega.{arith}
 use lib.ListN.{length, drop, drop-of-length-le}
 use lib.Seq.{sets}
-use Rattle.octets.proofs.RunLaws.{run-turn}
+use Rattle.octets.proofs.RunLaws.{part-turn, cut-turn}
 use Rattle.stores.specs.TableBytes.{rowsBytes}
 use Rattle.stores.proofs.TableByteLaws.{rows-run}
 use borrow.Author.Needs.{needs}
@@ -21,20 +21,31 @@ abbrev μ-loop : tie.MeasureT-loop
 loop-holds : tie.Need-loop-holds Inv-loop μ-loop
 loop-holds c = (search needs, refl, refl)
 
-loop-again : tie.Need-loop-again Inv-loop μ-loop
-loop-again c =
-    let l = c .before .before .before .before .before .before .loop in
-    let rows = c .before .before .before .before .before .before .before .before .args .t2 in (
-      search needs,
-      c .before .before .put-row .kept .0 ∙ l .inv .1,
-      rw (c .before .before .put-row .ensures) (sym (run-turn rows-run (l .out) rows 11 (l .written) _ (search needs)) ∙ l .inv .2),
-    )
-
 same-length : tie.Need-same-length Inv-loop μ-loop
-same-length c = c .before .loop .inv .1
+same-length c = search needs
 
+-- the row that the end cuts
 returns : tie.Need-returns Inv-loop μ-loop
 returns c =
+    let cut = c .before .before in
+    let test = cut .before .before in
+    let l = test .before .before .before .loop in
+    let rows = test .before .before .before .before .before .args .t2 in
+    (cut .put-row .ensures ∙ (cut-turn rows-run (l .out) rows 11 (l .written) _ (search needs) (test .if1 .taken) ∙ l .inv .2), search needs)
+
+loop-again : tie.Need-loop-again Inv-loop μ-loop
+loop-again c =
+    let put = c .before .before in
+    let test = put .before .before in
+    let l = test .before .before .before .loop in
+    let rows = test .before .before .before .before .before .args .t2 in (
+      search needs,
+      search needs,
+      part-turn rows-run (l .out) rows 11 (l .written) _ (search needs) _ (test .if1 .left) (put .put-row2 .ensures) ∙ l .inv .2,
+    )
+
+returns-2 : tie.Need-returns-2 Inv-loop μ-loop
+returns-2 c =
     let l = c .before .loop in
     let rows = c .before .before .before .args .t2 in
     let n : length rows ≡ 48 = search needs in
@@ -43,4 +54,4 @@ returns c =
 
 pub put-rows-spec : {M : Type 1} → statement M
 put-rows-spec =
-    tie.close (tie.spec Inv-loop μ-loop loop-holds (λ c. search needs) (λ c. search needs) (λ c. search needs) (λ c κs. search needs) (λ c. search needs) (λ c. search needs) loop-again same-length returns)
+    tie.close (tie.spec Inv-loop μ-loop loop-holds (λ c. search needs) (λ c. search needs) (λ c. search needs) (λ c. search needs) (λ c. search needs) (λ c. search needs) (λ c. search needs) (λ c. search needs) (λ c κs. search needs) same-length returns (λ c. search needs) (λ c. search needs) (λ c. search needs) (λ c κs. search needs) (λ c. search needs) (λ c. search needs) loop-again (λ c. search needs) returns-2)

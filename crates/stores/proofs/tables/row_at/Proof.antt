@@ -1,9 +1,10 @@
--- `row_at`: the fields of a row stand one behind the other.
+-- `row_at`: the fields of a row in a part of the bytes are those in all of them.
 -- Assumes nothing.
-use mathlib.Core.Path.{_≡_}
-use Prim.Native.Nat.{_+_, _*_}
+use mathlib.Core.Path.{ap, _∙_}
+use Prim.Native.Nat.{_+_, _*_, _-_}
 use native.Mathlib.Omega.{arith}
-use Rattle.stores.specs.TableBytes.{rowAt}
+use Rattle.octets.proofs.LayoutLaws.{fields-part}
+use Rattle.stores.specs.TableBytes.{rowWidths, rowFrom, rowAt}
 use borrow.Author.Needs.{needs}
 use Rattle.stores.proofs.tables.row_at.Statement.{statement}
 use Rattle.stores.proofs.tables.row_at.Tie as tie
@@ -11,25 +12,16 @@ use Rattle.stores.proofs.tables.row_at.Tie as tie
 returns : tie.Need-returns
 unfolding rowAt
 returns c =
-    let hops = c .before .before .before in
-    let p = 11 + 11 * hops .before .before .before .before .args .place in
-    let a : p + 2 + 2 ≡ p + 4 = omega arith in
-    let b : p + 4 + 1 ≡ p + 5 = omega arith in
-    let d : p + 5 + 1 ≡ p + 6 = omega arith in
-    let e : p + 6 + 4 ≡ p + 10 = omega arith in
-    rw (
-      a,
-      b,
-      d,
-      e,
-      hops .before .before .number16 .ensures,
-      hops .before .number162 .ensures,
-      hops .number8 .ensures,
-      c .before .before .number82 .ensures,
-      c .before .number32 .ensures,
-      c .number83 .ensures,
-    )
+    let a = c .before .before .before .before .args in
+    c .row-in .ensures ∙ rw (c .before .part .ensures) (ap rowFrom (fields-part rowWidths (a .s .now) (11 + 11 * a .place) 11 (omega arith)))
+
+returns-2 : tie.Need-returns-2
+unfolding rowAt
+returns-2 c =
+    let a = c .before .before .before .before .args in
+    let start = 11 + 11 * a .place in
+    c .row-in2 .ensures ∙ ap rowFrom (fields-part rowWidths (a .s .now) start (start + 11 - start) (omega arith))
 
 pub row-at-spec : {M : Type 1} → statement M
 row-at-spec =
-    tie.close (tie.spec (λ c. search needs) (λ c. search needs) (λ c κs. search needs) (λ c. search needs) (λ c κs. search needs) (λ c. search needs) (λ c κs. search needs) (λ c. search needs) (λ c κs. search needs) (λ c. search needs) (λ c κs. search needs) (λ c. search needs) (λ c κs. search needs) returns)
+    tie.close (tie.spec (λ c. search needs) (λ c. search needs) (λ c. search needs) (λ c κs. search needs) (λ c κs. search needs) returns (λ c. search needs) (λ c. search needs) (λ c. search needs) (λ c κs. search needs) returns-2)

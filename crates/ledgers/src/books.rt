@@ -2,13 +2,11 @@
 ghost use mathlib.Core.Path.{_≡_};
 ghost use lib.ListN.{length};
 ghost use lib.Seq.{sets};
-ghost use Prim.Native.Nat.{_+_, _*_};
 ghost use Rattle.octets.specs.Calls.{after};
-ghost use Rattle.octets.specs.Layouts.{bytes};
-ghost use Rattle.octets.specs.Lists.{tab};
+ghost use Rattle.octets.specs.Layouts.{fields, bytes};
 ghost use Rattle.members.specs.Members.{rowOf, rowsOf};
 ghost use Rattle.book.specs.Books.{stated};
-ghost use Rattle.ledgers.specs.BookBytes.{rowWidths, rowValues, rowAt, rowsBytes, bookSize, bookIn, bookBytes};
+ghost use Rattle.ledgers.specs.BookBytes.{rowWidths, rowValues, rowFrom, rowAt, rowsBytes, bookSize, bookIn, bookBytes};
 use crate::plans::plan_of;
 use crate::plans::put_plan;
 use book::book::Book;
@@ -19,23 +17,36 @@ use octets::fixed::put64;
 use octets::numbers::number16;
 use octets::numbers::number32;
 use octets::numbers::number64;
+use octets::parts::part;
 
 pub const BOOK_SIZE: usize = 307;
 
-// The row at a place, counted from 0.
-fn member_at(s: &[u8], place: u8) -> Member
-    ensures { λ r. ⌜ rowOf r ≡ rowAt (now (s .entry)) place ⌝ }
+// The row in the first 14 bytes of a slice.
+fn member_in(s: &[u8]) -> Member
+    ensures { λ r. ⌜ rowOf r ≡ rowFrom (fields rowWidths (now (s .entry)) 0) ⌝ }
 {
-    let at = 13 + 14 * (place as usize);
     Member {
-        unit: number16(s, at),
-        slots: number64(s, at + 2),
-        time: number32(s, at + 10),
+        unit: number16(s, 0),
+        slots: number64(s, 2),
+        time: number32(s, 10),
     }
 }
 
-fn members_of(s: &[u8]) -> [Member; 21]
-    ensures { λ r. ⌜ rowsOf r ≡ tab 21 (rowAt (now (s .entry))) ⌝ }
+// The row at a place, counted from 0. A part of known length spares a test of the buffer's end before each field.
+fn member_at(s: &[u8], place: u8) -> Member
+    ensures { λ r. ⌜ rowOf r ≡ rowAt (now (s .entry)) place ⌝ }
+{
+    let start = 13 + 14 * (place as usize);
+    let end = start + 14;
+    if s.len() < end {
+        return member_in(part(s, start, 14));
+    }
+    member_in(&s[start..end])
+}
+
+// The book that the bytes say, within rule or not. A byte past the end is 0.
+pub fn book_of(s: &[u8]) -> Book
+    ensures { λ r. ⌜ stated r ≡ bookIn (now (s .entry)) ⌝ }
 {
     let mut rows = [Member {
         unit: 0,
@@ -47,14 +58,6 @@ fn members_of(s: &[u8]) -> [Member; 21]
         rows[place as usize] = member_at(s, place);
         place += 1;
     }
-    rows
-}
-
-// The book that the bytes say, within rule or not. A byte past the end is 0.
-pub fn book_of(s: &[u8]) -> Book
-    ensures { λ r. ⌜ stated r ≡ bookIn (now (s .entry)) ⌝ }
-{
-    let rows = members_of(s);
     Book {
         plan: plan_of(s, 0),
         time: number32(s, 9),
@@ -62,22 +65,31 @@ pub fn book_of(s: &[u8]) -> Book
     }
 }
 
-fn put_member(out: &mut [u8], place: u8, member: Member)
-    ensures { λ _. ⌜ now (out .exit) ≡ sets (now (out .entry)) (13 + 14 * place) (bytes rowWidths (rowValues (rowOf member))) ⌝ }
+// The bytes of a row, from a place on.
+fn put_member(out: &mut [u8], place: u16, member: Member)
+    ensures { λ _. ⌜ now (out .exit) ≡ sets (now (out .entry)) place (bytes rowWidths (rowValues (rowOf member))) ⌝ }
 {
-    let start = 13 + 14 * (place as usize);
-    put16(out, start, member.unit);
-    put64(out, start + 2, member.slots);
-    put32(out, start + 10, member.time);
+    let at = place as usize;
+    put16(out, at, member.unit);
+    put64(out, at + 2, member.slots);
+    put32(out, at + 10, member.time);
 }
 
+// Each row is put into a part of known length, which spares a test of the buffer's end before each field. The row that the end cuts is the last.
 fn put_members(out: &mut [u8], rows: [Member; 21])
     ensures { λ _. ⌜ (now (out .exit) ≡ sets (now (out .entry)) 13 (rowsBytes (rowsOf rows))) × (length rows ≡ 21) ⌝ }
 {
     let mut written: u8 = 0;
     while written < 21 {
         let member = rows[written as usize];
-        put_member(out, written, member);
+        let place = 13 + 14 * (written as u16);
+        let start = place as usize;
+        let end = start + 14;
+        if out.len() < end {
+            put_member(out, place, member);
+            return;
+        }
+        put_member(&mut out[start..end], 0, member);
         written += 1;
     }
 }

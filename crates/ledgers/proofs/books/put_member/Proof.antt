@@ -1,7 +1,7 @@
--- `put_member`: the row's numbers, one behind the other from its place on.
+-- `put_member`: the row's numbers, one behind the other from a place on.
 -- Assumes nothing.
 use mathlib.Core.Path.{refl}
-use Prim.Native.Nat.{_+_, _*_, _^_, _<_}
+use Prim.Native.Nat.{_^_, _<_}
 use native.Mathlib.Omega.{arith}
 use denote.Ref.{now}
 use Rattle.octets.proofs.StoreLaws.{all-put, put, done}
@@ -22,11 +22,11 @@ returns c =
     let unit = slots .before .before .before .before in
     let start = unit .before .before .before in
     let a = start .args in
-    all-put (now (a .out)) (13 + 14 * a .place) rowWidths (rowValues (rowOf (a .member))) _
+    all-put (now (a .out)) (a .place) rowWidths (rowValues (rowOf (a .member))) _
     (put (unit .put16 .ensures) (omega arith)
     (put (rw (← mask-back (a .member .slots) (below start)) at (slots .put64 .ensures)) (omega arith)
     (put (time .put32 .ensures) refl done)))
 
 pub put-member-spec : {M : Type 1} → statement M
 put-member-spec =
-    tie.close (tie.spec (λ c. search needs) (λ c. search needs) (λ c κs. search needs) (λ c. search needs) (λ c κs. search needs) (λ c. search needs) (λ c κs. search needs) (λ c. search needs) returns)
+    tie.close (tie.spec (λ c κs. search needs) (λ c. search needs) (λ c κs. search needs) (λ c. search needs) (λ c κs. search needs) (λ c. search needs) returns)

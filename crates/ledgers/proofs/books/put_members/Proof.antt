@@ -1,21 +1,20 @@
 -- `put_members`'s loop: to write the rows that are left is to write them all.
 -- Assumes nothing.
-use mathlib.Core.Path.{_≡_, refl, sym, _∙_}
+use mathlib.Core.Path.{_≡_, refl, _∙_}
 use Prim.Native.Nat.{_+_, _*_, _≤_, _-_}
 use native.Mathlib.Omega.{arith}
 use lib.ListN.{length, drop, drop-of-length-le}
 use lib.Seq.{sets}
+use Rattle.octets.proofs.RunLaws.{part-turn, cut-turn}
 use Rattle.members.specs.Members.{rowsOf}
 use Rattle.ledgers.specs.BookBytes.{rowsBytes}
 use Rattle.ledgers.proofs.BookByteLaws.{members-run}
-use Rattle.octets.proofs.RunLaws.{run-turn}
 use borrow.Author.Needs.{needs}
 use Rattle.ledgers.proofs.books.put_members.Statement.{statement}
 use Rattle.ledgers.proofs.books.put_members.Tie as tie
 
 abbrev Inv-loop : tie.InvT-loop
-Inv-loop out₀ rows written₀ out written =
-    (written ≤ 21) × (length out ≡ length out₀) × (sets out (13 + 14 * written) (rowsBytes (rowsOf (drop written rows))) ≡ sets out₀ 13 (rowsBytes (rowsOf rows)))
+Inv-loop out₀ rows written₀ out written = (written ≤ 21) × (length out ≡ length out₀) × (sets out (13 + 14 * written) (rowsBytes (rowsOf (drop written rows))) ≡ sets out₀ 13 (rowsBytes (rowsOf rows)))
 
 abbrev μ-loop : tie.MeasureT-loop
 μ-loop out₀ rows written₀ out written = 21 - written
@@ -23,21 +22,32 @@ abbrev μ-loop : tie.MeasureT-loop
 loop-holds : tie.Need-loop-holds Inv-loop μ-loop
 loop-holds c = (search needs, refl, refl)
 
+same-length : tie.Need-same-length Inv-loop μ-loop
+same-length c = search needs
+
+-- the row that the end cuts
+returns : tie.Need-returns Inv-loop μ-loop
+returns c =
+    let cut = c .before .before in
+    let test = cut .before .before in
+    let l = test .before .before .before .loop in
+    let rows = test .before .before .before .before .before .args .t2 in
+    (cut .put-member .ensures ∙ (cut-turn members-run (l .out) rows 13 (l .written) _ (search needs) (test .if1 .taken) ∙ l .inv .2), search needs)
+
 loop-again : tie.Need-loop-again Inv-loop μ-loop
 loop-again c =
-    let l = c .before .before .before .before .before .before .loop in
-    let rows = c .before .before .before .before .before .before .before .before .args .t2 in (
+    let put = c .before .before in
+    let test = put .before .before in
+    let l = test .before .before .before .loop in
+    let rows = test .before .before .before .before .before .args .t2 in (
       search needs,
-      c .before .before .put-member .kept .0 ∙ l .inv .1,
-      rw (c .before .before .put-member .ensures) (sym (run-turn members-run (l .out) rows 13 (l .written) _ (search needs)) ∙ l .inv .2),
+      search needs,
+      part-turn members-run (l .out) rows 13 (l .written) _ (search needs) _ (test .if1 .left) (put .put-member2 .ensures) ∙ l .inv .2,
     )
 
-same-length : tie.Need-same-length Inv-loop μ-loop
-same-length c = c .before .loop .inv .1
-
-returns : tie.Need-returns Inv-loop μ-loop
+returns-2 : tie.Need-returns-2 Inv-loop μ-loop
 unfolding rowsOf
-returns c =
+returns-2 c =
     let l = c .before .loop in
     let rows = c .before .before .before .args .t2 in
     let n : length rows ≡ 21 = search needs in
@@ -46,4 +56,4 @@ returns c =
 
 pub put-members-spec : {M : Type 1} → statement M
 put-members-spec =
-    tie.close (tie.spec Inv-loop μ-loop loop-holds (λ c. search needs) (λ c. search needs) (λ c. search needs) (λ c κs. search needs) (λ c. search needs) (λ c. search needs) loop-again same-length returns)
+    tie.close (tie.spec Inv-loop μ-loop loop-holds (λ c. search needs) (λ c. search needs) (λ c. search needs) (λ c. search needs) (λ c. search needs) (λ c. search needs) (λ c. search needs) (λ c. search needs) (λ c κs. search needs) same-length returns (λ c. search needs) (λ c. search needs) (λ c. search needs) (λ c κs. search needs) (λ c. search needs) (λ c. search needs) loop-again (λ c. search needs) returns-2)

@@ -3,7 +3,7 @@
 use mathlib.Core.Path.{_≡_, refl, _∙_}
 use mathlib.Core.Bool.{Bool, true, false, _&&_}
 use mathlib.Core.List.{List, [], _∷_, _++_, map}
-use Prim.Native.Nat.{ℕ, _+_, _*_, _<_, min}
+use Prim.Native.Nat.{ℕ, _+_, _-_, _*_, _≤_, _<_, min}
 use native.Mathlib.Omega.{arith}
 use lib.Dec.{eqb}
 use lib.ListN.{length, getD, take, drop, length-append, List·getD-map}
@@ -11,7 +11,7 @@ use lib.Seq.{sets, getD-take}
 use Rattle.octets.specs.Layouts.{bytes}
 use Rattle.octets.specs.Numbers.{num}
 use Rattle.octets.proofs.LayoutLaws.{length-bytes}
-use Rattle.octets.proofs.RunLaws.{Run, run-turn}
+use Rattle.octets.proofs.RunLaws.{Run, part-turn, cut-turn}
 use Rattle.octets.proofs.StoreLaws.{sets-append}
 use Rattle.slots.specs.Sets.{maskOf}
 use Rattle.site.specs.declared.plan.Plan.{Plan}
@@ -30,15 +30,26 @@ rowValues r = r .unit ∷ maskOf (r .slots) ∷ []
 pub rows-run : Run rowWidths rowValues rowsBytes
 rows-run = record { none = refl; more = λ r rs. refl; full = λ r. refl }
 
--- a turn of the loop that writes those that a plan uses
-pub rows-turn : (ms : List Member) (n : ℕ) → length ms ≡ 21 → (out : List ℕ) (i : ℕ) → i < min n 21
-    → sets out (20 + 10 * i) (rowsBytes (drop i (take n (rowsOf ms))))
-    ≡ sets (sets out (20 + 10 * i) (bytes rowWidths (rowValues (rowOf (getD ms i nobody))))) (20 + 10 * (i + 1)) (rowsBytes (drop (i + 1) (take n (rowsOf ms))))
-unfolding rowsOf
-rows-turn ms n l out i h =
-    let here : getD (take n (map rowOf ms)) i (rowOf nobody) ≡ rowOf (getD ms i nobody) =
-    getD-take n (map rowOf ms) i (rowOf nobody) (omega (arith, h)) ∙ List·getD-map rowOf ms i nobody in
-    run-turn rows-run out (take n (map rowOf ms)) 20 i (rowOf nobody) (omega (arith, h, rows-length ms n l)) ∙ rw here
+-- a turn of the loop that writes those that a plan uses: the next fills its part of the bytes, or is the last
+module _ (ms : List Member) (n : ℕ) (l : length ms ≡ 21) (s : List ℕ) (i : ℕ) (h : i < min n 21) where
+  abbrev at : ℕ
+  at = 20 + 10 * i
+
+  abbrev row : List ℕ
+  row = bytes rowWidths (rowValues (rowOf (getD ms i nobody)))
+
+  here : getD (take n (rowsOf ms)) i (rowOf nobody) ≡ rowOf (getD ms i nobody)
+  unfolding rowsOf
+  here = getD-take n (map rowOf ms) i (rowOf nobody) (omega (arith, h)) ∙ List·getD-map rowOf ms i nobody
+
+  pub rows-turn : (filled : List ℕ) → at + 10 ≤ length s → filled ≡ sets (take (at + 10 - at) (drop at s)) 0 row
+      → sets (take at s ++ (filled ++ drop (at + 10 - at) (drop at s))) (20 + 10 * (i + 1)) (rowsBytes (drop (i + 1) (take n (rowsOf ms))))
+      ≡ sets s at (rowsBytes (drop i (take n (rowsOf ms))))
+  rows-turn filled room e =
+      part-turn rows-run s (take n (rowsOf ms)) 20 i (rowOf nobody) (omega (arith, h, rows-length ms n l)) filled room (rw here e)
+
+  pub rows-cut : length s < at + 10 → sets s at row ≡ sets s at (rowsBytes (drop i (take n (rowsOf ms))))
+  rows-cut short = rw here at (cut-turn rows-run s (take n (rowsOf ms)) 20 i (rowOf nobody) (omega (arith, h, rows-length ms n l)) short)
 
 -- ---- all of it
 pub length-head : (rows : ℕ) → length (headBytes (sections rows)) ≡ 11

@@ -1,8 +1,10 @@
 // Restoring a book from an image: as its plan and its rows say, every time the given one.
 ghost use mathlib.Core.Path.{_≡_};
 ghost use mathlib.Core.Bool.{cond};
+ghost use Prim.Native.Nat.{_+_, _*_};
 ghost use lib.Dec.{ltb};
 ghost use Rattle.octets.specs.Lists.{tab};
+ghost use Rattle.octets.specs.Numbers.{num};
 ghost use Rattle.members.specs.Members.{rowOf, rowsOf, emptyRow};
 ghost use Rattle.book.specs.Books.{leftBy};
 ghost use Rattle.image.specs.Forms.{fits};
@@ -18,6 +20,7 @@ use octets::answers::refuse_if;
 use octets::numbers::number8;
 use octets::numbers::number16;
 use octets::numbers::number64;
+use octets::parts::part;
 
 // Whether the contents and the length are those of an image with so many rows.
 fn fits(s: &[u8], rows: u8) -> bool
@@ -33,6 +36,29 @@ fn fits(s: &[u8], rows: u8) -> bool
         & (s.len() == size_for(rows))
 }
 
+// The unit and the slots in the first 10 bytes of a slice; they have no time.
+fn numbers_in(s: &[u8]) -> Member
+    ensures { λ r. ⌜ (r .unit ≡ num 2 (now (s .entry)) 0) × (r .slots ≡ num 8 (now (s .entry)) 2) ⌝ }
+{
+    Member {
+        unit: number16(s, 0),
+        slots: number64(s, 2),
+        time: 0,
+    }
+}
+
+// Those of the row at a place, counted from 0. A part of known length spares a test of the image's end before each.
+fn numbers_at(s: &[u8], place: u8) -> Member
+    ensures { λ r. ⌜ (r .unit ≡ num 2 (now (s .entry)) (20 + 10 * place)) × (r .slots ≡ num 8 (now (s .entry)) (20 + 10 * place + 2)) ⌝ }
+{
+    let start = 20 + 10 * (place as usize);
+    let end = start + 10;
+    if s.len() < end {
+        return numbers_in(part(s, start, 10));
+    }
+    numbers_in(&s[start..end])
+}
+
 // The row at a place, counted from 0, of so many; behind them it is zeros. An empty row has no time.
 fn member_in(s: &[u8], time: u32, count: u8, place: u8) -> Member
     ensures { λ r. ⌜ rowOf r ≡ cond (ltb place count) (rowIn (now (s .entry)) time place) emptyRow ⌝ }
@@ -44,9 +70,9 @@ fn member_in(s: &[u8], time: u32, count: u8, place: u8) -> Member
             time: 0,
         };
     }
-    let at = 20 + 10 * (place as usize);
-    let unit = number16(s, at);
-    let slots = number64(s, at + 2);
+    let numbers = numbers_at(s, place);
+    let unit = numbers.unit;
+    let slots = numbers.slots;
     if unit == 0 {
         return Member {
             unit,

@@ -1,6 +1,5 @@
 // Writing the image of a book: the head with its contents, the plan, then the rows of live members.
 ghost use mathlib.Core.Path.{_≡_};
-ghost use Prim.Native.Nat.{_+_, _*_};
 ghost use lib.ListN.{take};
 ghost use lib.Seq.{sets};
 ghost use Rattle.octets.specs.Answers.{first};
@@ -45,24 +44,32 @@ fn put_head(out: &mut [u8], rows: u8)
     put16(out, 9, 10 * (rows as u16));
 }
 
-fn put_row(out: &mut [u8], place: u8, member: Member)
-    ensures { λ _. ⌜ now (out .exit) ≡ sets (now (out .entry)) (20 + 10 * place) (bytes rowWidths (member .unit ∷ maskOf (slotsOf (member .slots)) ∷ [])) ⌝ }
+// The bytes of a row, from a place on.
+fn put_row(out: &mut [u8], place: u16, member: Member)
+    ensures { λ _. ⌜ now (out .exit) ≡ sets (now (out .entry)) place (bytes rowWidths (member .unit ∷ maskOf (slotsOf (member .slots)) ∷ [])) ⌝ }
 {
-    let at = 20 + 10 * (place as usize);
+    let at = place as usize;
     put16(out, at, member.unit);
     put64(out, at + 2, member.slots);
 }
 
-// The rows that a plan uses.
+// The rows that a plan uses, each put into a part of known length. The row that the end cuts is the last.
 fn put_rows(out: &mut [u8], rows: [Member; 21], count: u8)
     ensures { λ _. ⌜ now (out .exit) ≡ sets (now (out .entry)) 20 (rowsBytes (take count (rowsOf rows))) ⌝ }
 {
     let used = in_use(count);
-    let mut place: u8 = 0;
-    while (place as usize) < used {
-        let member = rows[place as usize];
-        put_row(out, place, member);
-        place += 1;
+    let mut written: u8 = 0;
+    while (written as usize) < used {
+        let member = rows[written as usize];
+        let place = 20 + 10 * (written as u16);
+        let start = place as usize;
+        let end = start + 10;
+        if out.len() < end {
+            put_row(out, place, member);
+            return;
+        }
+        put_row(&mut out[start..end], 0, member);
+        written += 1;
     }
 }
 

@@ -17,18 +17,18 @@ returns c =
 returns-2 : tie.Need-returns-2
 unfolding rowIn
 returns-2 c =
-    let unit = c .before .before in
-    let a = unit .before .before .before .args in
-    let e = unit .number16 .ensures in
-    rw (lt-ltb (a .place) (a .count) (omega (arith, unit .before .if1 .left)), e, c .before .number64 .ensures, eq-eqb _ 0 (sym e ∙ c .if2 .taken))
+    let row = c .before in
+    let a = row .before .before .before .args in
+    let e = row .numbers-at .ensures .0 in
+    rw (lt-ltb (a .place) (a .count) (omega (arith, row .before .if1 .left)), e, row .numbers-at .ensures .1, eq-eqb _ 0 (sym e ∙ c .if2 .taken))
 
 returns-3 : tie.Need-returns-3
 unfolding rowIn
 returns-3 c =
-    let unit = c .before .before in
-    let a = unit .before .before .before .args in
-    let e = unit .number16 .ensures in
-    rw (lt-ltb (a .place) (a .count) (omega (arith, unit .before .if1 .left)), e, c .before .number64 .ensures, ne-eqb _ 0 (λ z. c .if2 .left (e ∙ z)))
+    let row = c .before in
+    let a = row .before .before .before .args in
+    let e = row .numbers-at .ensures .0 in
+    rw (lt-ltb (a .place) (a .count) (omega (arith, row .before .if1 .left)), e, row .numbers-at .ensures .1, ne-eqb _ 0 (λ z. c .if2 .left (e ∙ z)))
 
 pub member-in-spec : {M : Type 1} → statement M
-member-in-spec = tie.close (tie.spec returns (λ c. search needs) (λ c. search needs) (λ c κs. search needs) (λ c. search needs) (λ c κs. search needs) returns-2 returns-3)
+member-in-spec = tie.close (tie.spec returns (λ c κs. search needs) returns-2 returns-3)

@@ -1,7 +1,7 @@
 -- `put_row`: the unit, and the slots behind it.
 -- Assumes nothing.
 use mathlib.Core.Path.{refl}
-use Prim.Native.Nat.{_+_, _*_, _^_, _<_}
+use Prim.Native.Nat.{_^_, _<_}
 use native.Mathlib.Omega.{arith}
 use denote.Ref.{now}
 use Rattle.octets.proofs.StoreLaws.{all-put, put, done}
@@ -22,9 +22,9 @@ returns c =
     let unit = slots .before .before .before .before in
     let start = unit .before .before .before in
     let a = start .args in
-    all-put (now (a .out)) (20 + 10 * a .place) rowWidths (rowValues (rowOf (a .member))) _
+    all-put (now (a .out)) (a .place) rowWidths (rowValues (rowOf (a .member))) _
     (put (unit .put16 .ensures) (omega arith)
     (put (rw (← mask-back (a .member .slots) (below start)) at (slots .put64 .ensures)) refl done))
 
 pub put-row-spec : {M : Type 1} → statement M
-put-row-spec = tie.close (tie.spec (λ c. search needs) (λ c. search needs) (λ c κs. search needs) (λ c. search needs) (λ c κs. search needs) (λ c. search needs) returns)
+put-row-spec = tie.close (tie.spec (λ c κs. search needs) (λ c. search needs) (λ c κs. search needs) (λ c. search needs) returns)

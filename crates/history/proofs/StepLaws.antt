@@ -1,12 +1,13 @@
 -- One call after the other: what holds of a table and its log stays so.
 -- Assumes nothing.
 use mathlib.Core.Path.{_≡_, refl, ap, _∙_}
-use mathlib.Core.Bool.{Bool, true, and-eq-true-iff}
+use mathlib.Core.Bool.{Bool, true, cond, and-eq-true-iff}
 use mathlib.Core.List.{List, [], _∷_, map}
 use Prim.Native.Nat.{ℕ}
 use native.Mathlib.Decide.{ℕ-discrete}
 use native.Mathlib.Omega.{arith}
 use borrow.Author.Tests.{eq-eqb, ne-eqb, not-false}
+use lib.Dec.{eqb}
 use lib.ListN.{length}
 use Rattle.octets.specs.Lists.{every}
 use Rattle.octets.proofs.AnswerLaws.{numbered, none-holds}
@@ -132,12 +133,18 @@ unfolding forwardOf
 forward-kept t network s delay time out z = rw (ne-eqb (forwardRefusal t network s delay time (length out)) 0 z)
 
 -- ---- any call
-pub good-next : (t : Table) (log : List Update) (c : Call) → Good (record { table = t; log = log }) → Good (record { table = next t c; log = logged t c log })
-good-next t log (merge s quality time) g = go (ℕ-discrete (mergeOf t s quality time .refused) 0)
+-- what holds where a number is 0, and where it is not
+by-number : (P : List Update → Type 0) (n : ℕ) (x y : List Update) → (n ≡ 0 → P x) → ((n ≡ 0 → ⊥) → P y) → P (cond (eqb n 0) x y)
+by-number P n x y h k = go (ℕ-discrete n 0)
   where
-    go : Dec (mergeOf t s quality time .refused ≡ 0) → Good (record { table = mergeOf t s quality time .table; log = logged t (merge s quality time) log })
-    go (yes z) = rw (eq-eqb (mergeOf t s quality time .refused) 0 z) (merged-good t log g s quality time z)
-    go (no z) = rw (ne-eqb (mergeOf t s quality time .refused) 0 z, merge-kept t s quality time z) g
+    go : Dec (n ≡ 0) → P (cond (eqb n 0) x y)
+    go (yes z) = rw (eq-eqb n 0 z) (h z)
+    go (no z) = rw (ne-eqb n 0 z) (k z)
+
+pub good-next : (t : Table) (log : List Update) (c : Call) → Good (record { table = t; log = log }) → Good (record { table = next t c; log = logged t c log })
+good-next t log (merge s quality time) g =
+    by-number (λ l. Good (record { table = mergeOf t s quality time .table; log = l })) (mergeOf t s quality time .refused) _ log
+    (merged-good t log g s quality time) (λ z. rw (merge-kept t s quality time z) g)
 good-next t log (forget unit time) g = go (ℕ-discrete (forgetOf t unit time .refused) 0)
   where
     go : Dec (forgetOf t unit time .refused ≡ 0) → Good (record { table = forgetOf t unit time .table; log = log })

@@ -12,6 +12,7 @@ use lib.ListN.{length, getD}
 use Rattle.octets.specs.Answers.{Said, accepted, first, unless}
 use Rattle.octets.proofs.AnswerLaws.{unless-number, numbered, refusing-numbered, none-holds}
 use Rattle.shapes.specs.Reading.{refusalAs}
+use Rattle.shapes.specs.Writing.{Wrote}
 use Rattle.traffic.specs.Traffic.{dataKind}
 use Rattle.routes.specs.declared.table.Table.{Table}
 use Rattle.routes.specs.Tables.{withinRule, lookupOf}
@@ -22,7 +23,7 @@ use Rattle.relays.specs.Pages.{pageFrame, pageOf}
 use Rattle.relays.specs.Relays.{dataIn, forUs, copyOf, relayRefusal, relayOf}
 use Rattle.relays.proofs.AlikeLaws.{relay-alike, page-alike, forward-refused, forward-written, forward-held, forward-table}
 use Rattle.relays.proofs.ForwardLaws.{forward-within}
-use Rattle.history.specs.TableCalls.{Call, merge, forget, forward, lookup, relay, page, next, newTable, answer, after, fresh}
+use Rattle.history.specs.TableCalls.{Call, merge, forget, forward, lookup, relay, page, next, answers, newTable, answer, after, fresh}
 use Rattle.history.specs.TableLaws.{Freshness, KeepsRule, RefusedKeeps, StaysWithinRule, GoneRowsDoNotMatter}
 use Rattle.history.proofs.TableReasons.{relayReasons, pageReasons}
 use Rattle.history.proofs.FreshLaws.{heard}
@@ -140,13 +141,18 @@ same-table m n a b e h = go (ℕ-discrete n 0)
 pub gone-rows-do-not-matter : GoneRowsDoNotMatter
 gone-rows-do-not-matter t (merge s quality time) e =
     let (refusal, skipped) = dropped-merge t s quality time e in
-    rw (same-table _ _ _ _ refusal (dropped-merges t s quality time e), refusal, skipped)
+    let tables = same-table _ _ _ _ refusal (dropped-merges t s quality time e) in
+    λ i. answers (unless (refusal i) (accepted (skipped i ∷ []))) [] (tables i)
 gone-rows-do-not-matter t (forget unit time) e =
     let refusal = dropped-forget time t e unit in
-    rw (same-table _ _ _ _ refusal (dropped-forgets time t e unit), refusal)
+    let tables = same-table _ _ _ _ refusal (dropped-forgets time t e unit) in
+    λ i. answers (unless (refusal i) (accepted [])) [] (tables i)
 gone-rows-do-not-matter t (forward network s delay time out) e =
     let refusal = forward-refused time t e network s delay out in
-    rw (same-table _ _ _ _ refusal (forward-table time t e network s delay out), refusal, forward-written time t e network s delay out, forward-held time t e network s delay out)
-gone-rows-do-not-matter t (lookup d time) e = rw (dropped-lookup time t e d)
-gone-rows-do-not-matter t (relay s time out) e = rw (relay-alike time t e s out)
-gone-rows-do-not-matter t (page p time out) e = rw (page-alike time t e p out)
+    let written = forward-written time t e network s delay out in
+    let held = forward-held time t e network s delay out in
+    let tables = same-table _ _ _ _ refusal (forward-table time t e network s delay out) in
+    λ i. answers (unless (refusal i) (accepted (written i ∷ []))) (held i) (tables i)
+gone-rows-do-not-matter t (lookup d time) e = ap (λ (said : Said). answers said [] []) (dropped-lookup time t e d)
+gone-rows-do-not-matter t (relay s time out) e = ap (λ (w : Wrote). answers (w .said) (w .held) []) (relay-alike time t e s out)
+gone-rows-do-not-matter t (page p time out) e = ap (λ (w : Wrote). answers (w .said) (w .held) []) (page-alike time t e p out)

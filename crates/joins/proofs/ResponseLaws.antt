@@ -1,13 +1,14 @@
 -- Response frames: their lengths, one of them sealed, and a turn of the loop that stores them.
 -- Assumes nothing.
 use mathlib.Core.Path.{_≡_, refl, sym, ap, ap₂, _∙_}
-use mathlib.Core.Bool.{Bool, true, false, cond}
+use mathlib.Core.Bool.{Bool, true, false, _&&_, cond}
 use mathlib.Core.List.{List, [], _∷_, _++_, map, append-nil, append-assoc}
 use Prim.Native.Nat.{ℕ, zero, suc, _+_, _*_, _-_, _/_, _^_, _≤_, _<_}
 use native.Mathlib.Nat.{zero-add}
 use native.Mathlib.Numerals.{add-one}
-use native.Mathlib.Decide.{decLt}
 use native.Mathlib.Omega.{arith}
+use borrow.Author.Tests.{ltb-false}
+use lib.Dec.{ltb}
 use lib.ListN.{length, take, drop, set, length-append, length-map}
 use lib.Seq.{sets, sets-eq, drop-at}
 use Rattle.octets.specs.Layouts.{bytes}
@@ -68,7 +69,7 @@ unfolding left
 left-all w s = let e : w - 0 ≡ w = omega arith in sym (ap (λ (n : ℕ). length (listed s 0 n)) e ∙ listed-all w s)
 
 module _ (w : ℕ) (s : Slots w) (i : ℕ) where
-  pub none-left : left w s i ≡ 0 → listed s i (w - i) ≡ []
+  none-left : left w s i ≡ 0 → listed s i (w - i) ≡ []
   unfolding left
   none-left = go (listed s i (w - i))
     where
@@ -76,16 +77,18 @@ module _ (w : ℕ) (s : Slots w) (i : ℕ) where
       go [] e = refl
       go (x ∷ l) e = absurd (omega (arith, e))
 
-  pub left-there : 0 < left w s i → i < w
-  unfolding left
-  left-there h = go (decLt i w)
+  none-behind : w ≤ i → listed s i (w - i) ≡ []
+  none-behind h =
+      let e : w - i ≡ 0 = omega (arith, h) in
+      ap (listed s i) e
+
+  -- the turns end where none is left, or no slot
+  pub listed-end : (n : ℕ) → n ≡ left w s i → (ltb 0 n && ltb i w) ≡ false → listed s i (w - i) ≡ []
+  listed-end n q e = go (ltb 0 n) refl e
     where
-      go : Dec (i < w) → i < w
-      go (yes p) = p
-      go (no n) =
-          let e : w - i ≡ 0 = omega (arith, n) in
-          let z : length (listed s i (w - i)) ≡ 0 = ap (λ (k : ℕ). length (listed s i k)) e in
-          absurd (omega (arith, z, h))
+      go : (b : Bool) → ltb 0 n ≡ b → (b && ltb i w) ≡ false → listed s i (w - i) ≡ []
+      go true p t = none-behind (ltb-false i w t)
+      go false p t = none-left (omega (arith, q, ltb-false 0 n p))
 
   pub left-on : i < w → left w s i ≡ cond (has s i) 1 0 + left w s (i + 1)
   unfolding left
@@ -190,8 +193,8 @@ abbrev pub later : Plan → ℕ → ℕ → Slots 64 → ℕ → List ℕ
 later p unit time own slot = responsesFor p unit time (map (dataSlot p) (listed own slot (64 - slot)))
 
 module _ (p : Plan) (unit time : ℕ) (own : Slots 64) (slot : ℕ) where
-  pub none-later : left 64 own slot ≡ 0 → later p unit time own slot ≡ []
-  none-later e = ap (λ (l : List ℕ). responsesFor p unit time (map (dataSlot p) l)) (none-left 64 own slot e)
+  pub none-later : (n : ℕ) → n ≡ left 64 own slot → (ltb 0 n && ltb slot 64) ≡ false → later p unit time own slot ≡ []
+  none-later n q e = ap (λ (l : List ℕ). responsesFor p unit time (map (dataSlot p) l)) (listed-end 64 own slot n q e)
 
   module _ (h : slot < 64) where
     listed-on : listed own slot (64 - slot) ≡ cond (has own slot) (slot ∷ listed own (slot + 1) (64 - (slot + 1))) (listed own (slot + 1) (64 - (slot + 1)))

@@ -54,7 +54,7 @@ fn put_data_slots(out: &mut [u8], plan: Plan, unit: u16, time: u32, own: u64)
     let mut place = 13;
     let mut slot: u16 = 0;
     let mut left = size(own);
-    while 0 < left {
+    while (0 < left) & (slot < 64) {
         if !holds(own, slot as u32) {
             slot += 1;
             continue;

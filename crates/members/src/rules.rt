@@ -12,6 +12,7 @@ use slots::masks::apart;
 use slots::masks::below;
 use slots::masks::is_empty;
 use slots::masks::joined;
+use slots::masks::one_to_four;
 use slots::masks::size;
 use slots::masks::without;
 
@@ -29,10 +30,9 @@ impl Member {
         if self.unit == 0 {
             return self.is_empty();
         }
-        let count = size(self.slots);
         let outside = without(self.slots, below(data_slots as u32));
         ((1 <= self.unit) & (self.unit <= 0xFFFE))
-            & ((1 <= count) & (count <= 4))
+            & one_to_four(self.slots)
             & is_empty(outside)
             & in_order(self.time, last)
     }

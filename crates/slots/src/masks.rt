@@ -1,5 +1,8 @@
 // Sets of slots as masks: slot i is in the set where bit i of the mask is set.
 ghost use mathlib.Core.Path.{_≡_};
+ghost use mathlib.Core.Bool.{_&&_};
+ghost use Prim.Native.Nat.{_-_};
+ghost use lib.Dec.{leb};
 ghost use Rattle.slots.specs.Sets.{slotsOf, has, union, minus, count, isEmpty, disjoint, firsts, lowest, withoutHighest};
 
 // How many slots.
@@ -20,6 +23,24 @@ pub fn holds(m: u64, i: u32) -> bool
     ensures { λ r. ⌜ r ≡ has (slotsOf m) i ⌝ }
 {
     if i < 64 { (m >> i) & 1 == 1 } else { false }
+}
+
+// A mask without its lowest slot. A mask and one less differ from its lowest slot down.
+fn dropped(m: u64) -> u64
+    ensures { λ r. ⌜ count (slotsOf r) ≡ count (slotsOf m) - 1 ⌝ }
+{
+    if m == 0 {
+        return 0;
+    }
+    m & (m - 1)
+}
+
+// Whether there are 1 to 4 slots: to drop four is less work than to count all.
+pub fn one_to_four(m: u64) -> bool
+    ensures { λ r. ⌜ r ≡ (leb 1 (count (slotsOf m)) && leb (count (slotsOf m)) 4) ⌝ }
+{
+    let more = dropped(dropped(dropped(dropped(m))));
+    !is_empty(m) & is_empty(more)
 }
 
 // Whether no slot is in both.

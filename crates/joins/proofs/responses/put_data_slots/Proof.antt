@@ -1,13 +1,15 @@
 -- `put_data_slots`'s loop: to store the frames that are left is to store them all.
 -- Assumes nothing.
 use mathlib.Core.Path.{_≡_, refl, sym, ap, _∙_}
+use mathlib.Core.Bool.{and-eq-true-iff}
 use Prim.Native.Nat.{_+_, _*_, _-_, _≤_, _<_}
 use native.Mathlib.Omega.{arith}
-use borrow.Author.Tests.{not-true, not-false}
+use borrow.Author.Tests.{not-true, not-false, ltb-true}
+use lib.Dec.{ltb}
 use lib.ListN.{length}
 use lib.Seq.{sets}
 use Rattle.slots.specs.Sets.{slotsOf}
-use Rattle.joins.proofs.ResponseLaws.{left, left-all, left-there, left-over, left-told, later, none-later, passed-over, told}
+use Rattle.joins.proofs.ResponseLaws.{left, left-all, left-over, left-told, later, none-later, passed-over, told}
 use borrow.Author.Needs.{needs, fits-under}
 use Rattle.joins.proofs.responses.put_data_slots.Statement.{statement}
 use Rattle.joins.proofs.responses.put_data_slots.Tie as tie
@@ -24,12 +26,12 @@ abbrev μ-loop : tie.MeasureT-loop
 loop-holds : tie.Need-loop-holds Inv-loop μ-loop
 loop-holds c = (search needs, search needs, refl, refl, c .size .ensures ∙ left-all 64 _)
 
--- a slot that is left is one of the 64
+-- a turn is one of the 64 slots
 there : (c : tie.In-loop Inv-loop μ-loop) → c .before .loop .slot < 64
-there c =
-    let l = c .before .loop in
-    let some : 0 < left 64 (slotsOf (c .before .before .before .before .before .args .own)) (l .slot) = omega (arith, c .loop-test .taken, l .inv .4) in
-    left-there 64 _ _ some
+there c = ltb-true (c .before .loop .slot) 64 (and-eq-true-iff (ltb 0 (c .before .loop .left)) (ltb (c .before .loop .slot) 64) .0 (c .loop-test .taken) .1)
+
+some : (c : tie.In-loop Inv-loop μ-loop) → 0 < c .before .loop .left
+some c = ltb-true 0 (c .before .loop .left) (and-eq-true-iff (ltb 0 (c .before .loop .left)) (ltb (c .before .loop .slot) 64) .0 (c .loop-test .taken) .0)
 
 add-slot : tie.Need-add-slot Inv-loop μ-loop
 add-slot c = fits-under _ _ 65 (omega (arith, there (c .before .before))) _
@@ -59,6 +61,9 @@ add-place c =
 add-slot-2 : tie.Need-add-slot-2 Inv-loop μ-loop
 add-slot-2 c = fits-under _ _ 65 (omega (arith, there (c .before .before .before .before .before .before .before .before))) _
 
+sub-left : tie.Need-sub-left Inv-loop μ-loop
+sub-left c = omega (arith, some (c .before .before .before .before .before .before .before .before))
+
 loop-less-2 : tie.Need-loop-less-2 Inv-loop μ-loop
 loop-less-2 c = omega (arith, there (c .before .before .before .before .before .before .before .before))
 
@@ -84,9 +89,8 @@ returns : tie.Need-returns Inv-loop μ-loop
 returns c =
     let l = c .before .loop in
     let a = c .before .before .before .before .before .args in
-    let none : left 64 (slotsOf (a .own)) (l .slot) ≡ 0 = omega (arith, c .loop-test .left, l .inv .4) in
-    ap (sets (l .out) (l .place)) (sym (none-later (a .plan) (a .unit) (a .time) (slotsOf (a .own)) (l .slot) none)) ∙ l .inv .3
+    ap (sets (l .out) (l .place)) (sym (none-later (a .plan) (a .unit) (a .time) (slotsOf (a .own)) (l .slot) (l .left) (l .inv .4) (c .loop-test .left))) ∙ l .inv .3
 
 pub put-data-slots-spec : {M : Type 1} → statement M
 put-data-slots-spec =
-    tie.close (tie.spec Inv-loop μ-loop (λ c κs. search needs) (λ c κs. search needs) loop-holds (λ c. search needs) (λ c κs. search needs) add-slot loop-less loop-again add-response (λ c κs. search needs) (λ c. search needs) (λ c κs. search needs) add-place add-slot-2 (λ c. search needs) loop-less-2 loop-again-2 same-length returns)
+    tie.close (tie.spec Inv-loop μ-loop (λ c κs. search needs) (λ c κs. search needs) loop-holds (λ c. search needs) (λ c κs. search needs) add-slot loop-less loop-again add-response (λ c κs. search needs) (λ c. search needs) (λ c κs. search needs) add-place add-slot-2 sub-left loop-less-2 loop-again-2 same-length returns)

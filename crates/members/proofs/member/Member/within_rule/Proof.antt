@@ -11,14 +11,15 @@ returns c = c .is-empty .ensures ∙ rw (eq-eqb _ 0 (c .before .if1 .taken))
 
 returns-2 : tie.Need-returns-2
 returns-2 c =
-    let outside = c .before .before .before .before in
+    let few = c .before .before in
+    let outside = few .before .before .before in
     rw (
-      ne-eqb _ 0 (outside .before .before .before .if1 .left),
+      ne-eqb _ 0 (outside .before .before .if1 .left),
       c .in-order .ensures,
       c .before .is-empty2 .ensures,
+      few .one-to-four .ensures,
       outside .without .ensures,
       outside .before .below .ensures,
-      outside .before .before .size .ensures,
     )
 
 pub within-rule-spec : {M : Type 1} → statement M

@@ -1,3 +1,4 @@
 pub mod ExampleLaws
+pub mod SingleLaws
 pub mod StoryGrantLaws
 pub mod StoryLaws

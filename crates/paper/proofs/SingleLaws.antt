@@ -1,0 +1,97 @@
+-- No two answers meet a contract: each view can be undone.
+-- Assumes nothing.
+use mathlib.Core.Path.{_≡_, refl, sym, ap, ap₂, _∙_}
+use mathlib.Core.List.{List, [], _∷_, map}
+use Prim.Native.Nat.{ℕ}
+use Rattle.slots.specs.Sets.{slotsOf, maskOf}
+use Rattle.slots.proofs.BitLaws.{mask-of-set}
+use Rattle.traffic.specs.Traffic.{dataFrom, updateFrom}
+use Rattle.requests.specs.Requests.{joinRequestFrom, joinResponseFrom, slotRequestFrom, discoveryRequestFrom, discoveryResponseFrom}
+use Rattle.beacons.specs.Beacons.{beaconFrom}
+use Rattle.shapes.specs.Writing.{Wrote}
+use Rattle.frames.specs.declared.answers.Written.{Written}
+use Rattle.frames.specs.Told.{wrote, toldWritten}
+use Rattle.frames.proofs.ToldLaws.{told-one, told-written-one}
+use Rattle.entries.proofs.MeetLaws.{told-walked-one}
+use Rattle.routes.proofs.ToldLaws.{told-found-one}
+use Rattle.relays.specs.declared.relaying.Relayed.{Relayed}
+use Rattle.relays.specs.Relays.{relayed}
+use Rattle.relays.proofs.ToldLaws.{told-relayed-one}
+use Rattle.site.proofs.ToldLaws.{told-plan-one}
+use Rattle.members.specs.declared.member.Member.{Member}
+use Rattle.members.specs.Members.{Row, rowOf, rowsOf}
+use Rattle.book.specs.declared.book.Book.{Book}
+use Rattle.book.specs.Books.{Stated, stated}
+use Rattle.paper.specs.Single.{TellsApart, SingleAnswer, any, mask, maskRow, maskRows, maskBook, ViewsTellApart}
+
+pub single-answer : SingleAnswer
+single-answer A B possible view apart given a a′ p p′ e e′ = apart a a′ p p′ (e ∙ sym e′)
+
+-- a view that can be undone tells answers apart
+undone : {A B : Type 0} (possible : A → Type 0) (view : A → B) (back : B → A) → ((a : A) → possible a → back (view a) ≡ a) → TellsApart possible view
+undone possible view back returns a a′ p p′ e = sym (returns a p) ∙ (ap back e ∙ returns a′ p′)
+
+-- ---- masks
+mask-back : (m : ℕ) → mask m → maskOf (slotsOf m) ≡ m
+unfolding slotsOf
+mask-back m p = mask-of-set 64 m p
+
+rowBack : Row → Member
+rowBack r = record { unit = r .unit; slots = maskOf (r .slots); time = r .time }
+
+row-back : (m : Member) → maskRow m → rowBack (rowOf m) ≡ m
+unfolding rowBack
+row-back m p = ap (λ (slots : ℕ). record { unit = m .unit; slots = slots; time = m .time }) (mask-back (m .slots) p)
+
+rows-back : (ms : List Member) → maskRows ms → map rowBack (rowsOf ms) ≡ ms
+unfolding rowsOf
+rows-back [] p = refl
+rows-back (m ∷ ms) p = ap₂ _∷_ (row-back m (p .0)) (rows-back ms (p .1))
+
+bookBack : Stated → Book
+bookBack b = record { plan = b .plan; time = b .time; rows = map rowBack (b .places) }
+
+book-back : (b : Book) → maskBook b → bookBack (stated b) ≡ b
+unfolding bookBack
+book-back b p = ap (λ (rows : List Member). record { plan = b .plan; time = b .time; rows = rows }) (rows-back (b .rows) p)
+
+pub views-tell-apart : ViewsTellApart
+unfolding bookBack
+views-tell-apart =
+    record {
+      itself = λ a a′ p p′ e. e;
+      dataHeaders = undone any _ dataFrom (λ a p. refl);
+      updateHeaders = undone any _ updateFrom (λ a p. refl);
+      joinRequests = undone any _ joinRequestFrom (λ a p. refl);
+      joinResponses = undone any _ joinResponseFrom (λ a p. refl);
+      slotRequests = undone any _ slotRequestFrom (λ a p. refl);
+      discoveryRequests = undone any _ discoveryRequestFrom (λ a p. refl);
+      discoveryResponses = undone any _ discoveryResponseFrom (λ a p. refl);
+      beacons = undone any _ beaconFrom (λ a p. refl);
+      frames = λ a a′ p p′ e. told-one a a′ e;
+      writings = λ a a′ p p′ e. told-written-one a a′ e;
+      findings = λ a a′ p p′ e. told-found-one a a′ e;
+      plans = λ a a′ p p′ e. told-plan-one a a′ e;
+      steps = told-walked-one;
+      writingsInto = λ a a′ p p′ e. ap₂ {C = Written × List ℕ} (λ w held. (w, held)) (told-written-one (a .0) (a′ .0) (ap (λ (w : Wrote). w .said) e)) (ap (λ (w : Wrote). w .held) e);
+      relayings = λ a a′ p p′ e. ap₂ {C = Relayed × List ℕ} (λ w held. (w, held)) (told-relayed-one (a .0) (a′ .0) (ap (λ (w : Wrote). w .said) e)) (ap (λ (w : Wrote). w .held) e);
+      forwardings = undone any _ (λ v. (v .answer, v .held)) (λ a p. refl);
+      masks = undone mask slotsOf maskOf mask-back;
+      members = undone maskRow rowOf rowBack row-back;
+      rows = undone maskRows rowsOf (map rowBack) rows-back;
+      books = undone maskBook stated bookBack book-back;
+      changes = undone _ _ (λ l. record { refused = l .refused; book = bookBack (l .book) }) (λ c p. ap (λ (b : Book). record { refused = c .refused; book = b }) (book-back (c .book) p));
+      grants = undone _ _ (λ l. (record { refused = l .refused; written = l .written; book = bookBack (l .book) }, l .held)) (λ a p. ap (λ (b : Book). (record { refused = a .0 .refused; written = a .0 .written; book = b }, a .1)) (book-back (a .0 .book) p));
+      reads = undone any _ (λ l. (l .status, l .fields, l .place, l .extent)) (λ a p. refl);
+      entries = undone any _ (λ l. (l .status, l .entry, l .next)) (λ a p. refl);
+      writes = undone any _ (λ l. (l .status, l .out, l .written)) (λ a p. refl);
+      tables = undone any _ (λ l. (l .status, l .table)) (λ a p. refl);
+      lookups = undone any _ (λ l. (l .status, l .nextHop, l .hops)) (λ a p. refl);
+      merges = undone any _ (λ l. (l .status, l .table, l .skipped)) (λ a p. refl);
+      relays = undone any _ (λ l. (l .status, l .out, l .nextHop, l .place, l .extent)) (λ a p. refl);
+      forwards = undone any _ (λ l. (l .status, l .table, l .out, l .written)) (λ a p. refl);
+      states = undone any _ (λ l. (l .status, l .state)) (λ a p. refl);
+      clocks = undone any _ (λ l. (l .status, l .offset)) (λ a p. refl);
+      bookCalls = undone any _ (λ l. (l .status, l .book)) (λ a p. refl);
+      requests = undone any _ (λ l. (l .status, l .book, l .out, l .written)) (λ a p. refl);
+    }

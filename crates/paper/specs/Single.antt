@@ -1,0 +1,109 @@
+-- Each promise admits a single answer. A public contract says `view of the answer ≡ what the definitions give`: the answer is the result with the exit
+-- contents of every lent buffer, and the view one of those below. No two answers have one view, so no two meet the contract.
+-- Assumes nothing.
+use mathlib.Core.Path.{_≡_}
+use mathlib.Core.List.{List, [], _∷_}
+use Prim.Native.Nat.{ℕ, _^_, _<_}
+use lib.IntN.{ℤ}
+use Rattle.octets.specs.Calls.{writeLeft}
+use Rattle.slots.specs.Sets.{slotsOf}
+use Rattle.traffic.specs.Traffic.{dataValues, updateValues}
+use Rattle.requests.specs.Requests.{joinRequestValues, joinResponseValues, slotRequestValues, discoveryRequestValues, discoveryResponseValues}
+use Rattle.beacons.specs.Beacons.{beaconValues}
+use Rattle.frames.specs.declared.answers.Written.{Written}
+use Rattle.frames.specs.Told.{told, toldWritten, wrote}
+use Rattle.entries.specs.Walks.{toldWalked, Numbered}
+use Rattle.routes.specs.Told.{toldFound}
+use Rattle.relays.specs.declared.forwarding.Forwarded.{Forwarded}
+use Rattle.relays.specs.declared.relaying.Relayed.{Relayed}
+use Rattle.relays.specs.Forwards.{passed}
+use Rattle.relays.specs.Relays.{relayed}
+use Rattle.site.specs.Plans.{toldPlan}
+use Rattle.members.specs.declared.member.Member.{Member}
+use Rattle.members.specs.Members.{rowOf, rowsOf}
+use Rattle.book.specs.declared.book.Book.{Book}
+use Rattle.book.specs.declared.book.Changed.{Changed}
+use Rattle.book.specs.Books.{stated, leftBy}
+use Rattle.joins.specs.declared.grants.Granted.{Granted}
+use Rattle.joins.specs.Joins.{answeredBy}
+use Rattle.braidlark.specs.ClockCalls.{clockLeft}
+use Rattle.braidlark.specs.EntryCalls.{entryLeft}
+use Rattle.braidlark.specs.FrameCalls.{readLeft}
+use Rattle.braidlark.specs.StateCalls.{stateLeft}
+use Rattle.router.specs.RelayCalls.{relayLeft, forwardLeft}
+use Rattle.router.specs.TableCalls.{tableLeft, lookupLeft}
+use Rattle.router.specs.UpdateCalls.{mergeLeft}
+use Rattle.manager.specs.BookCalls.{bookLeft}
+use Rattle.admissions.specs.RequestCalls.{requestLeft}
+
+-- a view tells apart the answers that the code can give
+abbrev pub TellsApart : {A B : Type 0} → (A → Type 0) → (A → B) → Type 0
+TellsApart {A} possible view = (a a′ : A) → possible a → possible a′ → view a ≡ view a′ → a ≡ a′
+
+-- two answers that meet a contract are equal
+abbrev pub SingleAnswer : Type 1
+SingleAnswer =
+    (A B : Type 0) (possible : A → Type 0) (view : A → B) → TellsApart possible view
+    → (given : B) (a a′ : A) → possible a → possible a′ → view a ≡ given → view a′ ≡ given → a ≡ a′
+
+-- ---- which answers the code can give
+abbrev pub any : {A : Type 0} → A → Type 0
+any a = Unit
+
+-- a mask is a number of 64 bits, and so are those of rows and of a book
+abbrev pub mask : ℕ → Type 0
+mask m = m < 2 ^ 64
+
+abbrev pub maskRow : Member → Type 0
+maskRow m = mask (m .slots)
+
+abbrev pub maskRows : List Member → Type 0
+maskRows [] = Unit
+maskRows (m ∷ ms) = maskRow m × maskRows ms
+
+abbrev pub maskBook : Book → Type 0
+maskBook b = maskRows (b .rows)
+
+-- ---- the views
+pub record ViewsTellApart : Type 1 where
+  -- most contracts say `answer ≡ definition`, of the result, of a buffer, or of both
+  pub itself : {A : Type 0} → TellsApart any (λ (a : A). a)
+  -- the values of a record of fields: `of` of the eight kinds
+  pub dataHeaders : TellsApart any dataValues
+  pub updateHeaders : TellsApart any updateValues
+  pub joinRequests : TellsApart any joinRequestValues
+  pub joinResponses : TellsApart any joinResponseValues
+  pub slotRequests : TellsApart any slotRequestValues
+  pub discoveryRequests : TellsApart any discoveryRequestValues
+  pub discoveryResponses : TellsApart any discoveryResponseValues
+  pub beacons : TellsApart any beaconValues
+  -- what an enum says, alone and with a buffer
+  pub frames : TellsApart any told
+  pub writings : TellsApart any toldWritten
+  pub findings : TellsApart any toldFound
+  pub plans : TellsApart any toldPlan
+  -- a step of a walk: its contract also says that a refusal's number is not 0
+  pub steps : TellsApart Numbered toldWalked
+  pub writingsInto : TellsApart any (λ (a : Written × List ℕ). wrote (a .0) (a .1))
+  pub relayings : TellsApart any (λ (a : Relayed × List ℕ). relayed (a .0) (a .1))
+  pub forwardings : TellsApart any (λ (a : Forwarded × List ℕ). passed (a .0) (a .1))
+  -- sets for masks
+  pub masks : TellsApart mask slotsOf
+  pub members : TellsApart maskRow rowOf
+  pub rows : TellsApart maskRows rowsOf
+  pub books : TellsApart maskBook stated
+  pub changes : TellsApart (λ c. maskBook (c .book)) leftBy
+  pub grants : TellsApart (λ (a : Granted × List ℕ). maskBook (a .0 .book)) (λ a. answeredBy (a .0) (a .1))
+  -- what a call leaves to C: its status, and each buffer and out parameter
+  pub reads : TellsApart any (λ (a : ℕ × List ℕ × ℕ × ℕ). readLeft (a .0) (a .1) (a .2) (a .3))
+  pub entries : TellsApart any (λ (a : ℕ × List ℕ × ℕ). entryLeft (a .0) (a .1) (a .2))
+  pub writes : TellsApart any (λ (a : ℕ × List ℕ × ℕ). writeLeft (a .0) (a .1) (a .2))
+  pub tables : TellsApart any (λ (a : ℕ × List ℕ). tableLeft (a .0) (a .1))
+  pub lookups : TellsApart any (λ (a : ℕ × ℕ × ℕ). lookupLeft (a .0) (a .1) (a .2))
+  pub merges : TellsApart any (λ (a : ℕ × List ℕ × ℕ). mergeLeft (a .0) (a .1) (a .2))
+  pub relays : TellsApart any (λ (a : ℕ × List ℕ × ℕ × ℕ × ℕ). relayLeft (a .0) (a .1) (a .2) (a .3) (a .4))
+  pub forwards : TellsApart any (λ (a : ℕ × List ℕ × List ℕ × ℕ). forwardLeft (a .0) (a .1) (a .2) (a .3))
+  pub states : TellsApart any (λ (a : ℕ × List ℕ). stateLeft (a .0) (a .1))
+  pub clocks : TellsApart any (λ (a : ℕ × ℤ). clockLeft (a .0) (a .1))
+  pub bookCalls : TellsApart any (λ (a : ℕ × List ℕ). bookLeft (a .0) (a .1))
+  pub requests : TellsApart any (λ (a : ℕ × List ℕ × List ℕ × ℕ). requestLeft (a .0) (a .1) (a .2) (a .3))

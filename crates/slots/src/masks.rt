@@ -29,10 +29,10 @@ pub fn holds(m: u64, i: u32) -> bool
 fn dropped(m: u64) -> u64
     ensures { λ r. ⌜ count (slotsOf r) ≡ count (slotsOf m) - 1 ⌝ }
 {
-    if m == 0 {
-        return 0;
+    if 0 < m {
+        return m & (m - 1);
     }
-    m & (m - 1)
+    0
 }
 
 // Whether there are 1 to 4 slots: to drop four is less work than to count all.

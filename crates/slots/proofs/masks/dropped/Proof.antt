@@ -8,12 +8,12 @@ use Rattle.slots.proofs.masks.dropped.Statement.{statement}
 use Rattle.slots.proofs.masks.dropped.Tie as tie
 
 returns : tie.Need-returns
-returns c = none-dropped (c .before .args .m) (c .if1 .taken)
+returns c =
+    let m = c .before .args .m in
+    one-dropped m _ (mask-drop m (c .if1 .taken))
 
 returns-2 : tie.Need-returns-2
-returns-2 c =
-    let m = c .before .args .m in
-    one-dropped m _ (mask-drop m (omega (arith, c .if1 .left)))
+returns-2 c = none-dropped (c .before .args .m) (omega (arith, c .if1 .left))
 
 pub dropped-spec : {M : Type 1} → statement M
-dropped-spec = tie.close (tie.spec returns (λ c. search needs) returns-2)
+dropped-spec = tie.close (tie.spec (λ c. search needs) returns returns-2)

@@ -9,7 +9,6 @@ pub mod SettledLaws
 pub mod SlotsAtLaws
 pub mod StepLaws
 pub mod TableHistoryLaws
-pub mod TableReasons
 pub mod TableRuleLaws
 pub mod ToldLaws
 pub mod UnitSums

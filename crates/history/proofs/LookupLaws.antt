@@ -16,8 +16,7 @@ use Rattle.shapes.specs.Rules.{address}
 use Rattle.routes.specs.declared.row.Row.{Row}
 use Rattle.routes.specs.declared.table.Table.{Table}
 use Rattle.routes.specs.Rows.{usable, rowFor}
-use Rattle.routes.specs.Tables.{rowsOf, withinRule, lookupOf}
-use Rattle.history.proofs.TableReasons.{lookupReasons}
+use Rattle.routes.specs.Tables.{rowsOf, withinRule, lookupOf, lookupReasons}
 
 -- the row that a lookup answers by
 abbrev pub answering : Table → ℕ → Row

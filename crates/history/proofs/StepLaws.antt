@@ -18,7 +18,7 @@ use Rattle.traffic.specs.Traffic.{update, entriesOf}
 use Rattle.routes.specs.declared.row.Row.{Row}
 use Rattle.routes.specs.declared.table.Table.{Table}
 use Rattle.routes.specs.Rows.{rowRule, forgotten, inUse, pad, standing}
-use Rattle.routes.specs.Tables.{rowsOf, withinRule, freshOf, forgetOf}
+use Rattle.routes.specs.Tables.{rowsOf, withinRule, freshOf, forgetOf, forgetReasons}
 use Rattle.routes.proofs.KeepLaws.{every-map, standing-rules, forgotten-rules, fresh-within, forget-within}
 use Rattle.routes.proofs.RuleLaws.{ruled, rows-of-pad}
 use Rattle.routes.proofs.StandingLaws.{standing-every}
@@ -34,7 +34,6 @@ use Rattle.relays.specs.Forwards.{forwardRefusal, forwardOf}
 use Rattle.relays.proofs.ForwardLaws.{onward, forward-within}
 use Rattle.history.specs.TableCalls.{Call, merge, forget, forward, lookup, relay, page, next, Update, logged, Past, after, fresh}
 use Rattle.history.proofs.FreshLaws.{borne, before, borne-on, borne-new, borne-kept, borne-forgotten, logged-on}
-use Rattle.history.proofs.TableReasons.{forgetReasons}
 
 -- what holds of a table and of the updates that were accepted on the way to it
 pub record Good (p : Past) : Type 0 where

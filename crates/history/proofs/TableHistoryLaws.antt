@@ -19,13 +19,12 @@ use Rattle.routes.specs.Tables.{withinRule, lookupOf}
 use Rattle.routes.proofs.DroppedLaws.{dropped-lookup, dropped-forget, dropped-forgets}
 use Rattle.routes.proofs.KeepLaws.{fresh-within, forget-within}
 use Rattle.merges.proofs.KeepLaws.{merge-within, dropped-merge, dropped-merges}
-use Rattle.relays.specs.Pages.{pageFrame, pageOf}
-use Rattle.relays.specs.Relays.{dataIn, forUs, copyOf, relayRefusal, relayOf}
+use Rattle.relays.specs.Pages.{pageFrame, pageOf, pageReasons}
+use Rattle.relays.specs.Relays.{dataIn, forUs, copyOf, relayRefusal, relayOf, relayReasons}
 use Rattle.relays.proofs.AlikeLaws.{relay-alike, page-alike, forward-refused, forward-written, forward-held, forward-table}
 use Rattle.relays.proofs.ForwardLaws.{forward-within}
 use Rattle.history.specs.TableCalls.{Call, merge, forget, forward, lookup, relay, page, next, answers, newTable, answer, after, fresh}
 use Rattle.history.specs.TableLaws.{Freshness, KeepsRule, RefusedKeeps, StaysWithinRule, GoneRowsDoNotMatter}
-use Rattle.history.proofs.TableReasons.{relayReasons, pageReasons}
 use Rattle.history.proofs.FreshLaws.{heard}
 use Rattle.history.proofs.LookupLaws.{answering, Found, found, with-values}
 use Rattle.history.proofs.StepLaws.{good-after, good-fresh, merge-kept, forget-kept, forward-kept}

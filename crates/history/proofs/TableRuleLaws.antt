@@ -12,15 +12,14 @@ use Rattle.traffic.specs.Traffic.{dataKind, update}
 use Rattle.beacons.specs.Beacons.{beacon}
 use Rattle.routes.specs.declared.table.Table.{Table}
 use Rattle.routes.specs.Rows.{standing}
-use Rattle.routes.specs.Tables.{rowsOf, withinRule, lookupRefusal, lookupOf, forgetOf}
-use Rattle.merges.specs.Merges.{mergeRefusal, mergeOf}
-use Rattle.relays.specs.Forwards.{forwardRefusal, forwardOf}
-use Rattle.relays.specs.Pages.{pageThere, pageRefusal, pageOf}
-use Rattle.relays.specs.Relays.{relayRefusal}
+use Rattle.routes.specs.Tables.{rowsOf, withinRule, lookupRefusal, lookupOf, forgetOf, forgetReasons, lookupReasons}
+use Rattle.merges.specs.Merges.{mergeRefusal, mergeOf, mergeReasons}
+use Rattle.relays.specs.Forwards.{forwardRefusal, forwardOf, forwardReasons}
+use Rattle.relays.specs.Pages.{pageThere, pageRefusal, pageOf, pageReasons}
+use Rattle.relays.specs.Relays.{relayRefusal, relayReasons}
 use Rattle.history.specs.TableCalls.{Call, merge, forget, forward, lookup, relay, page, answer, after, fresh}
 use Rattle.history.specs.TableLaws.{wrongPage, OnlyForPages}
 use Rattle.history.proofs.ReasonLaws.{some-number, in-rule, read-never, only-so}
-use Rattle.history.proofs.TableReasons.{mergeReasons, forgetReasons, forwardReasons, lookupReasons, relayReasons, pageReasons}
 use Rattle.history.proofs.TableHistoryLaws.{relay-number, stays-within-rule}
 
 module _ (t : Table) (w : withinRule t ≡ true) where

@@ -25,7 +25,7 @@ use Rattle.routes.specs.Tables.{rowsOf, withinRule}
 use Rattle.routes.proofs.StandingLaws.{used, in-use-used, in-use-pad, standing-every, standing-ascending, standing-places}
 use Rattle.routes.proofs.TableLaws.{held, within}
 use Rattle.merges.specs.Learning.{learned, learnAll}
-use Rattle.merges.specs.Merges.{updateIn, mergeRefusal, mergedRows, mergeOf}
+use Rattle.merges.specs.Merges.{updateIn, mergeRefusal, mergedRows, mergeOf, mergeReasons}
 use Rattle.merges.specs.Offering.{walked, fair}
 use Rattle.merges.proofs.OfferLaws.{walked-fair, walked-same}
 
@@ -47,13 +47,7 @@ pub mergeable : (t : Table) (s : List ℕ) (quality time : ℕ) → mergeRefusal
 unfolding mergeRefusal
 mergeable t s quality time e =
     let n =
-    none-holds
-    (reason (not (withinRule t)) 14 ∷
-    refusing (refusalAs update s) ∷
-    reason (eqb (updateIn s .origin) (t .own)) 6 ∷
-    reason (not (inOrder (t .time) time)) 8 ∷
-    reason (ltb quality 40) 9 ∷
-    [])
+    none-holds (mergeReasons t s quality time)
     (numbered _ 14 (λ z. omega arith), (refusing-numbered (refusalAs update s), (numbered _ 6 (λ z. omega arith), (numbered _ 8 (λ z. omega arith), (numbered _ 9 (λ z. omega arith), tt))))) e in
     let others = n .1 .1 in
     let p = passed (update .code) (lengthOf update (update .extent (valuesIn update s))) (update .rule (valuesIn update s) (partIn update s)) s (eqb-true (refusalAs update s) 0 (not-false (eqb (refusalAs update s) 0) (n .1 .0))) in

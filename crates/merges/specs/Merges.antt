@@ -4,7 +4,7 @@ use Prim.Native.Nat.{ℕ}
 use mathlib.Core.Bool.{not}
 use mathlib.Core.List.{List, [], _∷_}
 use lib.Dec.{eqb, ltb}
-use Rattle.octets.specs.Answers.{reason, refusing, first}
+use Rattle.octets.specs.Answers.{Reason, reason, refusing, first}
 use Rattle.octets.specs.Calls.{after}
 use Rattle.moments.specs.Moments.{inOrder}
 use Rattle.shapes.specs.Reading.{refusalAs}
@@ -23,15 +23,17 @@ abbrev pub updateIn : List ℕ → UpdateHeader
 updateIn s = updateFrom (valuesIn update s)
 
 -- 14 1 2 1 3 4 6 8 9
-unfoldable pub mergeRefusal : Table → List ℕ → ℕ → ℕ → ℕ
-mergeRefusal t s quality time =
-    first
-    (reason (not (withinRule t)) 14 ∷
+abbrev pub mergeReasons : Table → List ℕ → ℕ → ℕ → List Reason
+mergeReasons t s quality time =
+    reason (not (withinRule t)) 14 ∷
     refusing (refusalAs update s) ∷
     reason (eqb (updateIn s .origin) (t .own)) 6 ∷
     reason (not (inOrder (t .time) time)) 8 ∷
     reason (ltb quality 40) 9 ∷
-    [])
+    []
+
+unfoldable pub mergeRefusal : Table → List ℕ → ℕ → ℕ → ℕ
+mergeRefusal t s quality time = first (mergeReasons t s quality time)
 
 -- every candidate of the update in order, over the rows that stand
 unfoldable pub mergedRows : Table → List ℕ → ℕ → ℕ → Learned

@@ -11,6 +11,7 @@ use Rattle.octets.specs.Answers.{Said}
 use Rattle.requests.specs.Requests.{joinRequest, joinRequestValues}
 use Rattle.frames.specs.Frames.{readFrame}
 use Rattle.shapes.specs.Shape.{frameOf}
+use Rattle.image.specs.Forms.{same}
 use Rattle.site.specs.declared.plan.Plan.{Plan}
 use Rattle.site.specs.Plans.{active, slots, planOf}
 use Rattle.paper.specs.Story.{story}
@@ -72,13 +73,6 @@ examples =
     record { computed = leaves 0 51; paper = 1 ∷ 51 ∷ 1 ∷ 26 ∷ [] } ∷
     record { computed = leaves 101 0; paper = 0 ∷ 101 ∷ 0 ∷ 0 ∷ [] } ∷
     []
-
--- two lists of numbers are the same
-abbrev pub same : List ℕ → List ℕ → Bool
-same [] [] = true
-same [] (y ∷ ys) = false
-same (x ∷ xs) [] = false
-same (x ∷ xs) (y ∷ ys) = eqb x y && same xs ys
 
 abbrev pub allSame : List Example → Bool
 allSame [] = true

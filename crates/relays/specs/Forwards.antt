@@ -95,13 +95,15 @@ recorded t p time =
     }
 
 -- why: 14 1 2 1 3 4, then a caller's network of 0 is 4, 6 15 8 11 16 4, 5
-unfoldable pub forwardRefusal : Table → ℕ → List ℕ → ℕ → ℕ → ℕ → ℕ
-forwardRefusal t network s delay time room =
-    first
-    (reason (not (withinRule t)) 14 ∷
+abbrev pub forwardReasons : Table → ℕ → List ℕ → ℕ → ℕ → ℕ → List Reason
+forwardReasons t network s delay time room =
+    reason (not (withinRule t)) 14 ∷
     refusing (refusalAs beacon s) ∷
     reason (not (rules.network network)) 4 ∷
-    passingReasons t network (passingOf (beaconIn s)) delay time ++ (reason (ltb room (length (copyOf t delay s))) 5 ∷ []))
+    passingReasons t network (passingOf (beaconIn s)) delay time ++ (reason (ltb room (length (copyOf t delay s))) 5 ∷ [])
+
+unfoldable pub forwardRefusal : Table → ℕ → List ℕ → ℕ → ℕ → ℕ → ℕ
+forwardRefusal t network s delay time room = first (forwardReasons t network s delay time room)
 
 -- what a forward answers, and what the buffer then holds
 pub record Passed : Type 0 where

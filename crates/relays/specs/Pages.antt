@@ -6,7 +6,7 @@ use mathlib.Core.List.{List, [], _∷_, _++_, map}
 use lib.Dec.{eqb, ltb}
 use lib.ListN.{length, take, drop}
 use lib.Seq.{sets}
-use Rattle.octets.specs.Answers.{accepted, reason, first, unless}
+use Rattle.octets.specs.Answers.{accepted, Reason, reason, first, unless}
 use Rattle.octets.specs.Calls.{after}
 use Rattle.octets.specs.Layouts.{bytes}
 use Rattle.moments.specs.Moments.{inOrder}
@@ -49,14 +49,16 @@ pageFrame t p time =
     frameOf update (t .own ∷ length rs ∷ time ∷ []) (entriesBytes (map (entryFor time) rs))
 
 -- page: 14 8 14 5, ..
-abbrev pub pageRefusal : Table → ℕ → ℕ → ℕ → ℕ
-pageRefusal t p time room =
-    first
-    (reason (not (withinRule t)) 14 ∷
+abbrev pub pageReasons : Table → ℕ → ℕ → ℕ → List Reason
+pageReasons t p time room =
+    reason (not (withinRule t)) 14 ∷
     reason (not (inOrder (t .time) time)) 8 ∷
     reason (not (pageThere (standing time (rowsOf t)) p)) 14 ∷
     reason (ltb room (length (pageFrame t p time))) 5 ∷
-    [])
+    []
+
+abbrev pub pageRefusal : Table → ℕ → ℕ → ℕ → ℕ
+pageRefusal t p time room = first (pageReasons t p time room)
 
 -- .. else the page's bytes from the buffer's start
 unfoldable pub pageOf : Table → ℕ → ℕ → List ℕ → Wrote

@@ -6,7 +6,7 @@ use mathlib.Core.List.{List, [], _∷_}
 use lib.Dec.{eqb, leb, ltb}
 use lib.ListN.{length, getD}
 use lib.Seq.{sets}
-use Rattle.octets.specs.Answers.{Said, accepted, refused, reason, refusing, first, unless}
+use Rattle.octets.specs.Answers.{Said, accepted, refused, Reason, reason, refusing, first, unless}
 use Rattle.octets.specs.Calls.{after}
 use Rattle.moments.specs.Moments.{inOrder}
 use Rattle.shapes.specs.Reading.{refusalAs}
@@ -34,18 +34,20 @@ abbrev pub copyOf : List ℕ → List ℕ
 copyOf s = frameOf dataKind (dataValues (passedOn (dataIn s))) (partIn dataKind s)
 
 -- why a frame is not relayed: 14 1 2 1 3 4 6 8, and, where it is not for this unit, 10 11 5; a lookup that comes so far is refused with 11 alone
-unfoldable pub relayRefusal : Table → List ℕ → ℕ → ℕ → ℕ
-relayRefusal t s time room =
+abbrev pub relayReasons : Table → List ℕ → ℕ → ℕ → List Reason
+relayReasons t s time room =
     let other = not (forUs t s) in
-    first
-    (reason (not (withinRule t)) 14 ∷
+    reason (not (withinRule t)) 14 ∷
     refusing (refusalAs dataKind s) ∷
     reason (eqb (dataIn s .source) (t .own)) 6 ∷
     reason (not (inOrder (t .time) time)) 8 ∷
     reason (other && leb (dataIn s .ttl) 1) 10 ∷
     reason (other && not (eqb (lookupOf t (dataIn s .destination) time .refusal) 0)) 11 ∷
     reason (other && ltb room (length (copyOf s))) 5 ∷
-    [])
+    []
+
+unfoldable pub relayRefusal : Table → List ℕ → ℕ → ℕ → ℕ
+relayRefusal t s time room = first (relayReasons t s time room)
 
 -- relaying: for this unit the length of the payload, and nothing is written; else the next hop, and the copy's bytes
 unfoldable pub relayOf : Table → List ℕ → ℕ → List ℕ → Wrote

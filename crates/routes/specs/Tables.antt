@@ -5,7 +5,7 @@ use mathlib.Core.Bool.{Bool, false, not, _&&_, cond}
 use mathlib.Core.List.{List, [], _∷_, map}
 use lib.Dec.{eqb}
 use lib.ListN.{length, drop, replicate}
-use Rattle.octets.specs.Answers.{Said, accepted, reason, first, unless}
+use Rattle.octets.specs.Answers.{Said, accepted, Reason, reason, first, unless}
 use Rattle.octets.specs.Lists.{every}
 use Rattle.moments.specs.Moments.{inOrder}
 use Rattle.shapes.specs.Rules.{address}
@@ -55,15 +55,17 @@ unfoldable pub freshOf : ℕ → ℕ → Changed
 freshOf own time = settled (first (reason (not (address own)) 4 ∷ [])) (emptyTable 0 0) (emptyTable own time)
 
 -- lookup: 14 4 8 11, ..
-abbrev pub lookupRefusal : Table → ℕ → ℕ → ℕ
-lookupRefusal t d time =
+abbrev pub lookupReasons : Table → ℕ → ℕ → List Reason
+lookupReasons t d time =
     let r = rowFor d (rowsOf t) in
-    first
-    (reason (not (withinRule t)) 14 ∷
+    reason (not (withinRule t)) 14 ∷
     reason (not (address d)) 4 ∷
     reason (not (inOrder (t .time) time)) 8 ∷
     reason (not (eqb (r .destination) d && usable time r)) 11 ∷
-    [])
+    []
+
+abbrev pub lookupRefusal : Table → ℕ → ℕ → ℕ
+lookupRefusal t d time = first (lookupReasons t d time)
 
 -- .. else the next hop and the hops of the usable row
 unfoldable pub lookupOf : Table → ℕ → ℕ → Said
@@ -72,13 +74,13 @@ lookupOf t d time =
     unless (lookupRefusal t d time) (accepted (r .«next_hop» ∷ r .hops ∷ []))
 
 -- forget: 14 4 6 8
-unfoldable pub forgetOf : Table → ℕ → ℕ → Changed
-forgetOf t unit time =
-    settled
-    (first
-    (reason (not (withinRule t)) 14 ∷
+abbrev pub forgetReasons : Table → ℕ → ℕ → List Reason
+forgetReasons t unit time =
+    reason (not (withinRule t)) 14 ∷
     reason (not (address unit)) 4 ∷
     reason (eqb unit (t .own)) 6 ∷
     reason (not (inOrder (t .time) time)) 8 ∷
-    []))
-    t (withRows t time (map (forgotten unit time) (standing time (rowsOf t))))
+    []
+
+unfoldable pub forgetOf : Table → ℕ → ℕ → Changed
+forgetOf t unit time = settled (first (forgetReasons t unit time)) t (withRows t time (map (forgotten unit time) (standing time (rowsOf t))))

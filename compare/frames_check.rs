@@ -92,7 +92,12 @@ impl Check {
 
     /// Steps over the entries from a position, with so many places for the numbers of one.
     fn step(&mut self, frame: &[u8], position: u32, places: usize) -> Agreement {
-        let call = EntryCall { frame, position, places, empty: self.empty() };
+        let empty = self.empty();
+        self.step_lending(frame, position, places, empty)
+    }
+
+    fn step_lending(&mut self, frame: &[u8], position: u32, places: usize, empty: Empty) -> Agreement {
+        let call = EntryCall { frame, position, places, empty };
         let expected = match frames::step(frame, position, places) {
             Ok(step) => EntryAnswer::accepted(&step, places),
             Err(refusal) => EntryAnswer::refused(refusal, places),
@@ -208,8 +213,10 @@ impl Check {
         for empty in BOTH_WAYS {
             for bytes in every_length(&frame, &mut self.random) {
                 self.read_lending(&bytes, numbers.len(), empty)?;
+                self.step_lending(&bytes, 0, ENTRY.len(), empty)?;
             }
             self.read_lending(&frame, 0, empty)?;
+            self.step_lending(&frame, 0, 0, empty)?;
             for bytes in every_length(&part, &mut self.random) {
                 self.write_lending(&numbers, &bytes, frame.len(), empty)?;
             }

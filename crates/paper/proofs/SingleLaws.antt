@@ -76,9 +76,13 @@ views-tell-apart =
       writingsInto = λ a a′ p p′ e. ap₂ {C = Written × List ℕ} (λ w held. (w, held)) (told-written-one (a .0) (a′ .0) (ap (λ (w : Wrote). w .said) e)) (ap (λ (w : Wrote). w .held) e);
       relayings = λ a a′ p p′ e. ap₂ {C = Relayed × List ℕ} (λ w held. (w, held)) (told-relayed-one (a .0) (a′ .0) (ap (λ (w : Wrote). w .said) e)) (ap (λ (w : Wrote). w .held) e);
       forwardings = undone any _ (λ v. (v .answer, v .held)) (λ a p. refl);
+      readers = undone any _ (λ v. record { frame = v .0; position = v .1 }) (λ e p. refl);
       masks = undone mask slotsOf maskOf mask-back;
       members = undone maskRow rowOf rowBack row-back;
       rows = undone maskRows rowsOf (map rowBack) rows-back;
+      census =
+          undone _ _ (λ v. record { own = v .0; place = v .1; slots = maskOf (v .2); vacant = v .3 })
+          (λ c p. ap (λ (slots : ℕ). record { own = c .own; place = c .place; slots = slots; vacant = c .vacant }) (mask-back (c .slots) p));
       books = undone maskBook stated bookBack book-back;
       changes = undone _ _ (λ l. record { refused = l .refused; book = bookBack (l .book) }) (λ c p. ap (λ (b : Book). record { refused = c .refused; book = b }) (book-back (c .book) p));
       grants = undone _ _ (λ l. (record { refused = l .refused; written = l .written; book = bookBack (l .book) }, l .held)) (λ a p. ap (λ (b : Book). (record { refused = a .0 .refused; written = a .0 .written; book = b }, a .1)) (book-back (a .0 .book) p));

@@ -5,13 +5,15 @@ use mathlib.Core.Path.{_≡_}
 use mathlib.Core.List.{List, [], _∷_}
 use Prim.Native.Nat.{ℕ, _^_, _<_}
 use lib.IntN.{ℤ}
+use denote.Ref.{RefT}
 use Rattle.octets.specs.Calls.{writeLeft}
-use Rattle.slots.specs.Sets.{slotsOf}
+use Rattle.slots.specs.Sets.{Slots, slotsOf}
 use Rattle.traffic.specs.Traffic.{dataValues, updateValues}
 use Rattle.requests.specs.Requests.{joinRequestValues, joinResponseValues, slotRequestValues, discoveryRequestValues, discoveryResponseValues}
 use Rattle.beacons.specs.Beacons.{beaconValues}
 use Rattle.frames.specs.declared.answers.Written.{Written}
 use Rattle.frames.specs.Told.{told, toldWritten, wrote}
+use Rattle.entries.specs.declared.reader.Entries.{Entries}
 use Rattle.entries.specs.Walks.{toldWalked, Numbered}
 use Rattle.routes.specs.Told.{toldFound}
 use Rattle.relays.specs.declared.forwarding.Forwarded.{Forwarded}
@@ -19,6 +21,7 @@ use Rattle.relays.specs.declared.relaying.Relayed.{Relayed}
 use Rattle.relays.specs.Forwards.{passed}
 use Rattle.relays.specs.Relays.{relayed}
 use Rattle.site.specs.Plans.{toldPlan}
+use Rattle.members.specs.declared.census.Census.{Census}
 use Rattle.members.specs.declared.member.Member.{Member}
 use Rattle.members.specs.Members.{rowOf, rowsOf}
 use Rattle.book.specs.declared.book.Book.{Book}
@@ -87,10 +90,13 @@ pub record ViewsTellApart : Type 1 where
   pub writingsInto : TellsApart any (λ (a : Written × List ℕ). wrote (a .0) (a .1))
   pub relayings : TellsApart any (λ (a : Relayed × List ℕ). relayed (a .0) (a .1))
   pub forwardings : TellsApart any (λ (a : Forwarded × List ℕ). passed (a .0) (a .1))
+  -- a reader of entries: the bytes that it was lent, and its position
+  pub readers : TellsApart {B = RefT (List ℕ) × ℕ} any (λ (e : Entries). (e .frame, e .position))
   -- sets for masks
   pub masks : TellsApart mask slotsOf
   pub members : TellsApart maskRow rowOf
   pub rows : TellsApart maskRows rowsOf
+  pub census : TellsApart {B = ℕ × ℕ × Slots 64 × ℕ} (λ c. mask (c .slots)) (λ (c : Census). (c .own, c .place, slotsOf (c .slots), c .vacant))
   pub books : TellsApart maskBook stated
   pub changes : TellsApart (λ c. maskBook (c .book)) leftBy
   pub grants : TellsApart (λ (a : Granted × List ℕ). maskBook (a .0 .book)) (λ a. answeredBy (a .0) (a .1))

@@ -1,4 +1,4 @@
-//! The independent implementation of the clock's step, from the paper's drift alone. The library is held to what it
+//! The independent implementation of the clock's step, from the paper's drift. The library is held to what it
 //! answers.
 
 use crate::frames::{self, kind_of, BEACON, LONGEST_FRAME};

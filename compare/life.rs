@@ -1,4 +1,4 @@
-//! The independent implementation of a unit's states, from the paper's list of them alone. The library is held to
+//! The independent implementation of a unit's states, from the paper's list of them. The library is held to
 //! what these functions answer.
 
 use crate::refusal::Refusal;

@@ -1,4 +1,4 @@
-//! `compare` puts the same calls to the library and to an implementation written from the paper alone, subject by
+//! `compare` puts the same calls to the library and to an implementation written from the paper, subject by
 //! subject, and stops at the first difference. This file is the command line and the order of the subjects.
 
 #![deny(warnings)]

@@ -294,7 +294,7 @@ static void live(void)
     EXPECT(braidlark_state_event(state, sizeof state, BRAIDLARK_READY, NOW) == BRAIDLARK_ACCEPTED);
     EXPECT(state[0] == BRAIDLARK_DISCOVERY);
     EXPECT(braidlark_state_event(state, sizeof state, BRAIDLARK_ELECTED, NOW) == BRAIDLARK_NOT_ALLOWED);
-    EXPECT(braidlark_state_tick(state, sizeof state, SLOTS * SLOT_MS, NOW + 30000) == BRAIDLARK_ACCEPTED);
+    EXPECT(braidlark_state_tick(state, sizeof state, SLOTS * SLOT_MS, NOW + BRAIDLARK_DISCOVERY_MS) == BRAIDLARK_ACCEPTED);
     EXPECT(state[0] == BRAIDLARK_MANAGER);
 }
 

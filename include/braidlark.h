@@ -42,7 +42,7 @@ extern "C" {
 /* ---- lengths of buffers, in bytes unless said otherwise */
 #define BRAIDLARK_MOST_FRAME 255
 #define BRAIDLARK_MOST_PAYLOAD 245
-#define BRAIDLARK_MOST_ENTRIES 24
+#define BRAIDLARK_MOST_ENTRIES 24 /* entries of one update */
 #define BRAIDLARK_ENTRY_SIZE 10
 #define BRAIDLARK_MOST_FIELDS 15 /* numbers of the frame with the most, a beacon: its type and 14 fields */
 #define BRAIDLARK_TABLE_SIZE 539
@@ -83,11 +83,24 @@ extern "C" {
 #define BRAIDLARK_MOST_MEMBERS 21
 #define BRAIDLARK_MOST_HELD 4
 
+/* ---- plans: at least so many member rows, and a data slot for each; at most so many data slots and slots in use */
+#define BRAIDLARK_FEWEST_ROWS 2
+#define BRAIDLARK_MOST_DATA_SLOTS 44
+#define BRAIDLARK_MOST_ACTIVE_SLOTS 50
+#define BRAIDLARK_LONGEST_PLAN_MS 65535 /* of a superframe, all slots together */
+
 /* ---- greatest ages, in ms */
 #define BRAIDLARK_USABLE_MS 300000   /* of a route that is used */
 #define BRAIDLARK_STANDING_MS 360000 /* of one that is no longer used, but told of as unreachable */
 #define BRAIDLARK_WITHDRAWN_MS 60000 /* the same from when it was withdrawn */
 #define BRAIDLARK_LIVE_MS 300000     /* of a live member's last accepted call; the manager is always live */
+
+/* ---- times of a state, in ms from its entry, and of a tick and the clock */
+#define BRAIDLARK_DISCOVERY_MS 30000             /* in Discovery, then Manager */
+#define BRAIDLARK_JOINING_MS 10000               /* in Joining, then Recovery */
+#define BRAIDLARK_RECOVERY_MS 60000              /* in Recovery, then Stopped */
+#define BRAIDLARK_LONGEST_SUPERFRAME_MS 6553500  /* that a tick may name */
+#define BRAIDLARK_LARGEST_OFFSET 17179869184LL   /* of a clock, either way: 2^34 ms */
 
 /* ---- kinds of frames, the number at index 0 of a frame's fields */
 #define BRAIDLARK_DATA 0x11
@@ -273,13 +286,13 @@ uint8_t braidlark_state_fresh(uint8_t *state, size_t state_length, uint32_t time
 /* The event with this number, at a time. Refusals: 14 8 7. */
 uint8_t braidlark_state_event(uint8_t *state, size_t state_length, uint8_t event, uint32_t time);
 
-/* A tick at a time, with the superframe's length, 1 to 6,553,500 ms. Refusals: 14 8 14 (the length). */
+/* A tick at a time, with the superframe's length, 1 to BRAIDLARK_LONGEST_SUPERFRAME_MS. Refusals: 14 8 14 (the length). */
 uint8_t braidlark_state_tick(uint8_t *state, size_t state_length, uint32_t superframe_ms, uint32_t time);
 
 /* ---- a unit's clock */
 
 /* Steps the offset from local to network time by a beacon of this network that came in at a local time.
- * Refusals: 1 2 1 3 4 15 14 (an offset beyond 2^34 either way). */
+ * Refusals: 1 2 1 3 4 15 14 (an offset beyond BRAIDLARK_LARGEST_OFFSET). */
 uint8_t braidlark_clock_step(int64_t *offset, uint32_t local_time, uint16_t network, const uint8_t *frame,
                              size_t frame_length);
 

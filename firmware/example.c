@@ -1,3 +1,4 @@
+/* What radio firmware does with a data frame that came in. */
 #include "braidlark.h"
 
 void radio_send(uint16_t next_hop, const uint8_t *frame, uint32_t length);

@@ -59,13 +59,13 @@ JoinsExactly =
 abbrev pub slotsAt : Stated → ℕ → ℕ → List ℕ
 slotsAt b unit time = cond (liveAt b unit time) (slotsTold (b .plan) (rowFor unit (rowsAt b time)) (holding b unit time)) []
 
--- what the book has for a unit is what the answers to the unit's own calls say, whatever others do
+-- what the book has for a unit is what the start and the answers to the unit's own calls say, whatever others do
 abbrev pub AnswersTell : Type 0
 AnswersTell =
     (start : Start) (es : List Event) (unit time : ℕ) → begun start .refused ≡ 0 → address unit ≡ true → inOrder (bookAfter start es .time) time ≡ true
     → slotsAt (bookAfter start es) unit time ≡ grantedAt start es unit time
 
--- an accepted request or leaving of the unit itself
+-- which events can move the slots of the unit that they are about: its requests, and its leaving
 abbrev pub moves : Event → Bool
 moves (call (join s time out)) = true
 moves (call (ask s time out)) = true
@@ -74,6 +74,7 @@ moves (call (leave unit time)) = true
 moves (call (schedule unit hop time out)) = false
 moves (image time out) = false
 
+-- an accepted one of these, of this unit
 abbrev pub its : ℕ → Happened → Bool
 its unit h = eqb (h .answer .refused) 0 && eqb (unitOf (h .event)) unit && moves (h .event)
 
@@ -87,7 +88,7 @@ StaysItsOwn =
     → slotsAt (bookAfter start (es ++ more)) unit time ≡ slotsAt (bookAfter start es) unit (bookAfter start es .time)
 
 -- ---- counting
--- free slots plus those that the history grants to live members are always D; the grants are computed from the answers alone, over every address
+-- free slots plus those that the history grants to live members are always D; the grants are computed from the start and the answers alone, over every address
 abbrev pub AlwaysD : Type 0
 AlwaysD =
     (start : Start) (es : List Event) (time : ℕ) → begun start .refused ≡ 0 → inOrder (bookAfter start es .time) time ≡ true

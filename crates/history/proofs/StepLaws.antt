@@ -1,7 +1,7 @@
 -- One call after the other: what holds of a table and its log stays so.
 -- Assumes nothing.
 use mathlib.Core.Path.{_≡_, refl, ap, _∙_}
-use mathlib.Core.Bool.{Bool, true, cond, and-eq-true-iff}
+use mathlib.Core.Bool.{Bool, true, cond}
 use mathlib.Core.List.{List, [], _∷_, map}
 use Prim.Native.Nat.{ℕ}
 use native.Mathlib.Decide.{ℕ-discrete}
@@ -11,6 +11,7 @@ use lib.Dec.{eqb}
 use lib.ListN.{length}
 use Rattle.octets.specs.Lists.{every}
 use Rattle.octets.proofs.AnswerLaws.{numbered, none-holds}
+use Rattle.octets.proofs.ListLaws.{every-both}
 use Rattle.moments.specs.Moments.{inOrder}
 use Rattle.moments.proofs.MomentLaws.{in-order-self, in-order-on}
 use Rattle.shapes.specs.Shape.{partIn}
@@ -40,14 +41,6 @@ pub record Good (p : Past) : Type 0 where
   pub rule : withinRule (p .table) ≡ true
   pub rows : every (borne (p .log)) (rowsOf (p .table)) ≡ true
   pub log : every (before (p .table .time)) (p .log) ≡ true
-
-every-both : (one two both : Row → Bool) → ((r : Row) → one r ≡ true → two r ≡ true → both r ≡ true) → (rs : List Row) → every one rs ≡ true → every two rs ≡ true → every both rs ≡ true
-unfolding every
-every-both one two both h [] a b = refl
-every-both one two both h (r ∷ rs) a b =
-    let (a₀, a₁) = and-eq-true-iff (one r) (every one rs) .0 a in
-    let (b₀, b₁) = and-eq-true-iff (two r) (every two rs) .0 b in
-    rw (h r a₀ b₀) (every-both one two both h rs a₁ b₁)
 
 kept-all : (test : Row → Bool) (via time : ℕ) → ((c : Candidate) → Kept test via time c) → (cs : List Candidate) → Kepts test via time cs
 kept-all test via time k [] = tt

@@ -2,12 +2,13 @@
 -- Assumes nothing.
 use mathlib.Core.Path.{_≡_, refl}
 use mathlib.Core.Bool.{Bool, true, false, not, _&&_, and-eq-true-iff, false≢true}
-use mathlib.Core.List.{List, [], _∷_}
+use mathlib.Core.List.{List}
 use Prim.Native.Nat.{ℕ}
 use native.Mathlib.Omega.{arith}
 use borrow.Author.Tests.{leb-true, lt-ltb}
 use lib.Dec.{eqb, leb}
 use Rattle.octets.specs.Lists.{every}
+use Rattle.octets.proofs.ListLaws.{every-on}
 use Rattle.moments.specs.Moments.{inOrder}
 use Rattle.moments.proofs.MomentLaws.{in-order-self, in-order-on}
 use Rattle.shapes.specs.Rules.{address}
@@ -43,14 +44,6 @@ module _ (own last : ℕ) (r : Row) where
   ruled e =
       let k = parts (address (r .destination)) (not (eqb (r .destination) own)) (address (r .«next_hop»)) (not (eqb (r .«next_hop») own)) (leb 1 (r .hops) && leb (r .hops) 16) (leb 40 (r .quality)) (inOrder (r .time) last) e in
       record { destination = k .0; other = k .1; hop = k .2; otherHop = k .3; hops = k .4; quality = k .5; past = k .6 }
-
--- what holds of every row by what held of it before
-pub every-on : (test test′ : Row → Bool) → ((r : Row) → test r ≡ true → test′ r ≡ true) → (rs : List Row) → every test rs ≡ true → every test′ rs ≡ true
-unfolding every
-every-on test test′ on [] e = refl
-every-on test test′ on (r ∷ rs) e =
-    let (here, later) = and-eq-true-iff (test r) (every test rs) .0 e in
-    rw (on r here) (every-on test test′ on rs later)
 
 -- a row within rule is so at a later time, and when it is withdrawn
 pub rule-later : (own last time : ℕ) → inOrder last time ≡ true → (r : Row) → rowRule own last r ≡ true → rowRule own time r ≡ true

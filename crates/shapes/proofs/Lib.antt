@@ -1,3 +1,4 @@
 pub mod AnsweredLaws
 pub mod ReadingLaws
+pub mod RuleLaws
 pub mod SealLaws

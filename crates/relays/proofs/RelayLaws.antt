@@ -10,11 +10,12 @@ use lib.Dec.{eqb, leb, ltb}
 use lib.ListN.{length, getD, drop, length-take, length-drop}
 use lib.Seq.{sets}
 use Rattle.octets.specs.Answers.{accepted, refused, Reason, reason, refusing, first, unless}
+use Rattle.octets.specs.Parts.{Lent, partOf}
 use Rattle.octets.proofs.AnswerLaws.{numbered, refusing-numbered, none-holds}
 use Rattle.moments.specs.Moments.{inOrder}
 use Rattle.shapes.specs.Reading.{refusalAs}
 use Rattle.shapes.specs.Rules.{address}
-use Rattle.shapes.specs.Shape.{lengthOf, valuesIn, partIn, frameOf}
+use Rattle.shapes.specs.Shape.{lengthOf, valuesIn, partIn, partLent, frameOf}
 use Rattle.shapes.specs.Writing.{Wrote}
 use Rattle.shapes.proofs.ReadingLaws.{Passed, passed}
 use Rattle.traffic.specs.declared.data_frame.DataHeader.{DataHeader}
@@ -145,11 +146,11 @@ module _ (t : Table) (s : List ℕ) (time : ℕ) (out : List ℕ) (h : DataHeade
       go true false f = absurd (false≢true (sym f))
       go false u f = refl
 
-module _ (t : Table) (s : List ℕ) (time : ℕ) (h : DataHeader) (n : ℕ) (e : dataValues h ≡ valuesIn dataKind s) (z : n ≡ relayRefusal t s time 0) where
-  pub handed-part : (eqb n 0 && eqb (h .destination) (t .own)) ≡ true → partIn dataKind s ≡ handedBack t s time
+module _ (t : Table) (s : Lent) (time : ℕ) (h : DataHeader) (n : ℕ) (e : dataValues h ≡ valuesIn dataKind (s .bytes)) (z : n ≡ relayRefusal t (s .bytes) time 0) where
+  pub handed-part : (eqb n 0 && eqb (h .destination) (t .own)) ≡ true → partLent dataKind s ≡ handedBack t s time
   unfolding handedBack
-  handed-part f = let g = rw (header-in h s e) at f in rw (← z, g)
+  handed-part f = let g = rw (header-in h (s .bytes) e) at f in rw (← z, g)
 
-  pub handed-none : (eqb n 0 && eqb (h .destination) (t .own)) ≡ false → [] ≡ handedBack t s time
+  pub handed-none : (eqb n 0 && eqb (h .destination) (t .own)) ≡ false → partOf s 0 0 ≡ handedBack t s time
   unfolding handedBack
-  handed-none f = let g = rw (header-in h s e) at f in rw (← z, g)
+  handed-none f = let g = rw (header-in h (s .bytes) e) at f in rw (← z, g)

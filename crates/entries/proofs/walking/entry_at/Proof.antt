@@ -6,6 +6,7 @@ use Prim.Native.Nat.{ℕ}
 use native.Mathlib.Omega.{arith}
 use lib.ListN.{getD}
 use denote.Ref.{now}
+use Rattle.octets.specs.Parts.{Lent}
 use Rattle.traffic.specs.Traffic.{entryAt}
 use Rattle.entries.specs.Walks.{countIn}
 use Rattle.entries.proofs.WalkLaws.{step-refused, step-end, step-one}
@@ -33,7 +34,7 @@ returns-3 c =
     let o = c .before .before .before in
     let u = o .before .before in
     let a = u .before .before .args in
-    (step-one (now (a .frame)) (a .position) (sym (u .update .ensures) ∙ o .before .if1 .left) (omega (arith, counted o, c .before .before .if2 .left)) _ (c .of2 .ensures ∙ ap (λ (part : List ℕ). entryAt part (a .position)) (c .before .entries .ensures)), tt)
+    (step-one (now (a .frame)) (a .position) (sym (u .update .ensures) ∙ o .before .if1 .left) (omega (arith, counted o, c .before .before .if2 .left)) _ (c .of2 .ensures ∙ ap (λ (part : Lent). entryAt (part .bytes) (a .position)) (c .before .entries .ensures)), tt)
 
 pub entry-at-spec : {M : Type 1} → statement M
 entry-at-spec =

@@ -86,6 +86,7 @@ views-tell-apart =
       writingsInto = with-buffer toldWritten told-written-one;
       relayings = with-buffer toldRelayed told-relayed-one;
       forwardings = undone any _ (λ v. (v .answer, v .held)) (λ a p. refl);
+      parts = λ name a a′ p p′ e i. record { ptr = (e i .block, e i .start); name = (p ∙ sym p′) i; now = e i .bytes };
       readers = undone any _ (λ v. record { frame = v .0; position = v .1 }) (λ e p. refl);
       masks = undone mask slotsOf maskOf mask-back;
       rows = undone maskRows rowsOf (map rowBack) rows-back;

@@ -6,8 +6,10 @@ use mathlib.Core.Path.{_≡_}
 use mathlib.Core.List.{List, [], _∷_}
 use Prim.Native.Nat.{ℕ, _^_, _<_}
 use lib.IntN.{ℤ}
+use base.Fml.{GName}
 use denote.Ref.{RefT}
 use Rattle.octets.specs.Calls.{writeLeft}
+use Rattle.octets.specs.Parts.{lent}
 use Rattle.slots.specs.Sets.{Slots, slotsOf}
 use Rattle.traffic.specs.Traffic.{dataValues, updateValues}
 use Rattle.requests.specs.Requests.{joinRequestValues, joinResponseValues, slotRequestValues, discoveryRequestValues, discoveryResponseValues}
@@ -97,6 +99,8 @@ pub record ViewsTellApart : Type 1 where
   pub writingsInto : TellsApart any (λ (a : Written × List ℕ). wrote (a .0) (a .1))
   pub relayings : TellsApart any (λ (a : Relayed × List ℕ). relayed (a .0) (a .1))
   pub forwardings : TellsApart any (λ (a : Forwarded × List ℕ). passed (a .0) (a .1))
+  -- a part of lent bytes: where it lies, and what it holds; the name that a proof tracks it by is none that code has
+  pub parts : (name : GName) → TellsApart (λ (part : RefT (List ℕ)). part .name ≡ name) lent
   -- a reader of entries: the bytes that it was lent, and its position
   pub readers : TellsApart {B = RefT (List ℕ) × ℕ} any (λ (e : Entries). (e .frame, e .position))
   -- sets for masks

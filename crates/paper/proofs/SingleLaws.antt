@@ -72,7 +72,7 @@ views-tell-apart =
       writings = λ a a′ p p′ e. told-written-one a a′ e;
       findings = λ a a′ p p′ e. told-found-one a a′ e;
       plans = λ a a′ p p′ e. told-plan-one a a′ e;
-      steps = told-walked-one;
+      steps = λ a a′ p p′ e. told-walked-one a a′ e;
       writingsInto = λ a a′ p p′ e. ap₂ {C = Written × List ℕ} (λ w held. (w, held)) (told-written-one (a .0) (a′ .0) (ap (λ (w : Wrote). w .said) e)) (ap (λ (w : Wrote). w .held) e);
       relayings = λ a a′ p p′ e. ap₂ {C = Relayed × List ℕ} (λ w held. (w, held)) (told-relayed-one (a .0) (a′ .0) (ap (λ (w : Wrote). w .said) e)) (ap (λ (w : Wrote). w .held) e);
       forwardings = undone any _ (λ v. (v .answer, v .held)) (λ a p. refl);

@@ -63,6 +63,21 @@ static void write_other_kinds(void)
            BRAIDLARK_DISCOVERY_RESPONSE_LENGTH);
 }
 
+/* No numbers are an empty frame. What was read is written again from the whole buffer, whatever stands behind the
+ * frame's numbers. */
+static void write_none_and_more(void)
+{
+    static const uint8_t request[] = {0x21, 0x01, 0x02, 0x00, 0x01, 0x00, 0x04, 0x27};
+    uint8_t frame[BRAIDLARK_MOST_FRAME];
+    uint32_t fields[BRAIDLARK_MOST_FIELDS], written = 1;
+    EXPECT(braidlark_write(NULL, 0, NULL, 0, frame, sizeof frame, &written) == BRAIDLARK_BAD_LENGTH);
+    EXPECT(written == 1);
+    memset(fields, 0xFF, sizeof fields);
+    read_whole(request, sizeof request, fields);
+    EXPECT(write_whole(fields, BRAIDLARK_MOST_FIELDS, NULL, 0, frame) == sizeof request);
+    EXPECT(memcmp(frame, request, sizeof request) == 0);
+}
+
 static void numbers_fit(void)
 {
     EXPECT(BRAIDLARK_MOST_FRAME == BRAIDLARK_DATA_LENGTH + BRAIDLARK_MOST_PAYLOAD);
@@ -313,6 +328,7 @@ int main(void)
 {
     numbers_fit();
     write_other_kinds();
+    write_none_and_more();
     manage_a_site();
     be_a_unit();
     printf("every_call: %u of %u checks hold\n", checks - failures, checks);

@@ -239,8 +239,9 @@ uint8_t braidlark_read(const uint8_t *frame, size_t frame_length, uint32_t *fiel
 uint8_t braidlark_entry(const uint8_t *frame, size_t frame_length, uint32_t position, uint32_t *entry,
                         size_t entry_length, uint32_t *next);
 
-/* Writes the frame with these numbers and these bytes behind its fields, and says how many bytes it has.
- * Refusals: 2 1 4 5. */
+/* Writes the frame with these numbers and these bytes behind its fields, and says how many bytes it has. Numbers behind
+ * those of the frame's kind are not looked at: the whole buffer that braidlark_read filled can be handed in as it is.
+ * Refusals: 1 (no numbers) 2 1 4 5. */
 uint8_t braidlark_write(const uint32_t *fields, size_t fields_length, const uint8_t *part, size_t part_length,
                         uint8_t *out, size_t out_length, uint32_t *written);
 

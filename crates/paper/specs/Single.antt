@@ -17,7 +17,7 @@ use Rattle.beacons.specs.Beacons.{beaconValues}
 use Rattle.frames.specs.declared.answers.Written.{Written}
 use Rattle.frames.specs.Told.{told, wrote}
 use Rattle.entries.specs.declared.reader.Entries.{Entries}
-use Rattle.entries.specs.Walks.{toldWalked, Numbered}
+use Rattle.entries.specs.Walks.{toldWalked}
 use Rattle.routes.specs.Told.{toldFound}
 use Rattle.relays.specs.declared.forwarding.Forwarded.{Forwarded}
 use Rattle.relays.specs.declared.relaying.Relayed.{Relayed}
@@ -94,8 +94,7 @@ pub record ViewsTellApart : Type 1 where
   pub frames : TellsApart any told
   pub findings : TellsApart any toldFound
   pub plans : TellsApart any toldPlan
-  -- a step of a walk: its contract also says that a refusal's number is not 0
-  pub steps : TellsApart Numbered toldWalked
+  pub steps : TellsApart any toldWalked
   pub writingsInto : TellsApart any (λ (a : Written × List ℕ). wrote (a .0) (a .1))
   pub relayings : TellsApart any (λ (a : Relayed × List ℕ). relayed (a .0) (a .1))
   pub forwardings : TellsApart any (λ (a : Forwarded × List ℕ). passed (a .0) (a .1))

@@ -9,7 +9,6 @@ use native.Mathlib.Omega.{arith}
 use borrow.Author.Tests.{leb-true}
 use lib.Dec.{eqb, leb, ltb}
 use lib.ListN.{length, getD, take}
-use Rattle.octets.specs.Answers.{refused}
 use Rattle.octets.specs.Layouts.{total, bytes}
 use Rattle.octets.specs.Lists.{every}
 use Rattle.frames.specs.declared.answers.Written.{Written}
@@ -19,9 +18,10 @@ use Rattle.frames.specs.Layout.{widthsOf, layoutOf}
 use Rattle.frames.specs.Listed.{given, fitting, extentOf, writeListed, writeNumbers}
 use Rattle.shapes.specs.Shape.{Kind, placeOf, lengthOf, sealed, frameOf}
 use Rattle.frames.specs.Told.{wrote}
-use Rattle.shapes.specs.Writing.{Wrote, writeRefusal, writing}
+use Rattle.shapes.specs.Writing.{writeRefusal, writing}
 use Rattle.frames.proofs.KindLaws.{asked, known-or-not, code-fits}
 use Rattle.frames.proofs.LayoutLaws.{laid-out, of-widths}
+use Rattle.frames.proofs.ListedLaws.{listed-as, by-type}
 use Rattle.writers.specs.Taking.{takes}
 use Rattle.writers.proofs.ListedLaws.{length-given, fitting-fit, fitting-stand, told-late, takes-kept}
 use Rattle.writers.proofs.WritingLaws.{frame-length, unwritten}
@@ -72,8 +72,7 @@ module _ (code : ℕ) (layout : Layout) (k : Known code layout) (ns part out : L
   due = rw (k .head, asked (λ x. x .extent (given (x .widths) ns 1)) 0 (k .member) code (k .typed))
 
   same : writeNumbers ns part out ≡ writeListed (k .kind) ns part out
-  unfolding writeNumbers
-  same = asked (λ x. writeListed x ns part out) _ (k .member) (getD ns 0 0) (t ∙ k .typed)
+  same = listed-as part out (k .member) ns (t ∙ k .typed)
 
   size : length frame ≡ layout .head + length part + 1
   size = frame-length (1 ∷ k .kind .widths) (k .kind .code ∷ vs) part [] (layout .head) (ap suc (sym (length-given (k .kind .widths) ns 1))) (sym (k .head))
@@ -107,12 +106,10 @@ module _ (code : ℕ) (layout : Layout) (k : Known code layout) (ns part out : L
       ∙ sym (rw (same, f)))
 
 -- numbers whose type is that of no kind
-module _ (ns part out : List ℕ) where
+module _ (ns part out : List ℕ) (some : length ns ≡ 0 → ⊥) where
   refused-two : ((k : Kind) → List·Memᴰ k kinds → getD ns 0 0 ≡ k .code → ⊥) → wrote (Written.Refused (record { number = 2 })) out ≡ writeNumbers ns part out
-  unfolding writeNumbers
   refused-two h =
-      ⊎-elim (λ r. absurd (h (r .0) (r .1) (r .2))) (λ r. sym (r Wrote (λ k. writeListed k ns part out) (record { said = refused 2; held = out })))
-      (known-or-not (getD ns 0 0))
+      by-type part out ns (λ w. wrote (Written.Refused (record { number = 2 })) out ≡ w) (λ z. absurd (some z)) (λ k m c. absurd (h k m c)) refl
 
   pub too-large : 255 < getD ns 0 0 → wrote (Written.Refused (record { number = 2 })) out ≡ writeNumbers ns part out
   too-large h = refused-two (λ k m e. omega (arith, code-fits m))

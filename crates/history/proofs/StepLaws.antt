@@ -1,7 +1,7 @@
 -- One call after the other: what holds of a table and its log stays so.
 -- Assumes nothing.
 use mathlib.Core.Path.{_≡_, refl, ap, _∙_}
-use mathlib.Core.Bool.{Bool, true, cond}
+use mathlib.Core.Bool.{true, cond}
 use mathlib.Core.List.{List, [], _∷_, map}
 use Prim.Native.Nat.{ℕ}
 use native.Mathlib.Decide.{ℕ-discrete}
@@ -24,12 +24,12 @@ use Rattle.routes.proofs.KeepLaws.{every-map, standing-rules, forgotten-rules, 
 use Rattle.routes.proofs.RuleLaws.{ruled, rows-of-pad}
 use Rattle.routes.proofs.StandingLaws.{standing-every}
 use Rattle.routes.proofs.TableLaws.{within}
-use Rattle.merges.specs.declared.candidate.Candidate.{Candidate}
 use Rattle.merges.specs.Candidates.{candidates}
 use Rattle.merges.specs.Learning.{learned}
 use Rattle.merges.specs.Merges.{updateIn, mergeRefusal, mergedRows, mergeOf}
+use Rattle.merges.proofs.CandidateLaws.{each-all}
 use Rattle.merges.proofs.KeepLaws.{merged-able, merge-rules, merge-gives, merge-within}
-use Rattle.merges.proofs.LearnLaws.{Kept, Kepts, learn-all-every}
+use Rattle.merges.proofs.LearnLaws.{Kept, learn-all-every}
 use Rattle.merges.proofs.MergeLaws.{some-origin}
 use Rattle.relays.specs.Forwards.{forwardRefusal, forwardOf}
 use Rattle.relays.proofs.ForwardLaws.{onward, forward-within}
@@ -41,10 +41,6 @@ pub record Good (p : Past) : Type 0 where
   pub rule : withinRule (p .table) ≡ true
   pub rows : every (borne (p .log)) (rowsOf (p .table)) ≡ true
   pub log : every (before (p .table .time)) (p .log) ≡ true
-
-kept-all : (test : Row → Bool) (via time : ℕ) → ((c : Candidate) → Kept test via time c) → (cs : List Candidate) → Kepts test via time cs
-kept-all test via time k [] = tt
-kept-all test via time k (c ∷ cs) = (k c, kept-all test via time k cs)
 
 -- a table that is made of rows within rule has these rows
 rows-are : (t : Table) (rs : List Row) → t .rows ≡ pad rs → every (rowRule (t .own) (t .time)) rs ≡ true → rowsOf t ≡ rs
@@ -72,7 +68,7 @@ module _ (t : Table) (log : List Update) (g : Good (record { table = t; log = lo
       let cs = candidates (t .own) o quality (entriesOf (updateIn s .count) (partIn update s)) in
       let learnt : every (borne grown) new ≡ true =
       learn-all-every (borne grown) o time (some-origin t s quality time m) cs
-      (kept-all (borne grown) o time (λ c. borne-kept grown o time c (borne-new o time log c)) cs)
+      (each-all (Kept (borne grown) o time) (λ c. borne-kept grown o time c (borne-new o time log c)) cs)
       (learned (standing time rs) 0) (standing-every (borne grown) time rs older) in
       record {
         rule = merge-within t s quality time z;

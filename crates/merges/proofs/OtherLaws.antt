@@ -60,7 +60,7 @@ module _ (d : ℕ) (some : d ≡ 0 → ⊥) where
 -- ---- an update
 pub others-unchanged : OthersUnchanged
 unfolding mergedRows
-others-unchanged t s quality time d z a n h =
+others-unchanged t s quality time d z a (n, h) =
     let some = address-some d a in
     let o = updateIn s .origin in
     let es = entriesOf (updateIn s .count) (partIn update s) in

@@ -6,11 +6,12 @@ use mathlib.Core.List.{List, [], _∷_, _++_, map}
 use Prim.Native.Nat.{ℕ, zero, suc, _-_, _≤_}
 use native.Mathlib.Decide.{ℕ-discrete}
 use native.Mathlib.Omega.{arith}
-use borrow.Author.Tests.{ne-eqb, leb-true, le-leb, eqb-true, not-true}
+use borrow.Author.Tests.{ne-eqb, leb-true, le-leb, eqb-true, not-true, not-false}
 use lib.Dec.{eqb, leb}
 use lib.ListN.{length, drop, replicate, length-map, length-drop}
-use Rattle.octets.specs.Answers.{Reason, reason, first}
+use Rattle.octets.specs.Answers.{first}
 use Rattle.octets.specs.Lists.{every}
+use Rattle.octets.proofs.AnswerLaws.{numbered, none-holds}
 use Rattle.moments.specs.Moments.{inOrder}
 use Rattle.shapes.specs.Rules.{address}
 use Rattle.shapes.proofs.RuleLaws.{address-least}
@@ -18,7 +19,7 @@ use Rattle.routes.specs.declared.row.Row.{Row}
 use Rattle.routes.specs.declared.table.Table.{Table}
 use Rattle.routes.specs.Places.{okPlaces}
 use Rattle.routes.specs.Rows.{none, usable, rowRule, isNone, forgotten, ascending, inUse, pad, standing, standingPlaces}
-use Rattle.routes.specs.Tables.{rowsOf, pairOk, withinRule, settled, withRows, forgetOf}
+use Rattle.routes.specs.Tables.{rowsOf, pairOk, withinRule, settled, withRows, forgetReasons, forgetOf}
 use Rattle.routes.proofs.PlaceLaws.{ok-right}
 use Rattle.routes.proofs.StandingLaws.{standing-places, standing-shorter, in-use-fits}
 
@@ -60,16 +61,6 @@ forgotten-none unit time h = rw (ne-eqb 0 unit (λ z. h (sym z))) (go (usable ti
     go : (b : Bool) → cond (b && false) (record { destination = 0; «next_hop» = 0; hops = 0; quality = 0; time = time; withdrawn = true }) none ≡ none
     go true = refl
     go false = refl
-
--- what an accepted call says of the table and the unit that it names
-pub record Passed (a b : Bool) : Type 0 where
-  pub within : a ≡ true
-  pub unit : b ≡ true
-
-pub two-passed : (a b : Bool) (m n : ℕ) (rest : List Reason) → (m ≡ 0 → ⊥) → (n ≡ 0 → ⊥) → first (reason (not a) m ∷ reason (not b) n ∷ rest) ≡ 0 → Passed a b
-two-passed false b m n rest p q e = absurd (p e)
-two-passed true true m n rest p q e = record { within = refl; unit = refl }
-two-passed true false m n rest p q e = absurd (q e)
 
 pub address-some : (unit : ℕ) → address unit ≡ true → unit ≡ 0 → ⊥
 address-some unit e z = omega (arith, address-least unit e)
@@ -145,19 +136,32 @@ held t l e =
     let count : length behind ≡ 48 - length (rowsOf t) = length-drop (length (rowsOf t)) (t .rows) ∙ rw l in
     sym (in-use-first (t .rows)) ∙ ap (λ (rs : List Row). rowsOf t ++ rs) (all-none behind (within t e .zeros) ∙ ap (λ (n : ℕ). replicate n none) count)
 
--- the table of an accepted forget, with its rows as the loops leave them
+-- ---- forgetting a unit
+-- what holds where a unit is forgotten
+pub record Forgettable (t : Table) (unit time : ℕ) : Type 0 where
+  pub right : withinRule t ≡ true
+  pub known : address unit ≡ true
+  pub ordered : inOrder (t .time) time ≡ true
+
+pub forgettable : (t : Table) (unit time : ℕ) → first (forgetReasons t unit time) ≡ 0 → Forgettable t unit time
+forgettable t unit time e =
+    let none =
+    none-holds (forgetReasons t unit time)
+    (numbered _ 14 (λ z. omega arith), (numbered _ 4 (λ z. omega arith), (numbered _ 6 (λ z. omega arith), (numbered _ 8 (λ z. omega arith), tt)))) e in
+    record { right = not-false (withinRule t) (none .0); known = not-false (address unit) (none .1 .0); ordered = not-false (inOrder (t .time) time) (none .1 .1 .1 .0) }
+
+-- the table then, with its rows as the loops leave them
 module _ (t : Table) (unit time n : ℕ) (rows : List Row) (l : length (t .rows) ≡ 48) where
   abbrev Left : Table
   Left = record { own = t .own; time = time; forwarded = t .forwarded; origin = t .origin; sequence = t .sequence; rows = rows }
 
-  pub forgets : n ≡ first (reason (not (withinRule t)) 14 ∷ reason (not (address unit)) 4 ∷ reason (eqb unit (t .own)) 6 ∷ reason (not (inOrder (t .time) time)) 8 ∷ [])
-      → rows ≡ map (forgotten unit time) (standingPlaces time (t .rows)) → settled n t Left ≡ forgetOf t unit time
+  pub forgets : n ≡ first (forgetReasons t unit time) → rows ≡ map (forgotten unit time) (standingPlaces time (t .rows)) → settled n t Left ≡ forgetOf t unit time
   unfolding forgetOf
   forgets e q =
       let h : n ≡ 0 → Left ≡ withRows t time (map (forgotten unit time) (standing time (rowsOf t))) =
       λ z.
-      let p = two-passed (withinRule t) (address unit) 14 4 (reason (eqb unit (t .own)) 6 ∷ reason (not (inOrder (t .time) time)) 8 ∷ []) (λ y. omega arith) (λ y. omega arith) (sym e ∙ z) in
-      let stand = ap (map (forgotten unit time)) (standing-places time (t .rows) (held t l (p .within))) in
+      let f = forgettable t unit time (sym e ∙ z) in
+      let stand = ap (map (forgotten unit time)) (standing-places time (t .rows) (held t l (f .right))) in
       ap (λ (rs : List Row). record { own = t .own; time = time; forwarded = t .forwarded; origin = t .origin; sequence = t .sequence; rows = rs })
-      (q ∙ (stand ∙ map-pad (forgotten unit time) (forgotten-none unit time (address-some unit (p .unit))) (standing time (rowsOf t)))) in
+      (q ∙ (stand ∙ map-pad (forgotten unit time) (forgotten-none unit time (address-some unit (f .known))) (standing time (rowsOf t)))) in
       settled-same n t Left _ h ∙ rw e

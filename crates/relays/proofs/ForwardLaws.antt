@@ -30,7 +30,7 @@ use Rattle.routes.proofs.KeepLaws.{standing-rules}
 use Rattle.routes.proofs.LookupLaws.{lookup-told, lookup-leads}
 use Rattle.routes.proofs.RuleLaws.{within-pad}
 use Rattle.routes.proofs.StandingLaws.{standing-ascending, standing-places}
-use Rattle.routes.proofs.TableLaws.{within, held}
+use Rattle.routes.proofs.TableLaws.{within, few-stand, held}
 use Rattle.relays.specs.declared.passing.Passing.{Passing}
 use Rattle.relays.specs.Forwards as forwards
 use Rattle.relays.specs.Forwards.{passingOf, toForward, passingReasons, beaconIn, passedBy, copyOf, recorded, forwardRefusal, forwardOf}
@@ -215,4 +215,4 @@ forward-within t network s delay time out e =
     let w = within t (o .right) in
     let rs = rowsOf t in
     rw e (within-pad (t .own) time true (beaconIn s .«original_source») (beaconIn s .sequence) (standing time rs) (w .unit) (read-ruled s (o .unread) .origin)
-    (standing-ascending time rs (w .ascends)) (standing-rules (t .own) (t .time) time (o .ordered) time rs (w .rules)))
+    (few-stand t (o .right) time) (standing-ascending time rs (w .ascends)) (standing-rules (t .own) (t .time) time (o .ordered) time rs (w .rules)))

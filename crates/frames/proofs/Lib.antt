@@ -3,3 +3,4 @@ pub mod LayoutLaws
 pub mod ListedLaws
 pub mod ToldLaws
 pub mod TripLaws
+pub mod WholeLaws

@@ -26,10 +26,12 @@ superframe-fits active slots ms e h =
     omega (arith, mul-le-mul few short)
 
 -- ---- the rule
--- what its bounds rest on, and that its manager is a unit
+-- what its bounds rest on, and that its network and its manager are such
 pub record Kept (p : Plan) : Type 0 where
+  pub named : network (p .network) ≡ true
   pub manager : address (p .manager) ≡ true
   pub hops : 1 ≤ p .«max_hops»
+  pub few-hops : p .«max_hops» ≤ 10
   pub rows : 2 ≤ p .rows
   pub data-slots : p .rows ≤ p .«data_slots»
   pub few : active p ≤ 50
@@ -47,10 +49,13 @@ kept p e =
     let (e₄, data-true) = and-eq-true-iff (first-two && hops && rows) data-slots .0 e₅ in
     let (e₃, rows-true) = and-eq-true-iff (first-two && hops) rows .0 e₄ in
     let (e₂, hops-true) = and-eq-true-iff first-two hops .0 e₃ in
-    let (least, _) = and-eq-true-iff (leb 1 (p .«max_hops»)) (leb (p .«max_hops») 10) .0 hops-true in
+    let (named, manager) = and-eq-true-iff (network (p .network)) (address (p .manager)) .0 e₂ in
+    let (least, most) = and-eq-true-iff (leb 1 (p .«max_hops»)) (leb (p .«max_hops») 10) .0 hops-true in
     record {
-      manager = and-eq-true-iff (network (p .network)) (address (p .manager)) .0 e₂ .1;
+      named = named;
+      manager = manager;
       hops = leb-true _ _ least;
+      few-hops = leb-true _ _ most;
       rows = leb-true _ _ rows-true;
       data-slots = leb-true _ _ data-true;
       few = leb-true _ _ few-true;

@@ -8,7 +8,7 @@ use crate::boundary::{
     buffer_shown, input_shown, laid_over_filler, names_of, number_shown, show_disturbed, Answer, Call, Empty, Filler,
     Lent,
 };
-use crate::site::Plan;
+use crate::site::Wanted;
 use std::fmt;
 
 extern "C" {
@@ -17,10 +17,10 @@ extern "C" {
         plan_length: usize,
         network: u16,
         manager: u16,
-        max_hops: u8,
-        rows: u8,
-        data_slots: u8,
-        slot_ms: u16,
+        max_hops: u32,
+        rows: u32,
+        data_slots: u32,
+        slot_ms: u32,
     ) -> u8;
 
     fn braidlark_book_fresh(book: *mut u8, book_length: usize, plan: *const u8, plan_length: usize, time: u32) -> u8;
@@ -55,7 +55,7 @@ extern "C" {
         book: *const u8,
         book_length: usize,
         unit: u16,
-        hop: u8,
+        hop: u32,
         time: u32,
         out: *mut u8,
         out_length: usize,
@@ -67,13 +67,13 @@ extern "C" {
 /// other calls.
 #[derive(Clone, Debug)]
 pub enum Ask {
-    Plan { numbers: Plan },
+    Plan { wanted: Wanted },
     Fresh { plan: Vec<u8>, time: u32 },
     Join { frame: Vec<u8>, time: u32, room: usize },
     SlotRequest { frame: Vec<u8>, time: u32, room: usize },
     Heard { unit: u16, time: u32 },
     Leave { unit: u16, time: u32 },
-    Schedule { unit: u16, hop: u8, time: u32, room: usize },
+    Schedule { unit: u16, hop: u32, time: u32, room: usize },
 }
 
 /// The calls by name, in the order of `Ask`, each with the refusals that it can give.
@@ -198,7 +198,7 @@ impl BookCall<'_> {
         // SAFETY: each address is that of a live buffer of the length given with it, or NULL with length 0.
         unsafe {
             match *self.ask {
-                Ask::Plan { numbers: Plan { network, manager, max_hops, rows, data_slots, slot_ms } } =>
+                Ask::Plan { wanted: Wanted { network, manager, max_hops, rows, data_slots, slot_ms } } =>
                     braidlark_plan(book, book_length, network, manager, max_hops, rows, data_slots, slot_ms),
                 Ask::Fresh { time, .. } => braidlark_book_fresh(book, book_length, input, input_length, time),
                 Ask::Join { time, .. } =>
@@ -229,7 +229,7 @@ impl fmt::Display for BookCall<'_> {
         let (name, _) = CALLS[self.ask.place()];
         write!(text, "{}(book: {}; ", name, input_shown(self.book))?;
         match &self.ask {
-            Ask::Plan { numbers } => write!(text, "{:?}", numbers),
+            Ask::Plan { wanted } => write!(text, "{:?}", wanted),
             Ask::Fresh { plan, time } => write!(text, "plan: {}; time: {}", input_shown(plan), time),
             Ask::Join { frame, time, room } | Ask::SlotRequest { frame, time, room } => {
                 write!(text, "frame: {}; time: {}; out: {} bytes", input_shown(frame), time, room)

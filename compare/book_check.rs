@@ -72,7 +72,7 @@ impl Check {
             // One call in eight is careless: several things are wrong with it, and the first counts.
             let slips = self.random.one_of(&[1, 1, 1, 1, 1, 1, 1, 8]);
             let mut drawing = Drawing { random: &mut self.random, scene: &scene, book: &book, slips };
-            let (handed_in, ask) = (drawing.book_bytes(&bytes), drawing.ask());
+            let (handed_in, ask) = drawing.call(&bytes);
             let answer = self.put(&handed_in, &ask)?;
             // A book that was damaged, or made fresh, does not go on.
             if handed_in == bytes && answer.book != bytes && ask.takes_a_book() {
@@ -137,9 +137,9 @@ fn expected(book: &[u8], ask: &Ask) -> BookAnswer {
 /// Lets the independent plan or book answer; a refusal leaves the answer untouched.
 fn carry_out(ask: &Ask, answer: &mut BookAnswer) -> Result<(), Refusal> {
     // What the buffer holds does not matter to a plan or a fresh book, but its length does.
-    if let Ask::Plan { numbers } = ask {
+    if let Ask::Plan { wanted } = ask {
         Plan::from_bytes(&answer.book)?;
-        numbers.checked()?.to_bytes(&mut answer.book);
+        wanted.plan()?.to_bytes(&mut answer.book);
         return Ok(());
     }
     let mut book = match ask {

@@ -97,6 +97,10 @@ static void make_book(uint8_t *book)
     uint8_t plan[BRAIDLARK_PLAN_SIZE];
     EXPECT(braidlark_plan(plan, sizeof plan, NETWORK, MANAGER, MAX_HOPS, ROWS, DATA_SLOTS, 1214) ==
            BRAIDLARK_OUT_OF_RULE);
+    EXPECT(braidlark_plan(plan, sizeof plan, NETWORK, MANAGER, MAX_HOPS, 256 + ROWS, DATA_SLOTS, SLOT_MS) ==
+           BRAIDLARK_OUT_OF_RULE);
+    EXPECT(braidlark_plan(plan, sizeof plan, NETWORK, MANAGER, MAX_HOPS, ROWS, DATA_SLOTS, 65536 + SLOT_MS) ==
+           BRAIDLARK_OUT_OF_RULE);
     EXPECT(braidlark_plan(plan, sizeof plan, NETWORK, MANAGER, MAX_HOPS, ROWS, DATA_SLOTS, SLOT_MS) ==
            BRAIDLARK_ACCEPTED);
     EXPECT(memcmp(plan, expected, sizeof plan) == 0);
@@ -149,6 +153,10 @@ static void schedule(const uint8_t *book)
     EXPECT(kinds[4] == BRAIDLARK_CONTROL_RX && kinds[5] == BRAIDLARK_CONTROL_TX);
     EXPECT(kinds[8] == BRAIDLARK_RX && kinds[9] == BRAIDLARK_TX && kinds[10] == BRAIDLARK_TX);
     EXPECT(kinds[11] == BRAIDLARK_RX && kinds[14] == BRAIDLARK_DISCOVERY_RX && kinds[53] == BRAIDLARK_SLEEP);
+    EXPECT(braidlark_schedule(book, BRAIDLARK_BOOK_SIZE, UNIT, 256 + 1, NOW, kinds, sizeof kinds, &written) ==
+           BRAIDLARK_OUT_OF_RULE);
+    EXPECT(braidlark_schedule(book, BRAIDLARK_BOOK_SIZE, MANAGER, 256, NOW, kinds, sizeof kinds, &written) ==
+           BRAIDLARK_OUT_OF_RULE);
 }
 
 /* The manager is switched off and on: the book that comes back is the same, since everyone was heard at its time. */

@@ -299,9 +299,10 @@ uint8_t braidlark_clock_step(int64_t *offset, uint32_t local_time, uint16_t netw
 
 /* ---- the manager's plan, BRAIDLARK_PLAN_SIZE bytes, and book, BRAIDLARK_BOOK_SIZE bytes */
 
-/* Makes the plan of a site. Refusals: 14 (the buffer's length, or any rule of a plan). */
-uint8_t braidlark_plan(uint8_t *plan, size_t plan_length, uint16_t network, uint16_t manager, uint8_t max_hops,
-                       uint8_t rows, uint8_t data_slots, uint16_t slot_ms);
+/* Makes the plan of a site. A number that is too large is refused, not cut: 260 rows are not 4.
+ * Refusals: 14 (the buffer's length, or any rule of a plan). */
+uint8_t braidlark_plan(uint8_t *plan, size_t plan_length, uint16_t network, uint16_t manager, uint32_t max_hops,
+                       uint32_t rows, uint32_t data_slots, uint32_t slot_ms);
 
 /* Makes the book of a plan: the manager alone, with the lowest data slot.
  * Refusals: 14 (the buffer's length, or the plan). */
@@ -324,8 +325,8 @@ uint8_t braidlark_heard(uint8_t *book, size_t book_length, uint16_t unit, uint32
 uint8_t braidlark_leave(uint8_t *book, size_t book_length, uint16_t unit, uint32_t time);
 
 /* Writes a live member's schedule, one byte a slot, and says how many slots there are. The manager is at hop 0, others
- * at 1 to the plan's most. Refusals: 14 4 8 14 (the hop) 13 5. */
-uint8_t braidlark_schedule(const uint8_t *book, size_t book_length, uint16_t unit, uint8_t hop, uint32_t time,
+ * at 1 to the plan's most; a larger hop is refused, not cut. Refusals: 14 4 8 14 (the hop) 13 5. */
+uint8_t braidlark_schedule(const uint8_t *book, size_t book_length, uint16_t unit, uint32_t hop, uint32_t time,
                            uint8_t *out, size_t out_length, uint32_t *written);
 
 /* ---- the stored image of a book, at most BRAIDLARK_MOST_IMAGE bytes */

@@ -26,16 +26,16 @@ pub(crate) fn keep(book: &mut [u8], changed: Changed) -> u8
     write_back(book, refused, next)
 }
 
-// Makes a site's plan of its six numbers.
+// Makes a site's plan of its six numbers. One that is too large for a plan is out of rule, and not cut.
 #[no_mangle]
 pub extern "C" fn braidlark_plan(
     plan: &mut [u8],
     network: u16,
     manager: u16,
-    max_hops: u8,
-    rows: u8,
-    data_slots: u8,
-    slot_ms: u16,
+    max_hops: u32,
+    rows: u32,
+    data_slots: u32,
+    slot_ms: u32,
 ) -> u8
     ensures { λ r. ⌜ bookLeft r (now (plan .exit)) ≡ planCall (now (plan .entry)) network manager «max_hops» rows «data_slots» «slot_ms» ⌝ }
 {
@@ -88,7 +88,7 @@ pub extern "C" fn braidlark_leave(book: &mut [u8], unit: u16, time: u32) -> u8
 pub extern "C" fn braidlark_schedule(
     book: &[u8],
     unit: u16,
-    hop: u8,
+    hop: u32,
     time: u32,
     out: &mut [u8],
     written: &mut u32,

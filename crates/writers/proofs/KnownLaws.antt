@@ -10,7 +10,6 @@ use borrow.Author.Tests.{leb-true}
 use lib.Dec.{leb}
 use lib.ListN.{length, getD, take}
 use Rattle.octets.specs.Layouts.{total, bytes, Fit}
-use Rattle.octets.specs.Answers.{refused}
 use Rattle.octets.specs.Lists.{every}
 use Rattle.frames.specs.declared.answers.Written.{Written}
 use Rattle.frames.specs.declared.layouts.Layout.{Layout}

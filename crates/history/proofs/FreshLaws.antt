@@ -1,7 +1,7 @@
 -- Freshness: every row that is not withdrawn is no younger than the last accepted update from its next hop.
 -- Assumes nothing.
 use mathlib.Core.Path.{_≡_, refl, sym, ap, _∙_}
-use mathlib.Core.Bool.{Bool, true, false, not, _&&_, _||_, cond, and-eq-true-iff, false≢true}
+use mathlib.Core.Bool.{Bool, true, false, not, _||_, cond, and-eq-true-iff, false≢true}
 use mathlib.Core.List.{List, [], _∷_}
 use mathlib.Core.Logic.{⊎-elim}
 use Prim.Native.Nat.{ℕ, _≤_}
@@ -12,8 +12,9 @@ use Rattle.octets.specs.Lists.{every}
 use Rattle.moments.specs.Moments.{ageAt, inOrder}
 use Rattle.moments.proofs.MomentLaws.{in-order-self, in-order-on, younger}
 use Rattle.routes.specs.declared.row.Row.{Row}
-use Rattle.routes.specs.Rows.{usable, withdrawnAt, forgotten}
+use Rattle.routes.specs.Rows.{forgotten}
 use Rattle.routes.specs.Tables.{rowsOf}
+use Rattle.routes.proofs.KeepLaws.{by-forgotten}
 use Rattle.routes.proofs.TableLaws.{address-some}
 use Rattle.merges.specs.declared.candidate.Candidate.{Candidate}
 use Rattle.merges.specs.Learning.{rowBy}
@@ -46,11 +47,7 @@ pub borne-kept : (log : List Update) (via time : ℕ) (c : Candidate) → borne 
 borne-kept log via time c b = record { new = λ e. b; back = λ r e. refl }
 
 pub borne-forgotten : (log : List Update) (unit time : ℕ) (r : Row) → borne log r ≡ true → borne log (forgotten unit time r) ≡ true
-borne-forgotten log unit time r b = go (usable time r && (eqb (r .destination) unit || eqb (r .«next_hop») unit))
-  where
-    go : (x : Bool) → borne log (cond x (withdrawnAt time r) r) ≡ true
-    go true = refl
-    go false = b
+borne-forgotten log unit time r b = by-forgotten (λ x. borne log x ≡ true) unit time r b refl
 
 -- ---- what is logged is past
 pub logged-on : (time later : ℕ) → inOrder time later ≡ true → (log : List Update) → every (before time) log ≡ true → every (before later) log ≡ true

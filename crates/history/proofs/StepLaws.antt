@@ -121,6 +121,14 @@ unfolding forwardOf
 forward-kept t network s delay time out z = rw (ne-eqb (forwardRefusal t network s delay time (length out)) 0 z)
 
 -- ---- any call
+-- what holds of the table that a call is given holds of the one that it leaves, if it does where the call is accepted
+pub by-call : (P : Table → Type 0) (n : ℕ) (old new : Table) → ((n ≡ 0 → ⊥) → new ≡ old) → P old → (n ≡ 0 → P new) → P new
+by-call P n old new kept p h = go (ℕ-discrete n 0)
+  where
+    go : Dec (n ≡ 0) → P new
+    go (yes z) = h z
+    go (no z) = rw (kept z) p
+
 -- what holds where a number is 0, and where it is not
 by-number : (P : List Update → Type 0) (n : ℕ) (x y : List Update) → (n ≡ 0 → P x) → ((n ≡ 0 → ⊥) → P y) → P (cond (eqb n 0) x y)
 by-number P n x y h k = go (ℕ-discrete n 0)
@@ -133,16 +141,11 @@ pub good-next : (t : Table) (log : List Update) (c : Call) → Good (record { ta
 good-next t log (merge s quality time) g =
     by-number (λ l. Good (record { table = mergeOf t s quality time .table; log = l })) (mergeOf t s quality time .refused) _ log
     (merged-good t log g s quality time) (λ z. rw (merge-kept t s quality time z) g)
-good-next t log (forget unit time) g = go (ℕ-discrete (forgetOf t unit time .refused) 0)
-  where
-    go : Dec (forgetOf t unit time .refused ≡ 0) → Good (record { table = forgetOf t unit time .table; log = log })
-    go (yes z) = forgotten-good t log g unit time z
-    go (no z) = rw (forget-kept t unit time z) g
-good-next t log (forward network s delay time out) g = go (ℕ-discrete (forwardOf t network s delay time out .answer .refused) 0)
-  where
-    go : Dec (forwardOf t network s delay time out .answer .refused ≡ 0) → Good (record { table = forwardOf t network s delay time out .answer .table; log = log })
-    go (yes z) = forwarded-good t log g network s delay time out z
-    go (no z) = rw (forward-kept t network s delay time out z) g
+good-next t log (forget unit time) g =
+    by-call (λ new. Good (record { table = new; log = log })) (forgetOf t unit time .refused) t _ (forget-kept t unit time) g (forgotten-good t log g unit time)
+good-next t log (forward network s delay time out) g =
+    by-call (λ new. Good (record { table = new; log = log })) (forwardOf t network s delay time out .answer .refused) t _ (forward-kept t network s delay time out) g
+    (forwarded-good t log g network s delay time out)
 good-next t log (lookup d time) g = g
 good-next t log (relay s time out) g = g
 good-next t log (page p time out) g = g

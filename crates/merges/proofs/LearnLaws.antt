@@ -7,7 +7,7 @@ use mathlib.Core.Logic.{_⊎_, inl, inr, ⊎-elim}
 use Prim.Native.Nat.{ℕ, _<_}
 use native.Mathlib.Omega.{arith}
 use borrow.Author.Tests.{eqb-true, ne-eqb, ltb-true}
-use lib.Dec.{eqb, ltb}
+use lib.Dec.{eqb}
 use lib.ListN.{length}
 use Rattle.octets.specs.Lists.{every}
 use Rattle.routes.specs.declared.row.Row.{Row}
@@ -54,7 +54,7 @@ module _ (P : List Row → Type 0) (via time : ℕ) where
       (λ b. of-cond Q (givesWay via time c r) _ _ (λ k. new b (inl there)) (λ k. same)))
       (λ e.
       of-cond Q (bad c) _ _ (λ b. same)
-      (λ b. of-cond Q (ltb (length (l .rows)) 48) _ _ (λ k. new b (inr (ltb-true (length (l .rows)) 48 k))) (λ k. same)))
+      (λ b. of-cond Q _ _ _ (λ k. new b (inr (ltb-true _ _ k))) (λ k. same)))
 
   -- what each candidate keeps, all of them keep
   pub by-learn-all : (K : Candidate → Type 0) → ((c : Candidate) → K c → (l : Learned) → P (l .rows) → P (learn via time c l .rows))

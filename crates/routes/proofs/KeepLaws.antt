@@ -39,16 +39,20 @@ ascending-above r (s ∷ rs) e =
     let (a, f) = and-eq-true-iff (ltb (r .destination) (s .destination)) (ascending (s ∷ rs)) .0 e in
     rw (a, ascending-above r rs (ascending-without r s rs e))
 
+-- ---- a row when a unit is forgotten: as it was, or withdrawn
+pub by-forgotten : (P : Row → Type 0) (unit time : ℕ) (r : Row) → P r → P (withdrawnAt time r) → P (forgotten unit time r)
+by-forgotten P unit time r same lost = go (usable time r && (eqb (r .destination) unit || eqb (r .«next_hop») unit))
+  where
+    go : (b : Bool) → P (cond b (withdrawnAt time r) r)
+    go true = lost
+    go false = same
+
 -- ---- rows within rule at a later time
 module _ (own last at : ℕ) (o : inOrder last at ≡ true) where
   rule-forgotten : (unit : ℕ) (r : Row) → rowRule own last r ≡ true → rowRule own at (forgotten unit at r) ≡ true
   rule-forgotten unit r e =
       let later = rule-later own last at o r e in
-      go (usable at r && (eqb (r .destination) unit || eqb (r .«next_hop») unit)) (rule-withdrawn own at r later) later
-    where
-      go : (b : Bool) → rowRule own at (withdrawnAt at r) ≡ true → rowRule own at r ≡ true → rowRule own at (cond b (withdrawnAt at r) r) ≡ true
-      go true f g = f
-      go false f g = g
+      by-forgotten (λ x. rowRule own at x ≡ true) unit at r later (rule-withdrawn own at r later)
 
   -- the rows that stand, in a table with a later time
   pub standing-rules : (time : ℕ) (rs : List Row) → every (rowRule own last) rs ≡ true → every (rowRule own at) (standing time rs) ≡ true
@@ -65,11 +69,7 @@ ascending-map f k (r ∷ []) = refl
 ascending-map f k (r ∷ s ∷ rs) = rw (ascending-map f k (s ∷ rs), k r, k s)
 
 forgotten-destination : (unit time : ℕ) (r : Row) → forgotten unit time r .destination ≡ r .destination
-forgotten-destination unit time r = go (usable time r && (eqb (r .destination) unit || eqb (r .«next_hop») unit))
-  where
-    go : (b : Bool) → cond b (withdrawnAt time r) r .destination ≡ r .destination
-    go true = refl
-    go false = refl
+forgotten-destination unit time r = by-forgotten (λ x. x .destination ≡ r .destination) unit time r refl refl
 
 -- ---- the calls
 pub fresh-within : (own time : ℕ) → freshOf own time .refused ≡ 0 → withinRule (freshOf own time .table) ≡ true

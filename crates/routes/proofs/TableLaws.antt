@@ -1,7 +1,7 @@
 -- The calls on a table, from what its parts say.
 -- Assumes nothing.
 use mathlib.Core.Path.{_≡_, refl, sym, ap, _∙_}
-use mathlib.Core.Bool.{Bool, true, false, not, _&&_, cond, and-eq-true-iff, and-true, false≢true}
+use mathlib.Core.Bool.{Bool, true, false, not, _&&_, cond, and-eq-true-iff, false≢true}
 use mathlib.Core.List.{List, [], _∷_, _++_, map}
 use Prim.Native.Nat.{ℕ, zero, suc, _-_, _≤_}
 use native.Mathlib.Decide.{ℕ-discrete}
@@ -23,18 +23,19 @@ use Rattle.routes.specs.Tables.{rowsOf, pairOk, withinRule, settled, wit
 use Rattle.routes.proofs.PlaceLaws.{ok-right}
 use Rattle.routes.proofs.StandingLaws.{standing-places, standing-shorter, in-use-fits}
 
-regrouped : (x a e n : Bool) → (x && (a && e && n)) ≡ (x && a && e && n)
-regrouped true a e n = refl
-regrouped false a e n = refl
+regrouped : (x f a e n : Bool) → f ≡ true → (x && (a && e && n)) ≡ (x && f && a && e && n)
+regrouped true true a e n h = refl
+regrouped true false a e n h = absurd (false≢true h)
+regrouped false f a e n h = refl
 
 -- an array of 48 places has no more rows, so that no test counts them
 pub table-right : (t : Table) (pair places : Bool) → length (t .rows) ≡ 48 → pair ≡ pairOk (t .forwarded) (t .origin) (t .sequence)
     → places ≡ okPlaces (t .own) (t .time) (t .rows) → (address (t .own) && pair && places) ≡ withinRule t
 unfolding withinRule
 table-right t pair places l p q =
-    let head = address (t .own) && pairOk (t .forwarded) (t .origin) (t .sequence) in
-    rw (p, q, ok-right (t .own) (t .time) (t .rows), le-leb (length (rowsOf t)) 48 (in-use-fits (t .rows) l), and-true head)
-    (regrouped head (ascending (inUse (t .rows))) (every (rowRule (t .own) (t .time)) (inUse (t .rows))) _)
+    rw (p, q, ok-right (t .own) (t .time) (t .rows))
+    (regrouped (address (t .own) && pairOk (t .forwarded) (t .origin) (t .sequence)) _ (ascending (inUse (t .rows))) (every (rowRule (t .own) (t .time)) (inUse (t .rows))) _
+    (le-leb _ _ (in-use-fits (t .rows) l)))
 
 -- only an accepted call shows the new table
 pub settled-same : (n : ℕ) (t a b : Table) → (n ≡ 0 → a ≡ b) → settled n t a ≡ settled n t b

@@ -103,11 +103,13 @@ renewedBy told (call (leave unit time)) a g = grant [] time
 renewedBy told (call (schedule unit hop time out)) a g = g
 renewedBy told (image time out) a g = g
 
--- an event that is refused, or about another unit, changes nothing of it
+-- what any event makes of it: one that is refused, or about another unit, changes nothing
+abbrev pub changedBy : Telling → ℕ → Event → Answer → Grant → Grant
+changedBy told unit e a g = cond (eqb (a .refused) 0 && eqb (unitOf e) unit) (renewedBy told e a g) g
+
 abbrev pub grantedBy : Telling → ℕ → Grant → List Happened → Grant
 grantedBy told unit g [] = g
-grantedBy told unit g (h ∷ hs) =
-    grantedBy told unit (cond (eqb (h .answer .refused) 0 && eqb (unitOf (h .event)) unit) (renewedBy told (h .event) (h .answer) g) g) hs
+grantedBy told unit g (h ∷ hs) = grantedBy told unit (changedBy told unit (h .event) (h .answer) g) hs
 
 -- the slot of each frame, cut out of its 13 bytes
 abbrev pub renewed : Event → Answer → Grant → Grant
@@ -132,6 +134,10 @@ abbrev pub grantedAt : Start → List Event → ℕ → ℕ → List ℕ
 grantedAt start es unit time =
     let b = begun start .book in
     counts (b .plan) unit time (granted unit (granting b unit) (recorded b es))
+
+-- addresses are 1 to this
+abbrev pub lastAddress : ℕ
+lastAddress = 0xFFFE
 
 -- the data slots among them: all but the first, over all the units from 1 to n
 abbrev pub grantedTo : Start → List Event → ℕ → ℕ → ℕ

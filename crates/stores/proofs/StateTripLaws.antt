@@ -6,12 +6,12 @@ use Prim.Native.Nat.{ℕ}
 use native.Mathlib.Omega.{arith}
 use lib.ListN.{length}
 use lib.Seq.{take-all}
-use Rattle.octets.specs.Layouts.{Fit, Bytes}
+use Rattle.octets.specs.Layouts.{Bytes}
 use Rattle.octets.proofs.LayoutLaws.{length-bytes, fields-bytes, bytes-fields, fields-fit}
 use Rattle.octets.proofs.StoreLaws.{sets-whole}
 use Rattle.life.specs.declared.state.State.{State}
 use Rattle.stores.specs.StateBytes.{stateWidths, stateSize, stateValues, stateFrom, stateIn, stateBytes, stateOver}
-use Rattle.stores.specs.StateTrips.{StateReadsBack, StateFills, StateWritesBack, StateSaidOnce}
+use Rattle.stores.specs.StateTrips.{StateSized, StateReadsBack, StateFills, StateWritesBack, StateSaidOnce}
 
 -- ---- what was written, read
 pub length-state : (state : State) → length (stateBytes state) ≡ stateSize
@@ -28,9 +28,9 @@ unfolding stateOver
 state-fills out state room = sets-whole out (stateBytes state) (length-state state ∙ sym room)
 
 -- ---- what was read, written
-pub state-fits : (s : List ℕ) → Bytes s → Fit stateWidths (stateValues (stateIn s))
+pub state-sized : (s : List ℕ) → Bytes s → StateSized (stateIn s)
 unfolding stateIn
-state-fits s b = fields-fit s b stateWidths 0
+state-sized s b = fields-fit s b stateWidths 0
 
 pub state-writes-back : StateWritesBack
 unfolding stateIn

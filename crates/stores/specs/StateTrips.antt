@@ -8,10 +8,14 @@ use Rattle.octets.specs.Layouts.{Fit, Bytes}
 use Rattle.life.specs.declared.state.State.{State}
 use Rattle.stores.specs.StateBytes.{stateWidths, stateSize, stateValues, stateIn, stateBytes, stateOver}
 
--- a state whose numbers fit is read back from its bytes, which are as many as a state has
+-- a state as the code can have it: every number fits its bytes
+abbrev pub StateSized : State → Type 0
+StateSized state = Fit stateWidths (stateValues state)
+
+-- such a state is read back from its bytes, which are as many as a state has
 abbrev pub StateReadsBack : Type 0
 StateReadsBack =
-    (state : State) → Fit stateWidths (stateValues state) → (stateIn (stateBytes state) ≡ state) × (length (stateBytes state) ≡ stateSize)
+    (state : State) → StateSized state → (stateIn (stateBytes state) ≡ state) × (length (stateBytes state) ≡ stateSize)
 
 -- stored in a buffer of their size they are all of it
 abbrev pub StateFills : Type 0

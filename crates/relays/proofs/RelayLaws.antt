@@ -11,7 +11,7 @@ use lib.ListN.{length, getD}
 use lib.Seq.{sets}
 use Rattle.octets.specs.Answers.{accepted, refused, Reason, reason, refusing, first, unless}
 use Rattle.octets.specs.Parts.{Lent, partOf}
-use Rattle.octets.proofs.AnswerLaws.{numbered, refusing-numbered, none-holds}
+use Rattle.octets.proofs.AnswerLaws.{Numbered, numbered, refusing-numbered, none-holds}
 use Rattle.moments.specs.Moments.{inOrder}
 use Rattle.shapes.specs.Reading.{refusalAs}
 use Rattle.shapes.specs.Rules.{address}
@@ -72,6 +72,15 @@ module _ (t : Table) (s : List ℕ) (time room : ℕ) where
       rw (lookup-leads t (dataIn s .destination) time (not-false _ (n .0)) (read-destination s (eqb-true (refusalAs dataKind s) 0 (not-false _ (n .1 .0))))
       (not-false _ (n .1 .1 .1 .0)))))
 
+  numbers : Numbered (relayReasons t s time room)
+  numbers =
+      (numbered _ 14 (λ z. omega arith), (refusing-numbered (refusalAs dataKind s), (numbered _ 6 (λ z. omega arith), (numbered _ 8 (λ z. omega arith), (numbered _ 10 (λ z. omega arith), (numbered _ 11 (λ z. omega arith), (numbered _ 5 (λ z. omega arith), tt)))))))
+
+  -- a frame that is not refused is read
+  pub relayed-read : relayRefusal t s time room ≡ 0 → refusalAs dataKind s ≡ 0
+  unfolding relayRefusal
+  relayed-read e = eqb-true (refusalAs dataKind s) 0 (not-false _ (none-holds (relayReasons t s time room) numbers e .1 .0))
+
   -- what is known of a frame that is passed on
   pub record Onward : Type 0 where
     pub right : withinRule t ≡ true
@@ -86,8 +95,7 @@ module _ (t : Table) (s : List ℕ) (time room : ℕ) where
   onward e o =
       let n = refusalAs dataKind s in
       let m = lookupOf t (dataIn s .destination) time .refusal in
-      let none = none-holds (relayReasons t s time room)
-      (numbered _ 14 (λ z. omega arith), (refusing-numbered n, (numbered _ 6 (λ z. omega arith), (numbered _ 8 (λ z. omega arith), (numbered _ 10 (λ z. omega arith), (numbered _ 11 (λ z. omega arith), (numbered _ 5 (λ z. omega arith), tt))))))) e in
+      let none = none-holds (relayReasons t s time room) numbers e in
       record {
         right = not-false (withinRule t) (none .0);
         unread = eqb-true n 0 (not-false _ (none .1 .0));

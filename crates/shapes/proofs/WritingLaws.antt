@@ -3,13 +3,13 @@
 use mathlib.Core.Path.{_≡_, refl}
 use mathlib.Core.Bool.{Bool, true, false, not, _||_, cond}
 use mathlib.Core.List.{List, [], _∷_}
-use Prim.Native.Nat.{ℕ, _≤_}
+use Prim.Native.Nat.{ℕ, _≤_, _<_}
 use native.Mathlib.Omega.{arith}
-use borrow.Author.Tests.{eq-eqb, le-ltb, eqb-true, ltb-false}
+use borrow.Author.Tests.{eq-eqb, le-ltb, lt-ltb, eqb-true, ltb-false}
 use lib.Dec.{eqb, ltb}
 use lib.ListN.{length}
 use lib.Seq.{sets}
-use Rattle.octets.specs.Answers.{accepted}
+use Rattle.octets.specs.Answers.{accepted, refused}
 use Rattle.octets.proofs.AnswerLaws.{unless-none}
 use Rattle.octets.proofs.CallLaws.{after-accepted}
 use Rattle.shapes.specs.Writing.{writeRefusal, writing}
@@ -44,3 +44,9 @@ unfolding writing
 written-whole due good frame out k =
     let z = unrefused due (length frame) good (length out) k in
     rw (unless-none (writeRefusal due (length frame) good (length out)) (accepted (length frame ∷ [])) z, after-accepted (writeRefusal due (length frame) good (length out)) out (sets out 0 frame) z)
+
+-- one that breaks no rule, and has no room, is refused with 5
+pub written-short : (due : ℕ) (good : Bool) (frame out : List ℕ) → length frame ≡ due → length frame ≤ 255 → good ≡ true → length out < length frame
+    → writing due good frame out ≡ record { said = refused 5; held = out }
+unfolding writing writeRefusal
+written-short due good frame out d s g r = rw (eq-eqb (length frame) due d, le-ltb 255 (length frame) s, g, lt-ltb (length out) (length frame) r)

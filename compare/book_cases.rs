@@ -24,6 +24,7 @@ const ROOM: usize = 100;
 pub fn check(check: &mut Check) -> Agreement {
     plans_of_the_paper(check)?;
     numbers_too_wide(check)?;
+    numbers_of_the_paper(check)?;
     story_of_the_paper(check)?;
     schedules_of_the_paper(check)?;
     beacon_slots_of_every_hop(check)?;
@@ -59,6 +60,27 @@ fn plans_of_the_paper(check: &mut Check) -> Agreement {
 
 fn made(check: &mut Check, wanted: Wanted, status: u8) -> Agreement {
     assert_eq!(check.put(&[0xFF; Plan::LENGTH], &Ask::Plan { wanted })?.status, status, "{:?}", wanted);
+    Ok(())
+}
+
+/// The two plans of the paper with slots as long as they may be. The first has four beacon slots, four of control, six of
+/// data, from the manager's slot 8 on, and two of discovery.
+fn numbers_of_the_paper(check: &mut Check) -> Agreement {
+    let small = Plan { slot_ms: 1213, ..site(3, 4, 6) };
+    tells(check, small, &[16, 54, 65_502, 4, 8, 14, 16])?;
+    tells(check, Plan { slot_ms: 655, ..site(3, 20, 21) }, &[50, 100, 65_500, 4, 24, 45, 50])?;
+    // 14 before 5.
+    let broken = plan_bytes(Plan { slot_ms: 1214, ..small });
+    for (bytes, places, status) in [(&broken, 6, 14), (&broken, 7, 14), (&plan_bytes(small), 6, 5)] {
+        assert_eq!(check.put(bytes, &Ask::Numbers { places })?.status, status);
+    }
+    Ok(())
+}
+
+/// A plan tells exactly these numbers.
+fn tells(check: &mut Check, plan: Plan, numbers: &[u32; Plan::NUMBERS]) -> Agreement {
+    let answer = check.put(&plan_bytes(plan), &Ask::Numbers { places: Plan::NUMBERS })?;
+    assert_eq!((answer.status, &answer.numbers[..]), (0, &numbers[..]), "{:?}", plan);
     Ok(())
 }
 

@@ -112,7 +112,7 @@ impl Hostile for Check {
         match ask {
             Ask::Fresh { plan, .. } => (Some(plan), None),
             Ask::Join { frame, room, .. } | Ask::SlotRequest { frame, room, .. } => (Some(frame), Some(room)),
-            Ask::Schedule { room, .. } => (None, Some(room)),
+            Ask::Schedule { room, .. } | Ask::Numbers { places: room } => (None, Some(room)),
             Ask::Plan { .. } | Ask::Heard { .. } | Ask::Leave { .. } => (None, None),
         }
     }
@@ -127,7 +127,7 @@ fn book_in(bytes: &[u8]) -> Book {
 
 /// What the paper has a call leave behind.
 fn expected(book: &[u8], ask: &Ask) -> BookAnswer {
-    let mut answer = BookAnswer::untouched(book, ask.room());
+    let mut answer = BookAnswer::untouched(book, ask.room(), ask.places());
     if let Err(refusal) = carry_out(ask, &mut answer) {
         answer.status = refusal.number();
     }
@@ -142,12 +142,17 @@ fn carry_out(ask: &Ask, answer: &mut BookAnswer) -> Result<(), Refusal> {
         wanted.plan()?.to_bytes(&mut answer.book);
         return Ok(());
     }
+    if let Ask::Numbers { .. } = ask {
+        let numbers = Plan::from_bytes(&answer.book)?.checked()?.numbers();
+        answer.numbers.get_mut(..numbers.len()).ok_or(Refusal::Room)?.copy_from_slice(&numbers);
+        return Ok(());
+    }
     let mut book = match ask {
         Ask::Fresh { plan, time } if answer.book.len() == Book::LENGTH => Book::fresh(Plan::from_bytes(plan)?, *time)?,
         _ => Book::from_bytes(&answer.book)?,
     };
     match ask {
-        Ask::Plan { .. } | Ask::Fresh { .. } => {}
+        Ask::Plan { .. } | Ask::Numbers { .. } | Ask::Fresh { .. } => {}
         Ask::Join { frame, time, .. } => answer.written = book.join(frame, *time, &mut answer.out)? as u32,
         Ask::SlotRequest { frame, time, .. } => {
             answer.written = book.slot_request(frame, *time, &mut answer.out)? as u32;

@@ -78,7 +78,7 @@ fn random_unit(random: &mut Random) -> u16 {
 pub fn widened(random: &mut Random, number: u32, bits: usize) -> u32 {
     let above = u32::MAX << bits;
     let (one, any) = (1 << (bits + random.below(32 - bits)), random.draw() as u32 & above);
-    number | random.one_of(&[one, one, any, above])
+    number | random.one_of(&[one, one, one | any, above])
 }
 
 /// What a plan is asked for with, of which the number at a place, from 0 to 3, is too wide for a plan.
@@ -154,10 +154,11 @@ pub struct Drawing<'a> {
 
 /// The calls.
 impl Drawing<'_> {
-    /// A call and the buffer that it is handed: the book with these bytes, or one for a plan.
+    /// A call and the buffer that it is handed: the book with these bytes, a plan, or room for one.
     pub fn call(&mut self, bytes: &[u8]) -> (Vec<u8>, Ask) {
         match self.random.below(32) {
             0 => (self.random.bytes(Plan::LENGTH), self.plan()),
+            1 => (self.plan_bytes(), Ask::Numbers { places: self.room(Plan::NUMBERS) }),
             _ => (self.book_bytes(bytes), self.ask()),
         }
     }
@@ -188,15 +189,7 @@ impl Drawing<'_> {
     }
 
     fn fresh(&mut self) -> Ask {
-        let mut plan = plan_bytes(self.scene.plan);
-        if self.slip() {
-            match self.random.below(3) {
-                0 => plan.resize(self.random.one_of(&[0, 1, 8, 10, 307]), 0),
-                1 => plan[self.random.below(Plan::LENGTH)] ^= 1 << self.random.below(8),
-                _ => plan[self.random.below(Plan::LENGTH)] = self.random.one_of(&[0, 1, 2, 11, 22, 45, 255]),
-            }
-        }
-        Ask::Fresh { plan, time: random_start(self.random) }
+        Ask::Fresh { plan: self.plan_bytes(), time: random_start(self.random) }
     }
 
     fn join(&mut self) -> Ask {
@@ -301,6 +294,19 @@ impl Drawing<'_> {
             true => damaged(frame, self.random),
             false => frame,
         }
+    }
+
+    /// The bytes of the scene's plan, whole unless by a slip.
+    fn plan_bytes(&mut self) -> Vec<u8> {
+        let mut plan = plan_bytes(self.scene.plan);
+        if self.slip() {
+            match self.random.below(3) {
+                0 => plan.resize(self.random.one_of(&[0, 1, 8, 10, 307]), 0),
+                1 => plan[self.random.below(Plan::LENGTH)] ^= 1 << self.random.below(8),
+                _ => plan[self.random.below(Plan::LENGTH)] = self.random.one_of(&[0, 1, 2, 11, 22, 45, 255]),
+            }
+        }
+        plan
     }
 
     /// The bytes of the book, whole unless by a slip.

@@ -37,7 +37,9 @@ fn every_plan(check: &mut Check) -> Agreement {
                 let longest = longest_slot_ms(&plan);
                 let other = check.random.one_of(&[0, 1, 0x8000, 0xFFFF]);
                 for slot_ms in [longest, longest + 1, other] {
-                    check.put(&[0xFF; Plan::LENGTH], &Ask::Plan { wanted: Plan { slot_ms, ..plan }.wanted() })?;
+                    let plan = Plan { slot_ms, ..plan };
+                    check.put(&[0xFF; Plan::LENGTH], &Ask::Plan { wanted: plan.wanted() })?;
+                    check.put(&plan_bytes(plan), &Ask::Numbers { places: Plan::NUMBERS })?;
                 }
                 if plan.checked().is_ok() {
                     too_wide_at_every_place(check, plan)?;

@@ -123,6 +123,8 @@ fn site() -> (Plan, Book) {
 pub fn books(check: &mut book_check::Check) -> Agreement {
     let (plan, book) = site();
     every_buffer(check, &[0; Plan::LENGTH], &BookAsk::Plan { wanted: plan.wanted() })?;
+    every_buffer(check, &plan_bytes(plan), &BookAsk::Numbers { places: Plan::NUMBERS + 1 })?;
+    every_length_of_each(check, &[0; Plan::LENGTH], &BookAsk::Numbers { places: Plan::NUMBERS })?;
     for place in 0..4 {
         let wanted = too_wide(&mut check.random, &plan, place);
         every_length_of_each(check, &[0; Plan::LENGTH], &BookAsk::Plan { wanted })?;

@@ -83,7 +83,7 @@ impl Plan {
             && self.data_slots >= self.rows
             && self.active() <= MOST_ACTIVE
             && self.slot_ms >= 1
-            && self.slots() * usize::from(self.slot_ms) <= LONGEST_SUPERFRAME_MS;
+            && self.superframe_ms() <= LONGEST_SUPERFRAME_MS;
         match in_rule {
             true => Ok(self),
             false => Err(Refusal::OutOfRule),
@@ -102,6 +102,22 @@ impl Plan {
     /// Ten thirds of the active ones, rounded up, but at most 100.
     pub fn slots(&self) -> usize {
         ((10 * self.active() + 2) / 3).min(MOST_SLOTS)
+    }
+
+    /// How long all slots are together.
+    pub fn superframe_ms(&self) -> usize {
+        self.slots() * usize::from(self.slot_ms)
+    }
+
+    /// What a plan tells of itself: its slots in use, those of a superframe and their ms, and the first slots of
+    /// control, data, discovery and sleep.
+    pub fn numbers(&self) -> [u32; Plan::NUMBERS] {
+        let control = usize::from(self.max_hops) + 1;
+        let data = control + usize::from(self.rows);
+        let discovery = data + usize::from(self.data_slots);
+        let sleep = discovery + self.discovery_slots();
+        let counts = [self.active(), self.slots(), self.superframe_ms(), control, data, discovery, sleep];
+        counts.map(|number| number as u32)
     }
 
     /// The slot in which the member in this row sends control.
@@ -141,6 +157,7 @@ impl Plan {
 /// The bytes that a plan is at the boundary.
 impl Plan {
     pub const LENGTH: usize = 9;
+    pub const NUMBERS: usize = 7;
 
     /// The plan of these bytes, within rule or not; but there is none for another length.
     pub fn from_bytes(bytes: &[u8]) -> Result<Plan, Refusal> {

@@ -91,6 +91,21 @@ static void numbers_fit(void)
 
 /* ---- the manager's side */
 
+/* Four beacon slots, four of control, six of data and two of discovery; then sleep. */
+static void tell_numbers(const uint8_t *plan)
+{
+    static const uint8_t nothing[BRAIDLARK_PLAN_SIZE] = {0};
+    uint32_t numbers[BRAIDLARK_PLAN_NUMBERS];
+    EXPECT(braidlark_plan_numbers(nothing, sizeof nothing, numbers, 0) == BRAIDLARK_OUT_OF_RULE);
+    EXPECT(braidlark_plan_numbers(plan, BRAIDLARK_PLAN_SIZE, numbers, BRAIDLARK_PLAN_NUMBERS - 1) ==
+           BRAIDLARK_NO_SPACE);
+    EXPECT(braidlark_plan_numbers(plan, BRAIDLARK_PLAN_SIZE, numbers, BRAIDLARK_PLAN_NUMBERS) == BRAIDLARK_ACCEPTED);
+    EXPECT(numbers[BRAIDLARK_PLAN_ACTIVE] == 16 && numbers[BRAIDLARK_PLAN_SLOTS] == SLOTS);
+    EXPECT(numbers[BRAIDLARK_PLAN_SUPERFRAME_MS] == SLOTS * SLOT_MS);
+    EXPECT(numbers[BRAIDLARK_PLAN_CONTROL_AT] == 4 && numbers[BRAIDLARK_PLAN_DATA_AT] == 8);
+    EXPECT(numbers[BRAIDLARK_PLAN_DISCOVERY_AT] == 14 && numbers[BRAIDLARK_PLAN_SLEEP_AT] == 16);
+}
+
 static void make_book(uint8_t *book)
 {
     static const uint8_t expected[BRAIDLARK_PLAN_SIZE] = {0x01, 0x00, 0x00, 0x01, 0x03, 0x04, 0x06, 0xE8, 0x03};
@@ -104,6 +119,7 @@ static void make_book(uint8_t *book)
     EXPECT(braidlark_plan(plan, sizeof plan, NETWORK, MANAGER, MAX_HOPS, ROWS, DATA_SLOTS, SLOT_MS) ==
            BRAIDLARK_ACCEPTED);
     EXPECT(memcmp(plan, expected, sizeof plan) == 0);
+    tell_numbers(plan);
     EXPECT(braidlark_book_fresh(book, BRAIDLARK_BOOK_SIZE, plan, sizeof plan, NOW) == BRAIDLARK_ACCEPTED);
 }
 

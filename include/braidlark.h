@@ -227,6 +227,18 @@ enum {
     BRAIDLARK_SLEEP
 };
 
+/* ---- where each number of a plan stands among those that braidlark_plan_numbers tells, and how many there are */
+enum {
+    BRAIDLARK_PLAN_ACTIVE,        /* slots in use: beacon, control, data and discovery */
+    BRAIDLARK_PLAN_SLOTS,         /* of a superframe */
+    BRAIDLARK_PLAN_SUPERFRAME_MS, /* all slots together */
+    BRAIDLARK_PLAN_CONTROL_AT,    /* the first slot of each region; beacon slots begin at 0 */
+    BRAIDLARK_PLAN_DATA_AT,
+    BRAIDLARK_PLAN_DISCOVERY_AT,
+    BRAIDLARK_PLAN_SLEEP_AT,
+    BRAIDLARK_PLAN_NUMBERS
+};
+
 /* ---- frames */
 
 /* Reads a frame of any kind: its numbers, the type first, and where the bytes behind its fields (a payload, or the
@@ -303,6 +315,10 @@ uint8_t braidlark_clock_step(int64_t *offset, uint32_t local_time, uint16_t netw
  * Refusals: 14 (the buffer's length, or any rule of a plan). */
 uint8_t braidlark_plan(uint8_t *plan, size_t plan_length, uint16_t network, uint16_t manager, uint32_t max_hops,
                        uint32_t rows, uint32_t data_slots, uint32_t slot_ms);
+
+/* Tells the BRAIDLARK_PLAN_NUMBERS numbers of a plan: how many slots it has, how long a superframe is, and where each
+ * region of slots begins. Refusals: 14 (the plan's length, or any rule of a plan) 5. */
+uint8_t braidlark_plan_numbers(const uint8_t *plan, size_t plan_length, uint32_t *numbers, size_t numbers_length);
 
 /* Makes the book of a plan: the manager alone, with the lowest data slot.
  * Refusals: 14 (the buffer's length, or the plan). */

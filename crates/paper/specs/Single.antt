@@ -40,6 +40,7 @@ use Rattle.router.specs.RelayCalls.{relayLeft, forwardLeft}
 use Rattle.router.specs.TableCalls.{tableLeft, lookupLeft}
 use Rattle.router.specs.UpdateCalls.{mergeLeft}
 use Rattle.manager.specs.BookCalls.{bookLeft}
+use Rattle.manager.specs.PlanCalls.{numbersLeft}
 use Rattle.admissions.specs.RequestCalls.{requestLeft}
 
 -- a view tells apart the answers that the code can give
@@ -121,4 +122,5 @@ pub record ViewsTellApart : Type 1 where
   pub states : TellsApart any (λ (a : ℕ × List ℕ). stateLeft (a .0) (a .1))
   pub clocks : TellsApart any (λ (a : ℕ × ℤ). clockLeft (a .0) (a .1))
   pub bookCalls : TellsApart any (λ (a : ℕ × List ℕ). bookLeft (a .0) (a .1))
+  pub planNumberings : TellsApart any (λ (a : ℕ × List ℕ). numbersLeft (a .0) (a .1))
   pub requests : TellsApart any (λ (a : ℕ × List ℕ × List ℕ × ℕ). requestLeft (a .0) (a .1) (a .2) (a .3))

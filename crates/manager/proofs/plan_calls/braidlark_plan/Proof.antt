@@ -1,9 +1,9 @@
 -- `braidlark_plan`: bytes that are no plan's, the plan that was made, or why there is none.
 -- Assumes nothing.
-use Rattle.manager.proofs.BookCallLaws.{no-plan, planned, unplanned}
+use Rattle.manager.proofs.PlanCallLaws.{no-plan, planned, unplanned}
 use borrow.Author.Needs.{needs}
-use Rattle.manager.proofs.book_calls.braidlark_plan.Statement.{statement}
-use Rattle.manager.proofs.book_calls.braidlark_plan.Tie as tie
+use Rattle.manager.proofs.plan_calls.braidlark_plan.Statement.{statement}
+use Rattle.manager.proofs.plan_calls.braidlark_plan.Tie as tie
 
 returns : tie.Need-returns
 returns c =

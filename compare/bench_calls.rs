@@ -8,7 +8,7 @@ pub const NOW: u32 = 100_000;
 /// How well an update was heard.
 const QUALITY: u8 = 200;
 /// The hop of a unit that asks for its schedule.
-const HOP: u8 = 1;
+const HOP: u32 = 1;
 
 /// What one call is given and what it leaves; each call uses its part of it.
 #[derive(Clone, Debug, PartialEq, Eq)]

@@ -104,20 +104,20 @@ impl Book {
 
     /// Writes what a member does in each slot, and answers the number of slots.
     #[inline(never)]
-    pub fn schedule(&self, unit: u16, hop: u8, time: u32, out: &mut [u8]) -> Result<usize, Refusal> {
+    pub fn schedule(&self, unit: u16, hop: u32, time: u32, out: &mut [u8]) -> Result<usize, Refusal> {
         self.check()?;
         if !is_unit(unit) {
             return Err(Refusal::Field);
         }
         self.accept_time(time)?;
-        let hops = if unit == self.plan.manager { 0..=0 } else { 1..=self.plan.max_hops };
+        let hops = if unit == self.plan.manager { 0..=0 } else { 1..=u32::from(self.plan.max_hops) };
         if !hops.contains(&hop) {
             return Err(Refusal::OutOfRule);
         }
         let row = self.live_row(unit, time).ok_or(Refusal::NotMember)?;
         let slots = self.plan.slots();
         let out = out.get_mut(..slots).ok_or(Refusal::Room)?;
-        self.plan.write_schedule(row, self.rows[row].slots, hop, out);
+        self.plan.write_schedule(row, self.rows[row].slots, hop as usize, out);
         Ok(slots)
     }
 }

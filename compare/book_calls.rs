@@ -8,7 +8,7 @@ use crate::boundary::{
     buffer_shown, input_shown, laid_over_filler, names_of, number_shown, show_disturbed, Answer, Call, Empty, Filler,
     Lent,
 };
-use crate::site::Plan;
+use crate::site::Wanted;
 use std::fmt;
 
 extern "C" {
@@ -17,11 +17,13 @@ extern "C" {
         plan_length: usize,
         network: u16,
         manager: u16,
-        max_hops: u8,
-        rows: u8,
-        data_slots: u8,
-        slot_ms: u16,
+        max_hops: u32,
+        rows: u32,
+        data_slots: u32,
+        slot_ms: u32,
     ) -> u8;
+
+    fn braidlark_plan_numbers(plan: *const u8, plan_length: usize, numbers: *mut u32, numbers_length: usize) -> u8;
 
     fn braidlark_book_fresh(book: *mut u8, book_length: usize, plan: *const u8, plan_length: usize, time: u32) -> u8;
 
@@ -55,7 +57,7 @@ extern "C" {
         book: *const u8,
         book_length: usize,
         unit: u16,
-        hop: u8,
+        hop: u32,
         time: u32,
         out: *mut u8,
         out_length: usize,
@@ -63,22 +65,24 @@ extern "C" {
     ) -> u8;
 }
 
-/// What is asked; `room` is the length of the output buffer. A plan is made in the buffer that is the book's in the
-/// other calls.
+/// What is asked; `room` is the length of the output buffer, `places` that of the one for numbers. A plan is made, and
+/// tells its numbers, in the buffer that is the book's in the other calls.
 #[derive(Clone, Debug)]
 pub enum Ask {
-    Plan { numbers: Plan },
+    Plan { wanted: Wanted },
+    Numbers { places: usize },
     Fresh { plan: Vec<u8>, time: u32 },
     Join { frame: Vec<u8>, time: u32, room: usize },
     SlotRequest { frame: Vec<u8>, time: u32, room: usize },
     Heard { unit: u16, time: u32 },
     Leave { unit: u16, time: u32 },
-    Schedule { unit: u16, hop: u8, time: u32, room: usize },
+    Schedule { unit: u16, hop: u32, time: u32, room: usize },
 }
 
 /// The calls by name, in the order of `Ask`, each with the refusals that it can give.
-pub const CALLS: [(&str, &[u8]); 7] = [
+pub const CALLS: [(&str, &[u8]); 8] = [
     ("plan", &[14]),
+    ("plan numbers", &[14, 5]),
     ("fresh", &[14]),
     ("join", &[14, 1, 2, 3, 4, 6, 15, 8, 12, 5]),
     ("slot request", &[14, 1, 2, 3, 4, 6, 8, 13, 5]),
@@ -92,18 +96,19 @@ impl Ask {
     pub fn place(&self) -> usize {
         match self {
             Ask::Plan { .. } => 0,
-            Ask::Fresh { .. } => 1,
-            Ask::Join { .. } => 2,
-            Ask::SlotRequest { .. } => 3,
-            Ask::Heard { .. } => 4,
-            Ask::Leave { .. } => 5,
-            Ask::Schedule { .. } => 6,
+            Ask::Numbers { .. } => 1,
+            Ask::Fresh { .. } => 2,
+            Ask::Join { .. } => 3,
+            Ask::SlotRequest { .. } => 4,
+            Ask::Heard { .. } => 5,
+            Ask::Leave { .. } => 6,
+            Ask::Schedule { .. } => 7,
         }
     }
 
     /// Whether the call goes on from the book that it is handed.
     pub fn takes_a_book(&self) -> bool {
-        !matches!(self, Ask::Plan { .. } | Ask::Fresh { .. })
+        !matches!(self, Ask::Plan { .. } | Ask::Numbers { .. } | Ask::Fresh { .. })
     }
 
     /// The bytes that are handed in beside the book.
@@ -118,6 +123,13 @@ impl Ask {
     pub fn room(&self) -> usize {
         match *self {
             Ask::Join { room, .. } | Ask::SlotRequest { room, .. } | Ask::Schedule { room, .. } => room,
+            _ => 0,
+        }
+    }
+
+    pub fn places(&self) -> usize {
+        match *self {
+            Ask::Numbers { places } => places,
             _ => 0,
         }
     }
@@ -137,17 +149,19 @@ pub struct BookAnswer {
     pub book: Vec<u8>,
     pub out: Vec<u8>,
     pub written: u32,
+    pub numbers: Vec<u32>,
     disturbed: Vec<&'static str>,
 }
 
 impl BookAnswer {
     /// The answer that has nothing written.
-    pub fn untouched(book: &[u8], room: usize) -> BookAnswer {
+    pub fn untouched(book: &[u8], room: usize, places: usize) -> BookAnswer {
         BookAnswer {
             status: 0,
             book: book.to_vec(),
             out: laid_over_filler(&[], room),
             written: u32::FILLER[0],
+            numbers: laid_over_filler(&[], places),
             disturbed: Vec::new(),
         }
     }
@@ -159,15 +173,17 @@ pub struct Lending {
     pub input: Lent<u8>,
     pub out: Lent<u8>,
     pub written: Lent<u32>,
+    numbers: Lent<u32>,
 }
 
 impl Lending {
-    pub fn new(book: &[u8], input: &[u8], room: usize) -> Lending {
+    pub fn new(book: &[u8], input: &[u8], room: usize, places: usize) -> Lending {
         Lending {
             book: Lent::input(book),
             input: Lent::input(input),
             out: Lent::output(room),
             written: Lent::output(1),
+            numbers: Lent::output(places),
         }
     }
 
@@ -180,10 +196,12 @@ impl Lending {
                 ("frame, plan or image", self.input.is_changed(input)),
                 ("around out", self.out.is_overrun()),
                 ("around written", self.written.is_overrun()),
+                ("around numbers", self.numbers.is_overrun()),
             ]),
             book: self.book.contents().to_vec(),
             out: self.out.contents().to_vec(),
             written: self.written.contents()[0],
+            numbers: self.numbers.contents().to_vec(),
         }
     }
 }
@@ -195,11 +213,13 @@ impl BookCall<'_> {
         let (input, input_length) = (lending.input.address(self.empty), self.ask.input().len());
         let (out, out_length) = (lending.out.address(self.empty), self.ask.room());
         let written = lending.written.address(self.empty);
+        let (numbers, numbers_length) = (lending.numbers.address(self.empty), self.ask.places());
         // SAFETY: each address is that of a live buffer of the length given with it, or NULL with length 0.
         unsafe {
             match *self.ask {
-                Ask::Plan { numbers: Plan { network, manager, max_hops, rows, data_slots, slot_ms } } =>
+                Ask::Plan { wanted: Wanted { network, manager, max_hops, rows, data_slots, slot_ms } } =>
                     braidlark_plan(book, book_length, network, manager, max_hops, rows, data_slots, slot_ms),
+                Ask::Numbers { .. } => braidlark_plan_numbers(book, book_length, numbers, numbers_length),
                 Ask::Fresh { time, .. } => braidlark_book_fresh(book, book_length, input, input_length, time),
                 Ask::Join { time, .. } =>
                     braidlark_join(book, book_length, input, input_length, time, out, out_length, written),
@@ -218,7 +238,7 @@ impl Call for BookCall<'_> {
     type Answer = BookAnswer;
 
     fn make(&self) -> BookAnswer {
-        let mut lending = Lending::new(self.book, self.ask.input(), self.ask.room());
+        let mut lending = Lending::new(self.book, self.ask.input(), self.ask.room(), self.ask.places());
         let status = self.status(&mut lending);
         lending.answer(status, self.ask.input())
     }
@@ -229,7 +249,8 @@ impl fmt::Display for BookCall<'_> {
         let (name, _) = CALLS[self.ask.place()];
         write!(text, "{}(book: {}; ", name, input_shown(self.book))?;
         match &self.ask {
-            Ask::Plan { numbers } => write!(text, "{:?}", numbers),
+            Ask::Plan { wanted } => write!(text, "{:?}", wanted),
+            Ask::Numbers { places } => write!(text, "numbers: {} places", places),
             Ask::Fresh { plan, time } => write!(text, "plan: {}; time: {}", input_shown(plan), time),
             Ask::Join { frame, time, room } | Ask::SlotRequest { frame, time, room } => {
                 write!(text, "frame: {}; time: {}; out: {} bytes", input_shown(frame), time, room)
@@ -255,6 +276,7 @@ impl fmt::Display for BookAnswer {
     fn fmt(&self, text: &mut fmt::Formatter) -> fmt::Result {
         write!(text, "status {}; book: {}", self.status, input_shown(&self.book))?;
         write!(text, "; out: {}; written: {}", buffer_shown(&self.out), number_shown(self.written))?;
+        write!(text, "; numbers: {}", buffer_shown(&self.numbers))?;
         show_disturbed(text, &self.disturbed)
     }
 }

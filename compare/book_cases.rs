@@ -23,6 +23,8 @@ const ROOM: usize = 100;
 
 pub fn check(check: &mut Check) -> Agreement {
     plans_of_the_paper(check)?;
+    numbers_too_wide(check)?;
+    numbers_of_the_paper(check)?;
     story_of_the_paper(check)?;
     schedules_of_the_paper(check)?;
     beacon_slots_of_every_hop(check)?;
@@ -44,10 +46,7 @@ fn plans_of_the_paper(check: &mut Check) -> Agreement {
     let (small, large) = (site(3, 4, 6), site(3, 20, 21));
     assert_eq!((small.active(), small.slots(), small.discovery_slots()), (16, 54, 2));
     assert_eq!((large.active(), large.slots(), large.discovery_slots()), (50, 100, 5));
-    let mut made = |numbers: Plan, status: u8| -> Agreement {
-        assert_eq!(check.put(&[0xFF; Plan::LENGTH], &Ask::Plan { numbers })?.status, status, "{:?}", numbers);
-        Ok(())
-    };
+    let mut made = |plan: Plan, status: u8| made(check, plan.wanted(), status);
     made(Plan { slot_ms: 1213, ..small }, 0)?;
     made(Plan { slot_ms: 1214, ..small }, 14)?;
     made(large, 0)?;
@@ -57,6 +56,45 @@ fn plans_of_the_paper(check: &mut Check) -> Agreement {
     made(site(1, 22, 22), 14)?;
     made(site(1, 2, 44), 0)?;
     made(site(1, 2, 45), 14)
+}
+
+fn made(check: &mut Check, wanted: Wanted, status: u8) -> Agreement {
+    assert_eq!(check.put(&[0xFF; Plan::LENGTH], &Ask::Plan { wanted })?.status, status, "{:?}", wanted);
+    Ok(())
+}
+
+/// The two plans of the paper with slots as long as they may be. The first has four beacon slots, four of control, six of
+/// data, from the manager's slot 8 on, and two of discovery.
+fn numbers_of_the_paper(check: &mut Check) -> Agreement {
+    let small = Plan { slot_ms: 1213, ..site(3, 4, 6) };
+    tells(check, small, &[16, 54, 65_502, 4, 8, 14, 16])?;
+    tells(check, Plan { slot_ms: 655, ..site(3, 20, 21) }, &[50, 100, 65_500, 4, 24, 45, 50])?;
+    // 14 before 5.
+    let broken = plan_bytes(Plan { slot_ms: 1214, ..small });
+    for (bytes, places, status) in [(&broken, 6, 14), (&broken, 7, 14), (&plan_bytes(small), 6, 5)] {
+        assert_eq!(check.put(bytes, &Ask::Numbers { places })?.status, status);
+    }
+    Ok(())
+}
+
+/// A plan tells exactly these numbers.
+fn tells(check: &mut Check, plan: Plan, numbers: &[u32; Plan::NUMBERS]) -> Agreement {
+    let answer = check.put(&plan_bytes(plan), &Ask::Numbers { places: Plan::NUMBERS })?;
+    assert_eq!((answer.status, &answer.numbers[..]), (0, &numbers[..]), "{:?}", plan);
+    Ok(())
+}
+
+/// Of 260 rows a byte says 4, and so on: a number is refused, not cut.
+fn numbers_too_wide(check: &mut Check) -> Agreement {
+    let right = Plan { slot_ms: 1000, ..site(3, 4, 6) }.wanted();
+    made(check, right, 0)?;
+    for more in (8..32).map(|bit| 1 << bit) {
+        made(check, Wanted { max_hops: 3 + more, ..right }, 14)?;
+        made(check, Wanted { rows: 4 + more, ..right }, 14)?;
+        made(check, Wanted { data_slots: 6 + more, ..right }, 14)?;
+        made(check, Wanted { slot_ms: 1000 + more, ..right }, 14)?;
+    }
+    Ok(())
 }
 
 /// "Manager 0x0100 holds slot 8. 0x0201 asks 4, gets 9 to 11. 0x0202 asks 2, gets 12. 0x0203 asks 0, gets 13. 0x0204 is
@@ -187,7 +225,7 @@ fn slots(unit: u16, asked: u8, time: u32) -> Ask {
     Ask::SlotRequest { frame: slot_request(unit, asked, 0, 0), time, room: ROOM }
 }
 
-fn schedule(unit: u16, hop: u8, time: u32) -> Ask {
+fn schedule(unit: u16, hop: u32, time: u32) -> Ask {
     Ask::Schedule { unit, hop, time, room: ROOM }
 }
 
@@ -256,13 +294,13 @@ impl Story<'_> {
         }
     }
 
-    fn kinds(&mut self, unit: u16, hop: u8) -> Result<Vec<u8>, Difference> {
+    fn kinds(&mut self, unit: u16, hop: u32) -> Result<Vec<u8>, Difference> {
         let answer = self.is_accepted(schedule(unit, hop, self.time))?;
         Ok(answer.out[..answer.written as usize].to_vec())
     }
 
     /// A member sends in exactly these slots.
-    fn sends(&mut self, unit: u16, hop: u8, slots: &[usize]) -> Agreement {
+    fn sends(&mut self, unit: u16, hop: u32, slots: &[usize]) -> Agreement {
         let kinds = self.kinds(unit, hop)?;
         let sending = |slot: &usize| [DATA_TX, BEACON_TX, CONTROL_TX, DISCOVERY_TX].contains(&kinds[*slot]);
         assert_eq!((0..kinds.len()).filter(sending).collect::<Vec<usize>>(), slots);
@@ -270,7 +308,7 @@ impl Story<'_> {
     }
 
     /// A member's schedule is this, in the paper's letters.
-    fn shows(&mut self, unit: u16, hop: u8, letters: &str) -> Agreement {
+    fn shows(&mut self, unit: u16, hop: u32, letters: &str) -> Agreement {
         let kinds = self.kinds(unit, hop)?;
         assert_eq!(site::letters(&kinds), letters);
         Ok(())
@@ -361,11 +399,12 @@ fn schedule_refusals(story: &mut Story) -> Agreement {
     story.is_refused(4, ask(0, 0, time - 1, 0))?;
     story.is_refused(4, ask(0xFFFF, 0, time - 1, 0))?;
     story.is_refused(8, ask(SECOND, 0, time - 1, 0))?;
-    for hop in [0, 4, 255] {
+    // Of some a byte or two say a hop that the unit may have.
+    for hop in [0, 4, 255, 256, 257, 0x1_0001, 0x100_0003, u32::MAX] {
         story.is_refused(14, ask(FIRST, hop, time, 0))?;
         story.is_refused(14, ask(SECOND, hop, time, 0))?;
     }
-    for hop in [1, 3, 4, 255] {
+    for hop in [1, 3, 4, 255, 256, 257, 0x1_0000, 0x100_0000, u32::MAX] {
         story.is_refused(14, ask(MANAGER, hop, time, 0))?;
     }
     story.is_refused(13, ask(SECOND, 1, time, 0))?;

@@ -72,7 +72,7 @@ impl Check {
             // One call in eight is careless: several things are wrong with it, and the first counts.
             let slips = self.random.one_of(&[1, 1, 1, 1, 1, 1, 1, 8]);
             let mut drawing = Drawing { random: &mut self.random, scene: &scene, book: &book, slips };
-            let (handed_in, ask) = (drawing.book_bytes(&bytes), drawing.ask());
+            let (handed_in, ask) = drawing.call(&bytes);
             let answer = self.put(&handed_in, &ask)?;
             // A book that was damaged, or made fresh, does not go on.
             if handed_in == bytes && answer.book != bytes && ask.takes_a_book() {
@@ -112,7 +112,7 @@ impl Hostile for Check {
         match ask {
             Ask::Fresh { plan, .. } => (Some(plan), None),
             Ask::Join { frame, room, .. } | Ask::SlotRequest { frame, room, .. } => (Some(frame), Some(room)),
-            Ask::Schedule { room, .. } => (None, Some(room)),
+            Ask::Schedule { room, .. } | Ask::Numbers { places: room } => (None, Some(room)),
             Ask::Plan { .. } | Ask::Heard { .. } | Ask::Leave { .. } => (None, None),
         }
     }
@@ -127,7 +127,7 @@ fn book_in(bytes: &[u8]) -> Book {
 
 /// What the paper has a call leave behind.
 fn expected(book: &[u8], ask: &Ask) -> BookAnswer {
-    let mut answer = BookAnswer::untouched(book, ask.room());
+    let mut answer = BookAnswer::untouched(book, ask.room(), ask.places());
     if let Err(refusal) = carry_out(ask, &mut answer) {
         answer.status = refusal.number();
     }
@@ -137,9 +137,14 @@ fn expected(book: &[u8], ask: &Ask) -> BookAnswer {
 /// Lets the independent plan or book answer; a refusal leaves the answer untouched.
 fn carry_out(ask: &Ask, answer: &mut BookAnswer) -> Result<(), Refusal> {
     // What the buffer holds does not matter to a plan or a fresh book, but its length does.
-    if let Ask::Plan { numbers } = ask {
+    if let Ask::Plan { wanted } = ask {
         Plan::from_bytes(&answer.book)?;
-        numbers.checked()?.to_bytes(&mut answer.book);
+        wanted.plan()?.to_bytes(&mut answer.book);
+        return Ok(());
+    }
+    if let Ask::Numbers { .. } = ask {
+        let numbers = Plan::from_bytes(&answer.book)?.checked()?.numbers();
+        answer.numbers.get_mut(..numbers.len()).ok_or(Refusal::Room)?.copy_from_slice(&numbers);
         return Ok(());
     }
     let mut book = match ask {
@@ -147,7 +152,7 @@ fn carry_out(ask: &Ask, answer: &mut BookAnswer) -> Result<(), Refusal> {
         _ => Book::from_bytes(&answer.book)?,
     };
     match ask {
-        Ask::Plan { .. } | Ask::Fresh { .. } => {}
+        Ask::Plan { .. } | Ask::Numbers { .. } | Ask::Fresh { .. } => {}
         Ask::Join { frame, time, .. } => answer.written = book.join(frame, *time, &mut answer.out)? as u32,
         Ask::SlotRequest { frame, time, .. } => {
             answer.written = book.slot_request(frame, *time, &mut answer.out)? as u32;

@@ -74,6 +74,22 @@ fn random_unit(random: &mut Random) -> u16 {
     random.one_of(&[anyone, anyone, 1, 2, 0xFF, 0x100, 0x0101, 0x0201, 0xFFFD, 0xFFFE])
 }
 
+/// A number whose lowest bits say the given one, which fits into them: larger by what a cut to them would take away.
+pub fn widened(random: &mut Random, number: u32, bits: usize) -> u32 {
+    let above = u32::MAX << bits;
+    let (one, any) = (1 << (bits + random.below(32 - bits)), random.draw() as u32 & above);
+    number | random.one_of(&[one, one, one | any, above])
+}
+
+/// What a plan is asked for with, of which the number at a place, from 0 to 3, is too wide for a plan.
+pub fn too_wide(random: &mut Random, plan: &Plan, place: usize) -> Wanted {
+    let mut wanted = plan.wanted();
+    let Wanted { max_hops, rows, data_slots, slot_ms, .. } = &mut wanted;
+    let (number, bits) = [(max_hops, 8), (rows, 8), (data_slots, 8), (slot_ms, 16)].into_iter().nth(place).unwrap();
+    *number = widened(random, *number, bits);
+    wanted
+}
+
 /// An age at the limit, or one less or more.
 fn random_limit(random: &mut Random) -> u32 {
     LIVE_AGE - 1 + random.below(3) as u32
@@ -138,7 +154,16 @@ pub struct Drawing<'a> {
 
 /// The calls.
 impl Drawing<'_> {
-    pub fn ask(&mut self) -> Ask {
+    /// A call and the buffer that it is handed: the book with these bytes, a plan, or room for one.
+    pub fn call(&mut self, bytes: &[u8]) -> (Vec<u8>, Ask) {
+        match self.random.below(32) {
+            0 => (self.random.bytes(Plan::LENGTH), self.plan()),
+            1 => (self.plan_bytes(), Ask::Numbers { places: self.room(Plan::NUMBERS) }),
+            _ => (self.book_bytes(bytes), self.ask()),
+        }
+    }
+
+    fn ask(&mut self) -> Ask {
         match self.random.below(32) {
             0 => self.fresh(),
             1..=11 => self.join(),
@@ -153,16 +178,18 @@ impl Drawing<'_> {
         }
     }
 
+    /// The scene's plan, of which by a slip one number is too wide.
+    fn plan(&mut self) -> Ask {
+        let (plan, place) = (self.scene.plan, self.random.below(4));
+        let wanted = match self.slip() {
+            true => too_wide(self.random, &plan, place),
+            false => plan.wanted(),
+        };
+        Ask::Plan { wanted }
+    }
+
     fn fresh(&mut self) -> Ask {
-        let mut plan = plan_bytes(self.scene.plan);
-        if self.slip() {
-            match self.random.below(3) {
-                0 => plan.resize(self.random.one_of(&[0, 1, 8, 10, 307]), 0),
-                1 => plan[self.random.below(Plan::LENGTH)] ^= 1 << self.random.below(8),
-                _ => plan[self.random.below(Plan::LENGTH)] = self.random.one_of(&[0, 1, 2, 11, 22, 45, 255]),
-            }
-        }
-        Ask::Fresh { plan, time: random_start(self.random) }
+        Ask::Fresh { plan: self.plan_bytes(), time: random_start(self.random) }
     }
 
     fn join(&mut self) -> Ask {
@@ -190,11 +217,12 @@ impl Drawing<'_> {
 
     /// A schedule of this unit, at a hop that it may have unless by a slip.
     pub fn schedule(&mut self, unit: u16, time: u32) -> Ask {
-        let most = self.scene.plan.max_hops;
-        let hop = match (self.slip(), unit == self.scene.plan.manager) {
-            (true, _) => self.random.one_of(&[0, 1, most, most + 1, 255]),
-            (false, true) => 0,
-            (false, false) => self.random.within(1, most.into()) as u8,
+        let most = u32::from(self.scene.plan.max_hops);
+        let own = if unit == self.scene.plan.manager { 0 } else { self.random.within(1, most) };
+        let wide = widened(self.random, own, 8);
+        let hop = match self.slip() {
+            true => self.random.one_of(&[0, 1, most, most + 1, 255, wide, wide]),
+            false => own,
         };
         Ask::Schedule { unit, hop, time, room: self.room(self.scene.plan.slots()) }
     }
@@ -266,6 +294,19 @@ impl Drawing<'_> {
             true => damaged(frame, self.random),
             false => frame,
         }
+    }
+
+    /// The bytes of the scene's plan, whole unless by a slip.
+    fn plan_bytes(&mut self) -> Vec<u8> {
+        let mut plan = plan_bytes(self.scene.plan);
+        if self.slip() {
+            match self.random.below(3) {
+                0 => plan.resize(self.random.one_of(&[0, 1, 8, 10, 307]), 0),
+                1 => plan[self.random.below(Plan::LENGTH)] ^= 1 << self.random.below(8),
+                _ => plan[self.random.below(Plan::LENGTH)] = self.random.one_of(&[0, 1, 2, 11, 22, 45, 255]),
+            }
+        }
+        plan
     }
 
     /// The bytes of the book, whole unless by a slip.

@@ -4,7 +4,7 @@
 use crate::book::*;
 use crate::book_calls::Ask;
 use crate::book_check::{Agreement, Check};
-use crate::book_drafts::{book_bytes, join_request, longest_slot_ms, plan_bytes};
+use crate::book_drafts::{book_bytes, join_request, longest_slot_ms, plan_bytes, too_wide};
 use crate::site::*;
 
 const NETWORK: u16 = 0x0102;
@@ -37,13 +37,25 @@ fn every_plan(check: &mut Check) -> Agreement {
                 let longest = longest_slot_ms(&plan);
                 let other = check.random.one_of(&[0, 1, 0x8000, 0xFFFF]);
                 for slot_ms in [longest, longest + 1, other] {
-                    check.put(&[0xFF; Plan::LENGTH], &Ask::Plan { numbers: Plan { slot_ms, ..plan } })?;
+                    let plan = Plan { slot_ms, ..plan };
+                    check.put(&[0xFF; Plan::LENGTH], &Ask::Plan { wanted: plan.wanted() })?;
+                    check.put(&plan_bytes(plan), &Ask::Numbers { places: Plan::NUMBERS })?;
                 }
                 if plan.checked().is_ok() {
+                    too_wide_at_every_place(check, plan)?;
                     filled_site(check, plan)?;
                 }
             }
         }
+    }
+    Ok(())
+}
+
+/// A plan within rule but for one number, which a byte or two would cut to the right one.
+fn too_wide_at_every_place(check: &mut Check, plan: Plan) -> Agreement {
+    for place in 0..4 {
+        let wanted = too_wide(&mut check.random, &plan, place);
+        assert_eq!(check.put(&[0xFF; Plan::LENGTH], &Ask::Plan { wanted })?.status, 14, "{:?}", wanted);
     }
     Ok(())
 }
@@ -62,7 +74,7 @@ fn filled_site(check: &mut Check, plan: Plan) -> Agreement {
     let room = plan.slots();
     check.put(&book, &Ask::Schedule { unit: MANAGER, hop: 0, time: START, room })?;
     for unit in units {
-        let hop = check.random.within(1, plan.max_hops.into()) as u8;
+        let hop = check.random.within(1, plan.max_hops.into());
         check.put(&book, &Ask::Schedule { unit, hop, time: START, room })?;
     }
     Ok(())
@@ -73,9 +85,9 @@ fn addresses_and_networks(check: &mut Check) -> Agreement {
     for network in limits {
         for manager in limits {
             for rows in [1, 2, 3] {
-                let numbers = Plan { network, manager, ..plan(1, rows, 3) };
-                check.put(&[0; Plan::LENGTH], &Ask::Plan { numbers })?;
-                check.put(&[0; Book::LENGTH], &Ask::Fresh { plan: plan_bytes(numbers), time: START })?;
+                let plan = Plan { network, manager, ..plan(1, rows, 3) };
+                check.put(&[0; Plan::LENGTH], &Ask::Plan { wanted: plan.wanted() })?;
+                check.put(&[0; Book::LENGTH], &Ask::Fresh { plan: plan_bytes(plan), time: START })?;
             }
         }
     }
@@ -90,7 +102,7 @@ fn every_length(check: &mut Check) -> Agreement {
     for length in 0..=Book::LENGTH + 2 {
         let mut buffer = good.clone();
         buffer.resize(length, 0);
-        check.put(&buffer, &Ask::Plan { numbers: plan })?;
+        check.put(&buffer, &Ask::Plan { wanted: plan.wanted() })?;
         check.put(&good, &Ask::Fresh { plan: buffer[..length.min(40)].to_vec(), time: START })?;
         for ask in &asks {
             check.put(&buffer, ask)?;

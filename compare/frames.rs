@@ -216,9 +216,9 @@ pub fn step(frame: &[u8], position: u32, room: usize) -> Result<Step, Refusal> {
 }
 
 /// Writes the frame with these numbers, the type first, and this variable part; `room` is how many bytes the caller
-/// has place for. Numbers past those of the kind are ignored.
+/// has place for. No numbers are an empty frame, and numbers past those of the kind are ignored.
 pub fn write(numbers: &[u32], part: &[u8], room: usize) -> Result<Vec<u8>, Refusal> {
-    let code = *numbers.first().ok_or(Refusal::Type)?;
+    let code = *numbers.first().ok_or(Refusal::Length)?;
     let kind = kind_of(code).ok_or(Refusal::Type)?;
     let length = kind.frame_length(part.len());
     if part.len() as u64 != kind.part_length(numbers) || length > LONGEST_FRAME {

@@ -6,6 +6,7 @@ use crate::frames::{self, *};
 use crate::frames_drafts::{mended, Draft, LIMITS};
 use crate::hostile::{every_length, BOTH_WAYS};
 use crate::random::Random;
+use crate::refusal::Refusal;
 use crate::report::{Difference, Progress, Tally};
 use crate::Options;
 
@@ -24,10 +25,12 @@ pub fn check(options: &Options, progress: &mut Progress) -> Result<Tally, Differ
     let mut check = Check { random: Random::new(options.seed), tally: Tally::new() };
     check.example_of_the_paper()?;
     check.short_inputs_of_every_type()?;
+    check.no_numbers()?;
     for kind in &KINDS {
         check.every_type_on(kind)?;
         check.every_room_for(kind)?;
         check.every_length_of(kind)?;
+        check.surplus_numbers(kind)?;
         check.every_field_at_limits(kind)?;
         check.over_long_inputs(kind)?;
         check.counts_beside_parts(kind)?;
@@ -175,6 +178,19 @@ impl Check {
         Ok(())
     }
 
+    /// No numbers are an empty frame, whatever stands behind them and whatever room there is.
+    fn no_numbers(&mut self) -> Agreement {
+        assert_eq!(frames::write(&[], &[], 0), Err(Refusal::Length), "an empty frame is refused with 1");
+        for empty in BOTH_WAYS {
+            for part in [0, 1, ENTRY_LENGTH, LONGEST_FRAME + 1].map(|length| vec![0; length]) {
+                for room in [0, 1, LONGEST_FRAME] {
+                    self.write_lending(&[], &part, room, empty)?;
+                }
+            }
+        }
+        Ok(())
+    }
+
     /// A frame of this kind with each other type in its place; in writing also with types that are no byte.
     fn every_type_on(&mut self, kind: &'static Kind) -> Agreement {
         let mut draft = Draft::new(kind, &mut self.random);
@@ -227,6 +243,16 @@ impl Check {
             for empty in BOTH_WAYS {
                 self.write_lending(&numbers[..count], &part, frame.len(), empty)?;
             }
+        }
+        Ok(())
+    }
+
+    /// Numbers behind those of a kind are not looked at, whatever they are.
+    fn surplus_numbers(&mut self, kind: &'static Kind) -> Agreement {
+        let Draft { mut numbers, part, .. } = Draft::new(kind, &mut self.random);
+        for surplus in LIMITS {
+            numbers.push(surplus);
+            self.write(&numbers, &part, kind.frame_length(part.len()))?;
         }
         Ok(())
     }

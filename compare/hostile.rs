@@ -4,7 +4,7 @@
 
 use crate::book::Book;
 use crate::book_calls::Ask as BookAsk;
-use crate::book_drafts::{book_bytes, join_request, plan_bytes, slot_request};
+use crate::book_drafts::{book_bytes, join_request, plan_bytes, slot_request, too_wide, widened};
 use crate::boundary::Empty;
 use crate::frames_drafts::mended;
 use crate::image_calls::Ask as ImageAsk;
@@ -55,6 +55,13 @@ pub trait Hostile {
 fn every_buffer<C: Hostile>(check: &mut C, kept: &[u8], ask: &C::Ask) -> Agreement {
     for empty in BOTH_WAYS {
         assert_eq!(check.put_lending(kept, ask, empty)?, 0, "a call with good buffers is accepted");
+    }
+    every_length_of_each(check, kept, ask)
+}
+
+/// Puts a call with each of its buffers at every length.
+fn every_length_of_each<C: Hostile>(check: &mut C, kept: &[u8], ask: &C::Ask) -> Agreement {
+    for empty in BOTH_WAYS {
         for other in every_length(kept, check.random()) {
             check.put_lending(&other, ask, empty)?;
         }
@@ -115,7 +122,13 @@ fn site() -> (Plan, Book) {
 
 pub fn books(check: &mut book_check::Check) -> Agreement {
     let (plan, book) = site();
-    every_buffer(check, &[0; Plan::LENGTH], &BookAsk::Plan { numbers: plan })?;
+    every_buffer(check, &[0; Plan::LENGTH], &BookAsk::Plan { wanted: plan.wanted() })?;
+    every_buffer(check, &plan_bytes(plan), &BookAsk::Numbers { places: Plan::NUMBERS + 1 })?;
+    every_length_of_each(check, &[0; Plan::LENGTH], &BookAsk::Numbers { places: Plan::NUMBERS })?;
+    for place in 0..4 {
+        let wanted = too_wide(&mut check.random, &plan, place);
+        every_length_of_each(check, &[0; Plan::LENGTH], &BookAsk::Plan { wanted })?;
+    }
     for ask in [
         BookAsk::Fresh { plan: plan_bytes(plan), time: NOW },
         BookAsk::Join { frame: join_request(NEAR, 0, NETWORK, 4), time: NOW, room: 53 },
@@ -125,6 +138,11 @@ pub fn books(check: &mut book_check::Check) -> Agreement {
         BookAsk::Schedule { unit: NEAR, hop: 1, time: NOW, room: plan.slots() + 1 },
     ] {
         every_buffer(check, &book_bytes(&book), &ask)?;
+    }
+    for unit in [OWN, NEAR] {
+        let hop = widened(&mut check.random, u32::from(unit == NEAR), 8);
+        let ask = BookAsk::Schedule { unit, hop, time: NOW, room: plan.slots() + 1 };
+        every_length_of_each(check, &book_bytes(&book), &ask)?;
     }
     Ok(())
 }

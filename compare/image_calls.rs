@@ -83,7 +83,7 @@ impl Call for ImageCall<'_> {
     type Answer = BookAnswer;
 
     fn make(&self) -> BookAnswer {
-        let mut lending = Lending::new(self.book, self.ask.input(), self.ask.room());
+        let mut lending = Lending::new(self.book, self.ask.input(), self.ask.room(), 0);
         let status = self.status(&mut lending);
         lending.answer(status, self.ask.input())
     }

@@ -126,7 +126,7 @@ impl Hostile for Check {
 
 /// What the paper has a call leave behind.
 fn expected(book: &[u8], ask: &Ask) -> BookAnswer {
-    let mut answer = BookAnswer::untouched(book, ask.room());
+    let mut answer = BookAnswer::untouched(book, ask.room(), 0);
     if let Err(refusal) = carry_out(ask, &mut answer) {
         answer.status = refusal.number();
     }

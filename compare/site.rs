@@ -39,7 +39,41 @@ pub struct Plan {
     pub slot_ms: u16,
 }
 
+/// The numbers that a plan is asked for with, as wide as a caller's mistake.
+#[derive(Clone, Copy, Debug)]
+pub struct Wanted {
+    pub network: u16,
+    pub manager: u16,
+    pub max_hops: u32,
+    pub rows: u32,
+    pub data_slots: u32,
+    pub slot_ms: u32,
+}
+
+impl Wanted {
+    /// The plan, if it is within rule. No rule leaves room for a number that a plan's bytes do not.
+    pub fn plan(self) -> Result<Plan, Refusal> {
+        let Wanted { network, manager, .. } = self;
+        let byte = |number: u32| u8::try_from(number).map_err(|_| Refusal::OutOfRule);
+        let (max_hops, rows, data_slots) = (byte(self.max_hops)?, byte(self.rows)?, byte(self.data_slots)?);
+        let slot_ms = u16::try_from(self.slot_ms).map_err(|_| Refusal::OutOfRule)?;
+        Plan { network, manager, max_hops, rows, data_slots, slot_ms }.checked()
+    }
+}
+
 impl Plan {
+    /// What this plan is asked for with.
+    pub fn wanted(&self) -> Wanted {
+        Wanted {
+            network: self.network,
+            manager: self.manager,
+            max_hops: self.max_hops.into(),
+            rows: self.rows.into(),
+            data_slots: self.data_slots.into(),
+            slot_ms: self.slot_ms.into(),
+        }
+    }
+
     /// The plan itself, if it is within rule.
     pub fn checked(self) -> Result<Plan, Refusal> {
         let in_rule = self.network != 0
@@ -49,7 +83,7 @@ impl Plan {
             && self.data_slots >= self.rows
             && self.active() <= MOST_ACTIVE
             && self.slot_ms >= 1
-            && self.slots() * usize::from(self.slot_ms) <= LONGEST_SUPERFRAME_MS;
+            && self.superframe_ms() <= LONGEST_SUPERFRAME_MS;
         match in_rule {
             true => Ok(self),
             false => Err(Refusal::OutOfRule),
@@ -70,6 +104,22 @@ impl Plan {
         ((10 * self.active() + 2) / 3).min(MOST_SLOTS)
     }
 
+    /// How long all slots are together.
+    pub fn superframe_ms(&self) -> usize {
+        self.slots() * usize::from(self.slot_ms)
+    }
+
+    /// What a plan tells of itself: its slots in use, those of a superframe and their ms, and the first slots of
+    /// control, data, discovery and sleep.
+    pub fn numbers(&self) -> [u32; Plan::NUMBERS] {
+        let control = usize::from(self.max_hops) + 1;
+        let data = control + usize::from(self.rows);
+        let discovery = data + usize::from(self.data_slots);
+        let sleep = discovery + self.discovery_slots();
+        let counts = [self.active(), self.slots(), self.superframe_ms(), control, data, discovery, sleep];
+        counts.map(|number| number as u32)
+    }
+
     /// The slot in which the member in this row sends control.
     pub fn control_at(&self, row: usize) -> usize {
         usize::from(self.max_hops) + 1 + row
@@ -82,16 +132,16 @@ impl Plan {
 
     /// Writes what the member in this row does, with these data slots and at this hop, in each slot: as many bytes as
     /// there are slots.
-    pub fn write_schedule(&self, row: usize, held: u64, hop: u8, out: &mut [u8]) {
+    pub fn write_schedule(&self, row: usize, held: u64, hop: usize, out: &mut [u8]) {
         let (beacons, rest) = out.split_at_mut(self.control_at(0));
         let (control, rest) = rest.split_at_mut(usize::from(self.rows));
         let (data, rest) = rest.split_at_mut(usize::from(self.data_slots));
         let (discovery, sleep) = rest.split_at_mut(self.discovery_slots());
         beacons.fill(SLEEP);
-        beacons[usize::from(hop)] = BEACON_TX;
+        beacons[hop] = BEACON_TX;
         if hop > 0 {
             beacons[0] = BEACON_RX;
-            beacons[usize::from(hop - 1)] = BEACON_RX;
+            beacons[hop - 1] = BEACON_RX;
         }
         control.fill(CONTROL_RX);
         control[row] = CONTROL_TX;
@@ -107,6 +157,7 @@ impl Plan {
 /// The bytes that a plan is at the boundary.
 impl Plan {
     pub const LENGTH: usize = 9;
+    pub const NUMBERS: usize = 7;
 
     /// The plan of these bytes, within rule or not; but there is none for another length.
     pub fn from_bytes(bytes: &[u8]) -> Result<Plan, Refusal> {

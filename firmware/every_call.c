@@ -63,6 +63,21 @@ static void write_other_kinds(void)
            BRAIDLARK_DISCOVERY_RESPONSE_LENGTH);
 }
 
+/* No numbers are an empty frame. What was read is written again from the whole buffer, whatever stands behind the
+ * frame's numbers. */
+static void write_none_and_more(void)
+{
+    static const uint8_t request[] = {0x21, 0x01, 0x02, 0x00, 0x01, 0x00, 0x04, 0x27};
+    uint8_t frame[BRAIDLARK_MOST_FRAME];
+    uint32_t fields[BRAIDLARK_MOST_FIELDS], written = 1;
+    EXPECT(braidlark_write(NULL, 0, NULL, 0, frame, sizeof frame, &written) == BRAIDLARK_BAD_LENGTH);
+    EXPECT(written == 1);
+    memset(fields, 0xFF, sizeof fields);
+    read_whole(request, sizeof request, fields);
+    EXPECT(write_whole(fields, BRAIDLARK_MOST_FIELDS, NULL, 0, frame) == sizeof request);
+    EXPECT(memcmp(frame, request, sizeof request) == 0);
+}
+
 static void numbers_fit(void)
 {
     EXPECT(BRAIDLARK_MOST_FRAME == BRAIDLARK_DATA_LENGTH + BRAIDLARK_MOST_PAYLOAD);
@@ -76,15 +91,35 @@ static void numbers_fit(void)
 
 /* ---- the manager's side */
 
+/* Four beacon slots, four of control, six of data and two of discovery; then sleep. */
+static void tell_numbers(const uint8_t *plan)
+{
+    static const uint8_t nothing[BRAIDLARK_PLAN_SIZE] = {0};
+    uint32_t numbers[BRAIDLARK_PLAN_NUMBERS];
+    EXPECT(braidlark_plan_numbers(nothing, sizeof nothing, numbers, 0) == BRAIDLARK_OUT_OF_RULE);
+    EXPECT(braidlark_plan_numbers(plan, BRAIDLARK_PLAN_SIZE, numbers, BRAIDLARK_PLAN_NUMBERS - 1) ==
+           BRAIDLARK_NO_SPACE);
+    EXPECT(braidlark_plan_numbers(plan, BRAIDLARK_PLAN_SIZE, numbers, BRAIDLARK_PLAN_NUMBERS) == BRAIDLARK_ACCEPTED);
+    EXPECT(numbers[BRAIDLARK_PLAN_ACTIVE] == 16 && numbers[BRAIDLARK_PLAN_SLOTS] == SLOTS);
+    EXPECT(numbers[BRAIDLARK_PLAN_SUPERFRAME_MS] == SLOTS * SLOT_MS);
+    EXPECT(numbers[BRAIDLARK_PLAN_CONTROL_AT] == 4 && numbers[BRAIDLARK_PLAN_DATA_AT] == 8);
+    EXPECT(numbers[BRAIDLARK_PLAN_DISCOVERY_AT] == 14 && numbers[BRAIDLARK_PLAN_SLEEP_AT] == 16);
+}
+
 static void make_book(uint8_t *book)
 {
     static const uint8_t expected[BRAIDLARK_PLAN_SIZE] = {0x01, 0x00, 0x00, 0x01, 0x03, 0x04, 0x06, 0xE8, 0x03};
     uint8_t plan[BRAIDLARK_PLAN_SIZE];
     EXPECT(braidlark_plan(plan, sizeof plan, NETWORK, MANAGER, MAX_HOPS, ROWS, DATA_SLOTS, 1214) ==
            BRAIDLARK_OUT_OF_RULE);
+    EXPECT(braidlark_plan(plan, sizeof plan, NETWORK, MANAGER, MAX_HOPS, 256 + ROWS, DATA_SLOTS, SLOT_MS) ==
+           BRAIDLARK_OUT_OF_RULE);
+    EXPECT(braidlark_plan(plan, sizeof plan, NETWORK, MANAGER, MAX_HOPS, ROWS, DATA_SLOTS, 65536 + SLOT_MS) ==
+           BRAIDLARK_OUT_OF_RULE);
     EXPECT(braidlark_plan(plan, sizeof plan, NETWORK, MANAGER, MAX_HOPS, ROWS, DATA_SLOTS, SLOT_MS) ==
            BRAIDLARK_ACCEPTED);
     EXPECT(memcmp(plan, expected, sizeof plan) == 0);
+    tell_numbers(plan);
     EXPECT(braidlark_book_fresh(book, BRAIDLARK_BOOK_SIZE, plan, sizeof plan, NOW) == BRAIDLARK_ACCEPTED);
 }
 
@@ -134,6 +169,10 @@ static void schedule(const uint8_t *book)
     EXPECT(kinds[4] == BRAIDLARK_CONTROL_RX && kinds[5] == BRAIDLARK_CONTROL_TX);
     EXPECT(kinds[8] == BRAIDLARK_RX && kinds[9] == BRAIDLARK_TX && kinds[10] == BRAIDLARK_TX);
     EXPECT(kinds[11] == BRAIDLARK_RX && kinds[14] == BRAIDLARK_DISCOVERY_RX && kinds[53] == BRAIDLARK_SLEEP);
+    EXPECT(braidlark_schedule(book, BRAIDLARK_BOOK_SIZE, UNIT, 256 + 1, NOW, kinds, sizeof kinds, &written) ==
+           BRAIDLARK_OUT_OF_RULE);
+    EXPECT(braidlark_schedule(book, BRAIDLARK_BOOK_SIZE, MANAGER, 256, NOW, kinds, sizeof kinds, &written) ==
+           BRAIDLARK_OUT_OF_RULE);
 }
 
 /* The manager is switched off and on: the book that comes back is the same, since everyone was heard at its time. */
@@ -313,6 +352,7 @@ int main(void)
 {
     numbers_fit();
     write_other_kinds();
+    write_none_and_more();
     manage_a_site();
     be_a_unit();
     printf("every_call: %u of %u checks hold\n", checks - failures, checks);

@@ -112,6 +112,11 @@ static uint8_t call_plan(void)
     return braidlark_plan(scene.plan, sizeof scene.plan, NETWORK, MANAGER, 1, 21, 22, 20);
 }
 
+static uint8_t call_plan_numbers(void)
+{
+    return braidlark_plan_numbers(scene.plan, sizeof scene.plan, scene.fields, BRAIDLARK_PLAN_NUMBERS);
+}
+
 static uint8_t call_book_fresh(void)
 {
     return braidlark_book_fresh(scene.book, sizeof scene.book, scene.plan, sizeof scene.plan, NOW);
@@ -176,6 +181,7 @@ static const struct {
     {"state_tick", call_state_tick},
     {"clock_step", call_clock_step},
     {"plan", call_plan},
+    {"plan_numbers", call_plan_numbers},
     {"book_fresh", call_book_fresh},
     {"join", call_join},
     {"slot_request", call_slot_request},

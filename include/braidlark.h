@@ -227,6 +227,18 @@ enum {
     BRAIDLARK_SLEEP
 };
 
+/* ---- where each number of a plan stands among those that braidlark_plan_numbers tells, and how many there are */
+enum {
+    BRAIDLARK_PLAN_ACTIVE,        /* slots in use: beacon, control, data and discovery */
+    BRAIDLARK_PLAN_SLOTS,         /* of a superframe */
+    BRAIDLARK_PLAN_SUPERFRAME_MS, /* all slots together */
+    BRAIDLARK_PLAN_CONTROL_AT,    /* the first slot of each region; beacon slots begin at 0 */
+    BRAIDLARK_PLAN_DATA_AT,
+    BRAIDLARK_PLAN_DISCOVERY_AT,
+    BRAIDLARK_PLAN_SLEEP_AT,
+    BRAIDLARK_PLAN_NUMBERS
+};
+
 /* ---- frames */
 
 /* Reads a frame of any kind: its numbers, the type first, and where the bytes behind its fields (a payload, or the
@@ -239,8 +251,9 @@ uint8_t braidlark_read(const uint8_t *frame, size_t frame_length, uint32_t *fiel
 uint8_t braidlark_entry(const uint8_t *frame, size_t frame_length, uint32_t position, uint32_t *entry,
                         size_t entry_length, uint32_t *next);
 
-/* Writes the frame with these numbers and these bytes behind its fields, and says how many bytes it has.
- * Refusals: 2 1 4 5. */
+/* Writes the frame with these numbers and these bytes behind its fields, and says how many bytes it has. Numbers behind
+ * those of the frame's kind are not looked at: the whole buffer that braidlark_read filled can be handed in as it is.
+ * Refusals: 1 (no numbers) 2 1 4 5. */
 uint8_t braidlark_write(const uint32_t *fields, size_t fields_length, const uint8_t *part, size_t part_length,
                         uint8_t *out, size_t out_length, uint32_t *written);
 
@@ -298,9 +311,14 @@ uint8_t braidlark_clock_step(int64_t *offset, uint32_t local_time, uint16_t netw
 
 /* ---- the manager's plan, BRAIDLARK_PLAN_SIZE bytes, and book, BRAIDLARK_BOOK_SIZE bytes */
 
-/* Makes the plan of a site. Refusals: 14 (the buffer's length, or any rule of a plan). */
-uint8_t braidlark_plan(uint8_t *plan, size_t plan_length, uint16_t network, uint16_t manager, uint8_t max_hops,
-                       uint8_t rows, uint8_t data_slots, uint16_t slot_ms);
+/* Makes the plan of a site. A number that is too large is refused, not cut: 260 rows are not 4.
+ * Refusals: 14 (the buffer's length, or any rule of a plan). */
+uint8_t braidlark_plan(uint8_t *plan, size_t plan_length, uint16_t network, uint16_t manager, uint32_t max_hops,
+                       uint32_t rows, uint32_t data_slots, uint32_t slot_ms);
+
+/* Tells the BRAIDLARK_PLAN_NUMBERS numbers of a plan: how many slots it has, how long a superframe is, and where each
+ * region of slots begins. Refusals: 14 (the plan's length, or any rule of a plan) 5. */
+uint8_t braidlark_plan_numbers(const uint8_t *plan, size_t plan_length, uint32_t *numbers, size_t numbers_length);
 
 /* Makes the book of a plan: the manager alone, with the lowest data slot.
  * Refusals: 14 (the buffer's length, or the plan). */
@@ -323,8 +341,8 @@ uint8_t braidlark_heard(uint8_t *book, size_t book_length, uint16_t unit, uint32
 uint8_t braidlark_leave(uint8_t *book, size_t book_length, uint16_t unit, uint32_t time);
 
 /* Writes a live member's schedule, one byte a slot, and says how many slots there are. The manager is at hop 0, others
- * at 1 to the plan's most. Refusals: 14 4 8 14 (the hop) 13 5. */
-uint8_t braidlark_schedule(const uint8_t *book, size_t book_length, uint16_t unit, uint8_t hop, uint32_t time,
+ * at 1 to the plan's most; a larger hop is refused, not cut. Refusals: 14 4 8 14 (the hop) 13 5. */
+uint8_t braidlark_schedule(const uint8_t *book, size_t book_length, uint16_t unit, uint32_t hop, uint32_t time,
                            uint8_t *out, size_t out_length, uint32_t *written);
 
 /* ---- the stored image of a book, at most BRAIDLARK_MOST_IMAGE bytes */

@@ -137,7 +137,7 @@ struct order {
     int carrier_count;
 };
 
-/* The slots of the plan, as the manager's own schedule shows them. */
+/* The first slot of each region of the plan, and the one behind them, where sleep begins. */
 struct regions {
     int control;
     int data;

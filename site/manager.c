@@ -4,25 +4,41 @@
  */
 #include "greenhouse.h"
 
-/* The regions of the superframe show in the manager's own schedule: the first slot of each kind. */
-static void find_regions(const uint8_t *kinds, struct regions *regions)
+/* The plan is made of the numbers that the site was built with, after a power cut too. */
+static void make_plan(struct site *site, uint8_t plan[BRAIDLARK_PLAN_SIZE])
 {
-    *regions = (struct regions){0};
-    for (int slot = BRAIDLARK_MOST_SLOTS - 1; slot >= 0; slot--) {
-        if (kinds[slot] == BRAIDLARK_DISCOVERY_TX) {
-            regions->discovery = slot;
-        } else if (kinds[slot] == BRAIDLARK_TX || kinds[slot] == BRAIDLARK_RX) {
-            regions->data = slot;
-        } else if (kinds[slot] == BRAIDLARK_CONTROL_TX || kinds[slot] == BRAIDLARK_CONTROL_RX) {
-            regions->control = slot;
-        }
-        if (regions->end == 0 && kinds[slot] != BRAIDLARK_SLEEP) {
-            regions->end = slot + 1;
-        }
+    uint8_t status = braidlark_plan(plan, BRAIDLARK_PLAN_SIZE, NETWORK, site->units[OFFICE].address, MOST_HOPS,
+                                    MEMBER_ROWS, DATA_SLOTS, SLOT_MS);
+    check_status(site, "braidlark_plan", status, 0);
+}
+
+static void find_regions(struct site *site, const uint8_t plan[BRAIDLARK_PLAN_SIZE])
+{
+    uint32_t numbers[BRAIDLARK_PLAN_NUMBERS] = {0};
+    uint8_t status = braidlark_plan_numbers(plan, BRAIDLARK_PLAN_SIZE, numbers, BRAIDLARK_PLAN_NUMBERS);
+    check_status(site, "braidlark_plan_numbers", status, 0);
+    if (numbers[BRAIDLARK_PLAN_SUPERFRAME_MS] != SUPERFRAME_MS) {
+        fail(site, "a superframe has %u ms, and the site counts on %d",
+             (unsigned)numbers[BRAIDLARK_PLAN_SUPERFRAME_MS], SUPERFRAME_MS);
+    }
+    site->manager.regions = (struct regions){.control = (int)numbers[BRAIDLARK_PLAN_CONTROL_AT],
+                                             .data = (int)numbers[BRAIDLARK_PLAN_DATA_AT],
+                                             .discovery = (int)numbers[BRAIDLARK_PLAN_DISCOVERY_AT],
+                                             .end = (int)numbers[BRAIDLARK_PLAN_SLEEP_AT]};
+}
+
+/* The book has that plan: the manager's own schedule shows the same regions. */
+static void check_regions(struct site *site, const uint8_t *kinds)
+{
+    const struct regions *regions = &site->manager.regions;
+    if (kinds[regions->control] != BRAIDLARK_CONTROL_TX || kinds[regions->data - 1] != BRAIDLARK_CONTROL_RX ||
+        kinds[regions->discovery - 1] > BRAIDLARK_RX || kinds[regions->discovery] != BRAIDLARK_DISCOVERY_TX ||
+        kinds[regions->end - 1] != BRAIDLARK_DISCOVERY_TX || kinds[regions->end] != BRAIDLARK_SLEEP) {
+        fail(site, "the manager's schedule has other regions than the plan");
     }
 }
 
-/* And so do the manager's own slots. */
+/* The manager's schedule shows its own slots. */
 static void take_own_slots(const uint8_t *kinds, struct holding *holding)
 {
     *holding = (struct holding){.held = true};
@@ -35,14 +51,11 @@ static void take_own_slots(const uint8_t *kinds, struct holding *holding)
     }
 }
 
-static void make_book(struct site *site)
+static void make_book(struct site *site, const uint8_t plan[BRAIDLARK_PLAN_SIZE])
 {
     struct manager *manager = &site->manager;
-    uint8_t plan[BRAIDLARK_PLAN_SIZE];
-    uint8_t status = braidlark_plan(plan, sizeof plan, NETWORK, site->units[OFFICE].address, MOST_HOPS, MEMBER_ROWS,
-                                    DATA_SLOTS, SLOT_MS);
-    check_status(site, "braidlark_plan", status, 0);
-    status = braidlark_book_fresh(manager->book, sizeof manager->book, plan, sizeof plan, site->now);
+    uint8_t status =
+        braidlark_book_fresh(manager->book, sizeof manager->book, plan, BRAIDLARK_PLAN_SIZE, site->now);
     check_status(site, "braidlark_book_fresh", status, 0);
     say(site, "the office heard no other manager for 30 s and manages: %d slots of %d ms, room for %d members",
         BRAIDLARK_MOST_SLOTS, SLOT_MS, MEMBER_ROWS);
@@ -51,14 +64,16 @@ static void make_book(struct site *site)
 /* The office becomes the manager: with the book of its stored image, or with a fresh one if nothing is stored. */
 static void start(struct site *site)
 {
+    uint8_t plan[BRAIDLARK_PLAN_SIZE], kinds[BRAIDLARK_MOST_SLOTS];
+    make_plan(site, plan);
+    find_regions(site, plan);
     if (site->flash.length > 0) {
         power_restore(site);
     } else {
-        make_book(site);
+        make_book(site, plan);
     }
-    uint8_t kinds[BRAIDLARK_MOST_SLOTS];
     schedule_of(site, OFFICE, 0, kinds);
-    find_regions(kinds, &site->manager.regions);
+    check_regions(site, kinds);
     take_own_slots(kinds, &site->units[OFFICE].holding);
     site->manager.running = true;
 }

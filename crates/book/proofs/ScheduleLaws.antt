@@ -1,13 +1,14 @@
 -- A schedule in a buffer.
 -- Assumes nothing.
 use mathlib.Core.Path.{_≡_, refl, sym, ap, ap₂, _∙_}
-use mathlib.Core.Bool.{Bool, true}
+use mathlib.Core.Bool.{Bool, true, false, _&&_, cond, and-eq-true-iff}
 use mathlib.Core.List.{List, _∷_, _++_}
 use Prim.Native.Nat.{ℕ, zero, suc, _+_, _-_, _≤_, _<_, min}
 use native.Mathlib.Omega.{arith}
 use native.Mathlib.Nat.{zero-add, suc-add}
 use native.Mathlib.Numerals.{add-one}
-use borrow.Author.Tests.{ne-eqb, ltb-false, not-false}
+use borrow.Author.Tests.{ne-eqb, eqb-true, leb-true, ltb-false, not-false}
+use lib.Dec.{eqb, leb}
 use lib.ListN.{length, getD, drop, set, replicate}
 use lib.Seq.{sets, sets-eq}
 use Rattle.octets.specs.Lists.{tab}
@@ -18,10 +19,12 @@ use Rattle.slots.specs.Sets.{Slots}
 use Rattle.site.specs.declared.plan.Plan.{Plan}
 use Rattle.site.specs.Plans.{slotsIn, slots, sleepAt}
 use Rattle.site.specs.Schedules.{sleep, kindOf}
+use Rattle.site.proofs.PlanLaws.{kept}
 use Rattle.site.proofs.RegionLaws.{kinds-by-region}
 use Rattle.members.specs.Members.{emptyRow, rowFor}
 use Rattle.book.specs.Books.{Stated, withinRule, rowsAt, liveAt}
-use Rattle.book.specs.Schedules.{scheduleReasons, scheduleRefusal, scheduleOf}
+use Rattle.book.specs.Schedules.{hopRule, scheduleReasons, scheduleRefusal, scheduleOf}
+use Rattle.book.proofs.WithinLaws.{within}
 use Rattle.octets.proofs.ListLaws.{length-tab}
 use Rattle.octets.proofs.StoreLaws.{sets-append}
 
@@ -65,9 +68,18 @@ pub few-slots : (p : Plan) → slots p ≤ 100
 unfolding slotsIn
 few-slots p = omega arith
 
+-- a hop within rule is one of the plan's
+hop-below : (p : Plan) (unit hop : ℕ) → hopRule p unit hop ≡ true → hop ≤ p .«max_hops»
+hop-below p unit hop = go (eqb unit (p .manager))
+  where
+    go : (b : Bool) → cond b (eqb hop 0) (leb 1 hop && leb hop (p .«max_hops»)) ≡ true → hop ≤ p .«max_hops»
+    go true e = omega (arith, eqb-true hop 0 e)
+    go false e = leb-true hop (p .«max_hops») (and-eq-true-iff (leb 1 hop) (leb hop (p .«max_hops»)) .0 e .1)
+
 -- what holds where there is a schedule
 pub record Schedulable (b : Stated) (unit hop time : ℕ) (live : Bool) (room : ℕ) : Type 0 where
   pub book : withinRule b ≡ true
+  pub near : hop ≤ 10
   pub member : live ≡ true
   pub fits : slots (b .plan) ≤ room
 
@@ -78,7 +90,14 @@ schedulable b unit hop time live room e =
       numbered _ 14 (λ z. omega arith),
       (numbered _ 4 (λ z. omega arith), (numbered _ 8 (λ z. omega arith), (numbered _ 14 (λ z. omega arith), (numbered _ 13 (λ z. omega arith), (numbered _ 5 (λ z. omega arith), tt))))),
     ) e in
-    record { book = not-false (withinRule b) (none .0); member = not-false live (none .1 .1 .1 .1 .0); fits = ltb-false room (slots (b .plan)) (none .1 .1 .1 .1 .1 .0) }
+    let ruled = not-false (withinRule b) (none .0) in
+    let below = hop-below (b .plan) unit hop (not-false (hopRule (b .plan) unit hop) (none .1 .1 .1 .0)) in
+    record {
+      book = ruled;
+      near = omega (arith, below, kept (b .plan) (within b ruled .plan) .few-hops);
+      member = not-false live (none .1 .1 .1 .1 .0);
+      fits = ltb-false room (slots (b .plan)) (none .1 .1 .1 .1 .1 .0);
+    }
 
 module _ (b : Stated) (unit hop time n : ℕ) (out : List ℕ) (e : n ≡ scheduleRefusal b unit hop time (liveAt b unit time) (length out)) where
   pub unscheduled : (n ≡ 0 → ⊥) → wrote (Written.Refused (record { number = n })) out ≡ scheduleOf b unit hop time out

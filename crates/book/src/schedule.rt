@@ -23,13 +23,13 @@ use site::plan::Plan;
 use site::schedules::kind_at;
 
 // Whether a unit may be at a hop: the manager at 0, and no other there.
-fn hop_within_rule(plan: Plan, unit: u16, hop: u8) -> bool
+fn hop_within_rule(plan: Plan, unit: u16, hop: u32) -> bool
     ensures { λ r. ⌜ r ≡ hopRule plan unit hop ⌝ }
 {
     if unit == plan.manager {
         return hop == 0;
     }
-    (1 <= hop) & (hop <= plan.max_hops)
+    (1 <= hop) & (hop <= plan.max_hops as u32)
 }
 
 // The kinds of the first slots, from the buffer's start on.
@@ -68,7 +68,7 @@ fn put_kinds(out: &mut [u8], plan: Plan, row: u8, hop: u8, own: u64, count: u8)
 }
 
 // Why there is no schedule for a unit that is a live member or not; 0 where there is one.
-fn refusal(book: Book, unit: u16, hop: u8, time: u32, live: bool, room: usize) -> u8
+fn refusal(book: Book, unit: u16, hop: u32, time: u32, live: bool, room: usize) -> u8
     ensures { λ r. ⌜ r ≡ scheduleRefusal (stated book) unit hop time live room ⌝ }
 {
     let plan = book.plan;
@@ -83,7 +83,7 @@ fn refusal(book: Book, unit: u16, hop: u8, time: u32, live: bool, room: usize) -
 
 impl Book {
     // Writes the kinds of all slots for a live member at a hop.
-    pub fn schedule(self, unit: u16, hop: u8, time: u32, out: &mut [u8]) -> Written
+    pub fn schedule(self, unit: u16, hop: u32, time: u32, out: &mut [u8]) -> Written
         ensures { λ r. ⌜ wrote r (now (out .exit)) ≡ scheduleOf (stated self) unit hop time (now (out .entry)) ⌝ }
     {
         let plan = self.plan;
@@ -96,7 +96,14 @@ impl Book {
             return Written::Refused(Refusal { number: refused });
         }
         let count = plan.slots();
-        put_kinds(out, plan, at as u8, hop, slots_at(now, at), count as u8);
+        put_kinds(
+            out,
+            plan,
+            at as u8,
+            hop as u8,
+            slots_at(now, at),
+            count as u8,
+        );
         Written::Done(count as usize)
     }
 }

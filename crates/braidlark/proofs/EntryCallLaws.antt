@@ -1,6 +1,6 @@
 -- The call on the entries of an update, from what the walk answers.
 -- Assumes nothing.
-use mathlib.Core.Path.{_≡_}
+use mathlib.Core.Path.{_≡_, sym, ap, _∙_}
 use mathlib.Core.List.{List}
 use Prim.Native.Nat.{ℕ, _≤_, _<_}
 use native.Mathlib.Omega.{arith}
@@ -11,7 +11,8 @@ use Rattle.traffic.specs.Traffic.{entryValues}
 use Rattle.frames.specs.declared.answers.Refusal.{Refusal}
 use Rattle.entries.specs.declared.walking.Step.{Step}
 use Rattle.entries.specs.declared.walking.Walked.{Walked}
-use Rattle.entries.specs.Walks.{walkOf, toldWalked, Numbered}
+use Rattle.entries.specs.Walks.{walkOf, toldWalked}
+use Rattle.entries.proofs.WalkLaws.{unwalked}
 use Rattle.braidlark.specs.EntryCalls.{entryLeft, entryCall}
 
 module _ (s : List ℕ) (position : ℕ) (entry : List ℕ) (next : ℕ) (walked : Walked) (e : toldWalked walked ≡ walkOf s position) where
@@ -28,6 +29,8 @@ module _ (s : List ℕ) (position : ℕ) (entry : List ℕ) (next : ℕ) (walked
   unfolding entryCall
   entry-end q = rw (← e, q, le-ltb (length entry) 0 (omega arith))
 
-  pub entry-refused : Numbered walked → (r : Refusal) → walked ≡ Walked.Refused r → entryLeft (r .number) entry next ≡ entryCall s position entry next
+  pub entry-refused : (r : Refusal) → walked ≡ Walked.Refused r → entryLeft (r .number) entry next ≡ entryCall s position entry next
   unfolding entryCall
-  entry-refused n r q = let z : r .number ≡ 0 → ⊥ = rw q at n in rw (← e, q, ne-eqb (r .number) 0 z, ne-eqb (r .number) 0 z)
+  entry-refused r q =
+      let z = unwalked s position (r .number) (sym (ap toldWalked q) ∙ e) in
+      rw (← e, q, ne-eqb (r .number) 0 z, ne-eqb (r .number) 0 z)

@@ -16,11 +16,11 @@ use Rattle.octets.proofs.AnswerLaws.{unless-none, unless-some}
 use Rattle.octets.proofs.CallLaws.{after-refused}
 use Rattle.frames.specs.declared.answers.Written.{Written}
 use Rattle.frames.specs.declared.answers.Refusal.{Refusal}
-use Rattle.frames.specs.Listed.{showRefusal, shown, writeListed, writeNumbers}
+use Rattle.frames.specs.Listed.{showRefusal, shown, writeNumbers}
 use Rattle.frames.specs.Frames.{readFrame}
 use Rattle.frames.specs.Told.{wrote}
 use Rattle.shapes.specs.Writing.{Wrote, writeRefusal, writing}
-use Rattle.frames.proofs.KindLaws.{asked, known-or-not}
+use Rattle.frames.proofs.ListedLaws.{by-type}
 use Rattle.braidlark.specs.FrameCalls.{readLeft, placeIn, readCall, writeCall}
 
 -- ---- reading
@@ -65,12 +65,8 @@ writing-answers due good frame out = go (ℕ-discrete (writeRefusal due (length 
 
 module _ (ns part out : List ℕ) where
   answers : Answered (writeNumbers ns part out .said)
-  unfolding writeNumbers
   answers =
-      ⊎-elim
-      (λ r. rw (asked (λ k. writeListed k ns part out) _ (r .1) (getD ns 0 0) (r .2)) (writing-answers _ _ _ out))
-      (λ r. rw (r Wrote (λ k. writeListed k ns part out) (record { said = refused 2; held = out })) (inr (2, λ z. omega arith, refl)))
-      (known-or-not (getD ns 0 0))
+      by-type part out ns (λ w. Answered (w .said)) (λ e. inr (1, λ z. omega arith, refl)) (λ k m c. writing-answers _ _ _ out) (inr (2, λ z. omega arith, refl))
 
   module _ (last : List ℕ) (written : ℕ) where
     pub written-short : (n : ℕ) → wrote (Written.Done n) last ≡ writeNumbers ns part out → n ≤ 255

@@ -3,7 +3,7 @@
 use Prim.Native.Nat.{ℕ}
 use mathlib.Core.List.{List, [], _∷_}
 use lib.Dec.{ltb}
-use lib.ListN.{length, getD, take}
+use lib.ListN.{length, getD, drop}
 use lib.Seq.{sets}
 use Rattle.octets.specs.Answers.{refusing, reason, first}
 use Rattle.octets.specs.Calls.{after}
@@ -18,10 +18,10 @@ pub record EntryLeft : Type 0 where
 abbrev pub entryLeft : ℕ → List ℕ → ℕ → EntryLeft
 entryLeft status entry next = record { status = status; entry = entry; next = next }
 
--- the end says no values: no number is written, and the next position, which is never 0, is 0
+-- a step says the next position, then the entry's numbers; the end says the position 0 alone, so that no number is written
 unfoldable pub entryCall : List ℕ → ℕ → List ℕ → ℕ → EntryLeft
 entryCall s position entry next =
     let said = walkOf s position in
-    let fields = take 5 (said .values) in
+    let fields = drop 1 (said .values) in
     let status = first (refusing (said .refusal) ∷ reason (ltb (length entry) (length fields)) 5 ∷ []) in
-    entryLeft status (after status entry (sets entry 0 fields)) (after status next (getD (said .values) 5 0))
+    entryLeft status (after status entry (sets entry 0 fields)) (after status next (getD (said .values) 0 0))

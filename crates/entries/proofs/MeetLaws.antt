@@ -1,21 +1,18 @@
 -- A walk from 0 meets every entry, and its answers are told apart by what they say.
 -- Assumes nothing.
-use mathlib.Core.Path.{_≡_, refl, sym, ap, _∙_}
-use mathlib.Core.Bool.{cond}
+use mathlib.Core.Path.{_≡_, refl, ap, _∙_}
 use mathlib.Core.List.{List, [], _∷_, map}
 use Prim.Native.Nat.{ℕ, zero, suc, _+_}
 use native.Mathlib.Omega.{arith}
 use borrow.Author.Tests.{ne-eqb}
-use lib.Dec.{eqb}
-use lib.ListN.{getD}
-use Rattle.octets.specs.Answers.{Said}
 use Rattle.octets.specs.Lists.{tab}
+use Rattle.octets.proofs.AnswerLaws.{one-by-return}
 use Rattle.shapes.specs.Shape.{partIn}
 use Rattle.shapes.specs.Reading.{refusalAs}
 use Rattle.traffic.specs.declared.entry.Entry.{Entry}
 use Rattle.traffic.specs.Traffic.{update, entryAt, entryFrom, entryValues}
 use Rattle.entries.specs.declared.walking.Walked.{Walked}
-use Rattle.entries.specs.Walks.{countIn, toldWalked, Numbered}
+use Rattle.entries.specs.Walks.{countIn, toldWalked}
 use Rattle.entries.specs.Laws.{met, MeetsEveryEntry, WalkedOneToOne}
 use Rattle.entries.proofs.WalkLaws.{step-end, step-one}
 
@@ -28,7 +25,8 @@ module _ (s : List ℕ) (z : refusalAs update s ≡ 0) where
   meets (suc left) position e f h =
       let here : position + 0 ≡ position = omega arith in
       let there : (i : ℕ) → position + suc i ≡ position + 1 + i = λ i. omega arith in
-      rw (← step-one s position z (omega (arith, e)) (f 0) (h 0 ∙ ap (entryAt (partIn update s)) here))
+      let onward : position + 1 ≡ 0 → ⊥ = λ n. omega (arith, n) in
+      rw (← step-one s position z (omega (arith, e)) (f 0) (h 0 ∙ ap (entryAt (partIn update s)) here), ne-eqb (position + 1) 0 onward)
       (ap (λ (rest : List (List ℕ)). entryValues (f 0) ∷ rest)
       (meets left (position + 1) (omega (arith, e)) (λ i. f (suc i)) (λ i. h (suc i) ∙ ap (entryAt (partIn update s)) (there i))))
 
@@ -37,15 +35,15 @@ meets-every-entry s z = meets s z (countIn s) 0 (omega arith) _ (λ i. ap (entry
 
 -- the answer that says this
 walked-from : ℕ → List ℕ → Walked
-walked-from number [] = cond (eqb number 0) Walked.End (Walked.Refused (record { number = number }))
-walked-from number (v ∷ vs) = Walked.One (record { entry = entryFrom (v ∷ vs); next = getD vs 4 0 })
+walked-from number [] = Walked.Refused (record { number = number })
+walked-from number (next ∷ []) = Walked.End
+walked-from number (next ∷ v ∷ vs) = Walked.One (record { entry = entryFrom (v ∷ vs); next = next })
 
-walked-back : (a : Walked) → Numbered a → walked-from (toldWalked a .refusal) (toldWalked a .values) ≡ a
+walked-back : (a : Walked) → walked-from (toldWalked a .refusal) (toldWalked a .values) ≡ a
 unfolding walked-from
-walked-back (Walked.One s) h = refl
-walked-back Walked.End h = refl
-walked-back (Walked.Refused r) h = rw (ne-eqb (r .number) 0 h)
+walked-back (Walked.One s) = refl
+walked-back Walked.End = refl
+walked-back (Walked.Refused r) = refl
 
 pub told-walked-one : WalkedOneToOne
-told-walked-one a b na nb e =
-    sym (walked-back a na) ∙ (ap (λ (said : Said). walked-from (said .refusal) (said .values)) e ∙ walked-back b nb)
+told-walked-one = one-by-return toldWalked walked-from walked-back

@@ -1,6 +1,6 @@
 // A reader of an update's entries: the caller's bytes, lent and not copied, and a position among the entries.
 ghost use mathlib.Core.Path.{_≡_};
-ghost use Rattle.entries.specs.Walks.{walkOf, toldWalked, Numbered};
+ghost use Rattle.entries.specs.Walks.{walkOf, toldWalked};
 use crate::walking::Walked;
 use crate::walking::entry_at;
 
@@ -29,7 +29,7 @@ impl<'a> Entries<'a> {
 
     // The entry at the reader's position and the position behind it, or the end.
     pub fn next(self) -> Walked
-        ensures { λ r. ⌜ (toldWalked r ≡ walkOf (now (self .entry .frame)) (self .entry .position)) × Numbered r ⌝ }
+        ensures { λ r. ⌜ toldWalked r ≡ walkOf (now (self .entry .frame)) (self .entry .position) ⌝ }
     {
         entry_at(self.frame, self.position)
     }
@@ -37,7 +37,7 @@ impl<'a> Entries<'a> {
 
 // A step of the walk, for a caller that keeps bytes and position itself.
 pub fn walk(frame: &[u8], position: usize) -> Walked
-    ensures { λ r. ⌜ (toldWalked r ≡ walkOf (now (frame .entry)) position) × Numbered r ⌝ }
+    ensures { λ r. ⌜ toldWalked r ≡ walkOf (now (frame .entry)) position ⌝ }
 {
     Entries::of(frame).moved(position).next()
 }

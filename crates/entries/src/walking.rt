@@ -1,6 +1,6 @@
 // One step of a walk: the entry of an update at a position, and the position behind it.
 ghost use mathlib.Core.Path.{_≡_};
-ghost use Rattle.entries.specs.Walks.{walkOf, toldWalked, Numbered};
+ghost use Rattle.entries.specs.Walks.{walkOf, toldWalked};
 use frames::answers::Refusal;
 use readers::parts::entries;
 use readers::refusals::update;
@@ -21,7 +21,7 @@ pub enum Walked {
 
 // The step from a position, counted from 0. Nothing is kept between two steps, so each judges the frame.
 pub fn entry_at(frame: &[u8], position: usize) -> Walked
-    ensures { λ r. ⌜ (toldWalked r ≡ walkOf (now (frame .entry)) position) × Numbered r ⌝ }
+    ensures { λ r. ⌜ toldWalked r ≡ walkOf (now (frame .entry)) position ⌝ }
 {
     let number = update(frame);
     if number != 0 {

@@ -25,7 +25,8 @@ of-widths test n h t =
     (λ r. ap test (r (List ℕ) (λ k. 1 ∷ k .widths) []) ∙ n)
     (known-or-not t)
 
-widths-few : (t : ℕ) → length (widthsOf t) ≤ 15
+-- no kind has more than 14 fields: with its type a frame is at most 15 numbers
+pub widths-few : (t : ℕ) → length (widthsOf t) ≤ 15
 unfolding every
 widths-few t = leb-true _ _ (of-widths (λ ws. leb (length ws) 15) refl refl t)
 

@@ -25,6 +25,7 @@ use Rattle.shapes.specs.Writing.{writeRefusal}
 use Rattle.frames.proofs.KindLaws.{asked, known-or-not, code-fits, of-type}
 use Rattle.shapes.proofs.ReadingLaws.{Passed, passed}
 use Rattle.shapes.proofs.SealLaws.{length-sealed, sealed-is, sealed-whole}
+use Rattle.shapes.proofs.WritingLaws.{put}
 
 -- the two orders of the length tests give the same number, if a frame of the right length has the right part
 in-order : (size due : ℕ) (good seen : Bool) → (size ≡ due → seen ≡ good)
@@ -63,10 +64,10 @@ module _ (k : Kind) (vs part : List ℕ) (small : k .code < 256) (f : Fit (k .wi
   frame-fields : fields (1 ∷ k .widths) frame 0 ≡ k .code ∷ vs
   frame-fields = rw frame-split (fields-bytes (1 ∷ k .widths) (k .code ∷ vs) [] (part ++ (xors 0 (head ++ part) ∷ [])) 0 refl fit-head)
 
-  frame-type : num 1 frame 0 ≡ k .code
+  pub frame-type : num 1 frame 0 ≡ k .code
   frame-type = cc frame-fields
 
-  frame-values : valuesIn k frame ≡ vs
+  pub frame-values : valuesIn k frame ≡ vs
   frame-values = cc frame-fields
 
   frame-part : k .extent vs ≡ length part → take (k .extent vs) (drop (placeOf k) frame) ≡ part
@@ -86,30 +87,30 @@ module _ (k : Kind) (vs part : List ℕ) (small : k .code < 256) (f : Fit (k .wi
       (λ e. ap (k .rule vs) (frame-part (omega (arith, frame-length)))))
 
 -- ---- over the eight kinds
-as-known : (k : Kind) → List·Memᴰ k kinds → (s : List ℕ) → num 1 s 0 ≡ k .code → readFrame s ≡ readAs k s
-as-known k m s e = of-type s (num 1 s 0) refl ∙ asked (λ x. readAs x s) (readUnknown s) m (num 1 s 0) e
+module _ (k : Kind) (m : List·Memᴰ k kinds) (s : List ℕ) where
+  -- bytes of a kind's type are read as that kind
+  as-known : num 1 s 0 ≡ k .code → readFrame s ≡ readAs k s
+  as-known c = of-type s (num 1 s 0) refl ∙ asked (λ x. readAs x s) (readUnknown s) m (num 1 s 0) c
+
+  -- they are refused as the kind refuses them
+  pub refused-read : num 1 s 0 ≡ k .code → readFrame s .refusal ≡ refusalAs k s
+  refused-read c = ap (λ (x : Said). x .refusal) (as-known c) ∙ unless-number (refusalAs k s) (k .code ∷ valuesIn k s)
+
+  -- bytes that a kind does not refuse are read as its values
+  pub accepted-read : refusalAs k s ≡ 0 → readFrame s ≡ accepted (k .code ∷ valuesIn k s)
+  accepted-read z = as-known (passed _ _ _ s z .typed) ∙ unless-none (refusalAs k s) (accepted (k .code ∷ valuesIn k s)) z
 
 pub refused-alike : RefusedAlike
 refused-alike k m vs part f =
     let c = code-fits m in
-    alike k vs part c f
-    ∙ sym (ap (λ (r : Said). r .refusal) (as-known k m (frameOf k vs part) (frame-type k vs part c f)) ∙ unless-number (refusalAs k (frameOf k vs part)) _)
-
-written-due : (due size : ℕ) (good : Bool) (room : ℕ) → writeRefusal due size good room ≡ 0 → size ≡ due
-unfolding writeRefusal
-written-due due size good room e = go (eqb size due) (ltb 255 size) refl e
-  where
-    go : (a b : Bool) → eqb size due ≡ a → _≡_ {A = ℕ} (cond (not a || b) 1 (cond (not good) 4 (cond (ltb room size) 5 0))) 0 → size ≡ due
-    go true b q z = eqb-true size due q
-    go false b q z = absurd (omega arith)
+    alike k vs part c f ∙ sym (refused-read k m (frameOf k vs part) (frame-type k vs part c f))
 
 pub reads-back : ReadsBack
 reads-back k m vs part f e =
     let c = code-fits m in
     let s : List ℕ = frameOf k vs part in
-    let z : refusalAs k s ≡ 0 = sym (alike k vs part c f) ∙ e in
-    let d = written-due (lengthOf k (k .extent vs)) (length s) (k .rule vs part) (length s) e in (
-      as-known k m s (frame-type k vs part c f) ∙ (unless-none (refusalAs k s) _ z ∙ ap (λ (us : List ℕ). accepted (k .code ∷ us)) (frame-values k vs part c f)),
+    let d = put (lengthOf k (k .extent vs)) (length s) (k .rule vs part) (length s) e .sized in (
+      accepted-read k m s (sym (alike k vs part c f) ∙ e) ∙ ap (λ (us : List ℕ). accepted (k .code ∷ us)) (frame-values k vs part c f),
       rw (frame-values k vs part c f) (frame-part k vs part c f (omega (arith, frame-length k vs part c f))),
     )
 
@@ -125,45 +126,47 @@ module _ (k : Kind) (s : List ℕ) (b : Bytes s) (e : refusalAs k s ≡ 0) where
       rw (← known .typed) (bytes-fields s b (1 ∷ k .widths) 0 (omega (arith, known .sized))) in
       rw (h, ← take-add (placeOf k) (k .extent (valuesIn k s)) s) (sealed-whole s n (omega (arith, known .sized)) (known .summed))
 
--- what is read is of one of the kinds
-read-of : (s : List ℕ) → readFrame s .refusal ≡ 0 → (k : Kind) × List·Memᴰ k kinds × (num 1 s 0 ≡ k .code)
+-- what is known of bytes that are read: they are of one of the kinds, and it does not refuse them
+pub record Read (s : List ℕ) : Type 0 where
+  pub kind : Kind
+  pub known : List·Memᴰ kind kinds
+  pub typed : num 1 s 0 ≡ kind .code
+  pub taken : refusalAs kind s ≡ 0
+
+pub read-of : (s : List ℕ) → readFrame s .refusal ≡ 0 → Read s
 unfolding readFrame
-read-of s e = ⊎-elim (λ r. r) (λ r. absurd (unknown (misfit s) (rw (r Said (λ k. readAs k s) (readUnknown s)) at e))) (known-or-not (num 1 s 0))
+read-of s e =
+    ⊎-elim (λ r. record { kind = r .0; known = r .1; typed = r .2; taken = sym (refused-read (r .0) (r .1) s (r .2)) ∙ e })
+    (λ r. absurd (unknown (misfit s) (rw (r Said (λ k. readAs k s) (readUnknown s)) at e))) (known-or-not (num 1 s 0))
   where
     unknown : (b : Bool) → unless (cond b 1 2) (accepted []) .refusal ≡ 0 → ⊥
     unknown true z = omega arith
     unknown false z = omega arith
 
-unrefused : (k : Kind) (s : List ℕ) → readFrame s ≡ readAs k s → readFrame s .refusal ≡ 0 → refusalAs k s ≡ 0
-unrefused k s said e = sym (unless-number (refusalAs k s) (k .code ∷ valuesIn k s)) ∙ (ap (λ (x : Said). x .refusal) (sym said) ∙ e)
-
 -- its values stand where the layout of its type says
 pub values-read : (s : List ℕ) → readFrame s .refusal ≡ 0 → readFrame s .values ≡ fields (widthsOf (num 1 s 0)) s 0
 values-read s e =
-    let (k, m, c) = read-of s e in
-    let said = as-known k m s c in
-    let z = unrefused k s said e in
-    rw (said, unless-none (refusalAs k s) (accepted (k .code ∷ valuesIn k s)) z, asked (λ x. 1 ∷ x .widths) [] m (num 1 s 0) c, ← c)
+    let r = read-of s e in
+    rw (accepted-read (r .kind) (r .known) s (r .taken), asked (λ x. 1 ∷ x .widths) [] (r .known) (num 1 s 0) (r .typed), ← r .typed)
 
 -- it has at most 255 bytes, and its checksum behind its fields
 pub read-size : (s : List ℕ) → readFrame s .refusal ≡ 0 → (length s ≤ 255) × (total (widthsOf (num 1 s 0)) < length s)
 read-size s e =
-    let (k, m, c) = read-of s e in
-    let p = passed _ _ _ s (unrefused k s (as-known k m s c) e) in
-    (p .short, rw (asked (λ x. 1 ∷ x .widths) [] m (num 1 s 0) c) (omega (arith, p .sized)))
+    let r = read-of s e in
+    let p = passed _ _ _ s (r .taken) in
+    (p .short, rw (asked (λ x. 1 ∷ x .widths) [] (r .known) (num 1 s 0) (r .typed)) (omega (arith, p .sized)))
 
 pub writes-back : WritesBack
 writes-back s b e =
-    let (k, m, c) = read-of s e in
-    let said = as-known k m s c in
-    let z = unrefused k s said e in
+    let r = read-of s e in
+    let k = r .kind in
     let f = fields-fit s b (k .widths) 1 in
-    let same = rewritten k s b z in
+    let same = rewritten k s b (r .taken) in
     record {
       kind = k;
-      known = m;
-      said = said ∙ unless-none (refusalAs k s) (accepted (k .code ∷ valuesIn k s)) z;
+      known = r .known;
+      said = accepted-read k (r .known) s (r .taken);
       fit = f;
-      writable = alike k (valuesIn k s) (partIn k s) (code-fits m) f ∙ (ap (refusalAs k) same ∙ z);
+      writable = alike k (valuesIn k s) (partIn k s) (code-fits (r .known)) f ∙ (ap (refusalAs k) same ∙ r .taken);
       same = same;
     }

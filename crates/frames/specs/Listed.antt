@@ -45,6 +45,8 @@ writeListed k ns part out =
     let vs = given (k .widths) ns 1 in
     writing (lengthOf k (k .extent vs)) (fitting (1 ∷ k .widths) ns 0 && k .rule vs part) (frameOf k vs part) out
 
--- writing numbers as the frame that they are, of the kind that has their type: 2 where none has
+-- writing numbers as the frame that they are, of the kind that has their type: 2 where none has. No numbers are an empty frame, which is 1 before any
+-- type is looked at
 unfoldable pub writeNumbers : List ℕ → List ℕ → List ℕ → Wrote
-writeNumbers ns part out = among kinds (getD ns 0 0) (λ k. writeListed k ns part out) (record { said = refused 2; held = out })
+writeNumbers [] part out = record { said = refused 1; held = out }
+writeNumbers (t ∷ fields) part out = among kinds t (λ k. writeListed k (t ∷ fields) part out) (record { said = refused 2; held = out })

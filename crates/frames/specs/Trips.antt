@@ -2,12 +2,15 @@
 -- Assumes nothing.
 use mathlib.Core.Path.{_≡_}
 use mathlib.Core.List.{List, _∷_, List·Memᴰ}
-use Prim.Native.Nat.{ℕ}
+use Prim.Native.Nat.{ℕ, _-_}
 use lib.ListN.{length}
 use Rattle.octets.specs.Answers.{accepted}
-use Rattle.octets.specs.Layouts.{Fit, Bytes}
+use Rattle.octets.specs.Layouts.{total, Fit, Bytes}
+use Rattle.octets.specs.Numbers.{num}
 use Rattle.frames.specs.Frames.{kinds, readFrame}
-use Rattle.shapes.specs.Shape.{Kind, lengthOf, valuesIn, partIn, frameOf}
+use Rattle.frames.specs.Layout.{widthsOf}
+use Rattle.shapes.specs.Reading.{refusalAs}
+use Rattle.shapes.specs.Shape.{Kind, placeOf, lengthOf, valuesIn, partIn, frameOf}
 use Rattle.shapes.specs.Writing.{writeRefusal}
 
 -- why a frame of a kind with these values and these bytes behind them is not written, a short buffer aside: this room is enough
@@ -38,3 +41,16 @@ pub record Rewritten (s : List ℕ) : Type 0 where
 -- writing what was read gives the same bytes
 abbrev pub WritesBack : Type 0
 WritesBack = (s : List ℕ) → Bytes s → readFrame s .refusal ≡ 0 → Rewritten s
+
+-- ---- what is read, as the calls that take one kind see it
+-- bytes that are read as a kind with these values are not refused by the calls that take this kind, and say these values to them
+abbrev pub TakenAsRead : Type 0
+TakenAsRead =
+    (k : Kind) → List·Memᴰ k kinds → (s vs : List ℕ) → readFrame s ≡ accepted (k .code ∷ vs) → (refusalAs k s ≡ 0) × (valuesIn k s ≡ vs)
+
+-- in bytes that are read as a kind with these values, the part starts where the widths of their type end, is as long as the values say, and fills all
+-- that lies between the fields and the checksum
+abbrev pub PartsInPlace : Type 0
+PartsInPlace =
+    (k : Kind) → List·Memᴰ k kinds → (s vs : List ℕ) → readFrame s ≡ accepted (k .code ∷ vs)
+    → (total (widthsOf (num 1 s 0)) ≡ placeOf k) × (length (partIn k s) ≡ k .extent vs) × (length s - 1 - placeOf k ≡ k .extent vs)

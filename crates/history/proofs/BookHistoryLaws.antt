@@ -22,7 +22,7 @@ use Rattle.keeping.specs.Laws.{holding, heldSlots}
 use Rattle.keeping.proofs.JoinLaws.{refused-if-full, granted-else}
 use Rattle.keeping.proofs.CountingLaws.{held-sum, all-accounted}
 use Rattle.keeping.proofs.SendingLaws.{one-sender-in-book, one-hop-in-book}
-use Rattle.history.specs.BookEvents.{Start, begun, Event, grantedAt, grantedTo}
+use Rattle.history.specs.BookEvents.{Start, begun, Event, grantedAt, lastAddress, grantedTo}
 use Rattle.history.specs.BookLaws.{bookAfter, JoinsExactly, slotsAt, AlwaysD, OneSender}
 use Rattle.history.proofs.BookRuleLaws.{stays-within-rule}
 use Rattle.history.proofs.KnownLaws.{answers-tell}
@@ -33,7 +33,7 @@ pub joins-exactly : JoinsExactly
 joins-exactly start es s time out z n =
     let b = bookAfter start es in
     let w = stays-within-rule start es z in
-    (refused-if-full b s time out w n, granted-else b s time out w n)
+    (refused-if-full b s time out w n, λ room fits. granted-else b s time out w n room fits)
 
 -- ---- sending
 pub one-sender : OneSender
@@ -67,7 +67,7 @@ module _ (start : Start) (es : List Event) (time : ℕ) (z : begun start .refuse
   granted-sum (suc n) = ap (λ (k : ℕ). length (drop 1 (grantedAt start es (suc n) time)) + k) (granted-sum n)
 
   -- up to the last address
-  granted-all : (n : ℕ) → n ≡ 0xFFFE → grantedTo start es time n ≡ heldSlots (rowsAt b time)
+  granted-all : (n : ℕ) → n ≡ lastAddress → grantedTo start es time n ≡ heldSlots (rowsAt b time)
   granted-all n e =
       granted-sum n
       ∙ (sum-same (λ u. length (drop 1 (grantedAt start es u time))) (λ u. weigh (mine u) (rowsAt b time)) n each
@@ -84,5 +84,5 @@ module _ (start : Start) (es : List Event) (time : ℕ) (z : begun start .refuse
 pub always-d : AlwaysD
 always-d start es time z o =
     let b = bookAfter start es in
-    ap (λ (k : ℕ). count (free (b .plan .«data_slots») (rowsAt b time)) + k) (granted-all start es time z o 0xFFFE refl)
+    ap (λ (k : ℕ). count (free (b .plan .«data_slots») (rowsAt b time)) + k) (granted-all start es time z o lastAddress refl)
     ∙ all-accounted b time (stays-within-rule start es z)

@@ -1,7 +1,7 @@
 -- Freshness: every row that is not withdrawn is no younger than the last accepted update from its next hop.
 -- Assumes nothing.
 use mathlib.Core.Path.{_≡_, refl, sym, ap, _∙_}
-use mathlib.Core.Bool.{Bool, true, false, not, _&&_, _||_, cond, and-eq-true-iff, false≢true}
+use mathlib.Core.Bool.{Bool, true, false, not, _||_, cond, and-eq-true-iff, false≢true}
 use mathlib.Core.List.{List, [], _∷_}
 use mathlib.Core.Logic.{⊎-elim}
 use Prim.Native.Nat.{ℕ, _≤_}
@@ -12,30 +12,16 @@ use Rattle.octets.specs.Lists.{every}
 use Rattle.moments.specs.Moments.{ageAt, inOrder}
 use Rattle.moments.proofs.MomentLaws.{in-order-self, in-order-on, younger}
 use Rattle.routes.specs.declared.row.Row.{Row}
-use Rattle.routes.specs.declared.table.Table.{Table}
-use Rattle.routes.specs.Rows.{usable, withdrawnAt, forgotten}
+use Rattle.routes.specs.Rows.{forgotten}
 use Rattle.routes.specs.Tables.{rowsOf}
+use Rattle.routes.proofs.KeepLaws.{by-forgotten}
 use Rattle.routes.proofs.TableLaws.{address-some}
 use Rattle.merges.specs.declared.candidate.Candidate.{Candidate}
 use Rattle.merges.specs.Learning.{rowBy}
 use Rattle.merges.proofs.LearnLaws.{Kept, row-for-every}
-use Rattle.history.specs.TableCalls.{Update, timesFrom}
-use Rattle.history.specs.TableLaws.{Heard}
+use Rattle.history.specs.TableCalls.{Update, Past, timesFrom}
+use Rattle.history.specs.TableLaws.{Heard, since, borne, before, Accounts}
 use Rattle.history.proofs.LookupLaws.{answering, Found}
-
--- ---- one row and the log
--- the first of some times is no earlier than this one
-abbrev since : ℕ → List ℕ → Bool
-since time [] = false
-since time (last ∷ earlier) = inOrder time last
-
--- a row that is not withdrawn is no younger than the last update from its next hop
-abbrev pub borne : List Update → Row → Bool
-borne log r = r .withdrawn || since (r .time) (timesFrom (r .«next_hop») log)
-
--- an update was logged no later than a time
-abbrev pub before : ℕ → Update → Bool
-before time u = inOrder (u .at) time
 
 -- ---- the log grows
 module _ (from at : ℕ) (log : List Update) where
@@ -61,11 +47,7 @@ pub borne-kept : (log : List Update) (via time : ℕ) (c : Candidate) → borne 
 borne-kept log via time c b = record { new = λ e. b; back = λ r e. refl }
 
 pub borne-forgotten : (log : List Update) (unit time : ℕ) (r : Row) → borne log r ≡ true → borne log (forgotten unit time r) ≡ true
-borne-forgotten log unit time r b = go (usable time r && (eqb (r .destination) unit || eqb (r .«next_hop») unit))
-  where
-    go : (x : Bool) → borne log (cond x (withdrawnAt time r) r) ≡ true
-    go true = refl
-    go false = b
+borne-forgotten log unit time r b = by-forgotten (λ x. borne log x ≡ true) unit time r b refl
 
 -- ---- what is logged is past
 pub logged-on : (time later : ℕ) → inOrder time later ≡ true → (log : List Update) → every (before time) log ≡ true → every (before later) log ≡ true
@@ -93,24 +75,23 @@ logged-past time unit (u ∷ us) last earlier e q =
     go false here later q = later q
 
 -- ---- a lookup's next hop was heard
-pub heard : (log : List Update) (t : Table) (d time : ℕ) → every (borne log) (rowsOf t) ≡ true → every (before (t .time)) log ≡ true → Found t d time
-    → Heard log (answering t d .«next_hop») time
-heard log t d time rows logged f =
-    let r = answering t d in
+pub heard : (p : Past) (d time : ℕ) → Accounts p → Found (p .table) d time → Heard (p .log) (answering (p .table) d .«next_hop») time
+heard p d time a f =
+    let r = answering (p .table) d in
     let (live, young) = and-eq-true-iff (not (r .withdrawn)) (leb (ageAt time (r .time)) 300000) .0 (f .carries) in
-    let b : borne log r ≡ true =
-    ⊎-elim (λ h. h) (λ z. absurd (address-some d (f .unit) (sym (f .same) ∙ ap (λ (x : Row). x .destination) z))) (row-for-every (borne log) d (rowsOf t) rows) in
-    go (timesFrom (r .«next_hop») log) refl (leb-true _ _ young) (rw (not-true (r .withdrawn) live) at b)
+    let b : borne (p .log) r ≡ true =
+    ⊎-elim (λ h. h) (λ z. absurd (address-some d (f .unit) (sym (f .same) ∙ ap (λ (x : Row). x .destination) z))) (row-for-every (borne (p .log)) d (rowsOf (p .table)) (a .rows)) in
+    go (timesFrom (r .«next_hop») (p .log)) refl (leb-true _ _ young) (rw (not-true (r .withdrawn) live) at b)
   where
-    go : (times : List ℕ) → timesFrom (answering t d .«next_hop») log ≡ times → ageAt time (answering t d .time) ≤ 300000 → since (answering t d .time) times ≡ true
-        → Heard log (answering t d .«next_hop») time
+    go : (times : List ℕ) → timesFrom (answering (p .table) d .«next_hop») (p .log) ≡ times → ageAt time (answering (p .table) d .time) ≤ 300000
+        → since (answering (p .table) d .time) times ≡ true → Heard (p .log) (answering (p .table) d .«next_hop») time
     go [] q young b = absurd (false≢true b)
     go (last ∷ earlier) q young b =
-        let recent = younger time (answering t d .time) last b in
+        let recent = younger time (answering (p .table) d .time) last b in
         record {
           last = last;
           earlier = earlier;
           were = q;
-          past = in-order-on last (t .time) time (logged-past (t .time) (answering t d .«next_hop») log last earlier logged q) (f .timely);
+          past = in-order-on last (p .table .time) time (logged-past (p .table .time) (answering (p .table) d .«next_hop») (p .log) last earlier (a .past) q) (f .timely);
           recent = omega (arith, recent, young);
         }

@@ -21,7 +21,7 @@ use Rattle.members.proofs.RowSums.{weigh-set, one, tally, ofUnit}
 use Rattle.members.proofs.LookupLaws.{found-none, found-unit}
 use Rattle.members.proofs.RowRuleLaws.{address-some, units-least}
 use Rattle.book.specs.Books.{Stated, withinRule, rowsIn, rowsAt, heardOf, leaveOf}
-use Rattle.joins.specs.Responses.{slotsTold}
+use Rattle.joins.specs.Responses.{slotsTold, toldIn}
 use Rattle.keeping.specs.Calls.{Call, join, ask, heard, leave, schedule, refusalOf}
 use Rattle.keeping.specs.Calls as keeping
 use Rattle.keeping.specs.Laws.{holding}
@@ -30,7 +30,7 @@ use Rattle.keeping.proofs.TakingLaws.{ruled-rows, some-unit, Taken, join-taken,
 use Rattle.keeping.proofs.RuleLaws.{keeps-rule, refused-keeps, keeps-plan}
 use Rattle.keeping.proofs.HoldingLaws.{others-stay}
 use Rattle.keeping.proofs.SilenceLaws.{row-written}
-use Rattle.history.specs.BookEvents.{begun, Event, call, image, unitOf, next, after, answer, recorded, Grant, grant, renewed, granted, granting, counts}
+use Rattle.history.specs.BookEvents.{begun, Event, call, image, next, after, answer, recorded, Grant, grant, changedBy, granted, granting, counts}
 use Rattle.history.specs.BookLaws.{slotsAt, AnswersTell}
 use Rattle.history.proofs.BookRuleLaws.{begun-within, plan-after}
 use Rattle.history.proofs.SettledLaws.{Settled, settles}
@@ -142,7 +142,7 @@ module _ (unit : ℕ) (a : address unit ≡ true) where
       (λ z n. other-known b c g n k (settles b c z))
       (λ z. subst (λ (new : Stated). Knows new unit g) (sym (refused-keeps b c z)) k)
 
-  known-next : (b : Stated) (g : Grant) (e : Event) → Knows b unit g → Knows (next b e) unit (cond (eqb (answer b e .refused) 0 && eqb (unitOf e) unit) (renewed e (answer b e) g) g)
+  known-next : (b : Stated) (g : Grant) (e : Event) → Knows b unit g → Knows (next b e) unit (changedBy toldIn unit e (answer b e) g)
   known-next b g (call (join s time out)) k = call-known b (join s time out) _ g k (λ z l. taken-known (join-taken b s time out z) _ (join-told b s time out z))
   known-next b g (call (ask s time out)) k = call-known b (ask s time out) _ g k (λ z l. taken-known (ask-taken b s time out z) _ (ask-told b s time out z))
   known-next b g (call (heard v time)) k = call-known b (heard v time) _ g k (λ z l. taken-known (heard-taken b v time z) (g .told) (heard-told b v time g z l))

@@ -1,57 +1,43 @@
 -- One call after the other: what holds of a table and its log stays so.
 -- Assumes nothing.
 use mathlib.Core.Path.{_≡_, refl, ap, _∙_}
-use mathlib.Core.Bool.{Bool, true, cond, and-eq-true-iff}
+use mathlib.Core.Bool.{true, cond}
 use mathlib.Core.List.{List, [], _∷_, map}
 use Prim.Native.Nat.{ℕ}
 use native.Mathlib.Decide.{ℕ-discrete}
-use native.Mathlib.Omega.{arith}
-use borrow.Author.Tests.{eq-eqb, ne-eqb, not-false}
+use borrow.Author.Tests.{eq-eqb, ne-eqb}
 use lib.Dec.{eqb}
 use lib.ListN.{length}
 use Rattle.octets.specs.Lists.{every}
-use Rattle.octets.proofs.AnswerLaws.{numbered, none-holds}
-use Rattle.moments.specs.Moments.{inOrder}
+use Rattle.octets.proofs.ListLaws.{every-both}
 use Rattle.moments.proofs.MomentLaws.{in-order-self, in-order-on}
 use Rattle.shapes.specs.Shape.{partIn}
 use Rattle.traffic.specs.Traffic.{update, entriesOf}
 use Rattle.routes.specs.declared.row.Row.{Row}
 use Rattle.routes.specs.declared.table.Table.{Table}
 use Rattle.routes.specs.Rows.{rowRule, forgotten, inUse, pad, standing}
-use Rattle.routes.specs.Tables.{rowsOf, withinRule, freshOf, forgetOf, forgetReasons}
+use Rattle.routes.specs.Tables.{rowsOf, withinRule, freshOf, forgetOf}
 use Rattle.routes.proofs.KeepLaws.{every-map, standing-rules, forgotten-rules, fresh-within, forget-within}
 use Rattle.routes.proofs.RuleLaws.{ruled, rows-of-pad}
 use Rattle.routes.proofs.StandingLaws.{standing-every}
-use Rattle.routes.proofs.TableLaws.{within}
-use Rattle.merges.specs.declared.candidate.Candidate.{Candidate}
+use Rattle.routes.proofs.TableLaws.{within, forgettable}
 use Rattle.merges.specs.Candidates.{candidates}
 use Rattle.merges.specs.Learning.{learned}
 use Rattle.merges.specs.Merges.{updateIn, mergeRefusal, mergedRows, mergeOf}
+use Rattle.merges.proofs.CandidateLaws.{each-all}
 use Rattle.merges.proofs.KeepLaws.{merged-able, merge-rules, merge-gives, merge-within}
-use Rattle.merges.proofs.LearnLaws.{Kept, Kepts, learn-all-every}
+use Rattle.merges.proofs.LearnLaws.{Kept, learn-all-every}
 use Rattle.merges.proofs.MergeLaws.{some-origin}
 use Rattle.relays.specs.Forwards.{forwardRefusal, forwardOf}
 use Rattle.relays.proofs.ForwardLaws.{onward, forward-within}
 use Rattle.history.specs.TableCalls.{Call, merge, forget, forward, lookup, relay, page, next, Update, logged, Past, after, fresh}
-use Rattle.history.proofs.FreshLaws.{borne, before, borne-on, borne-new, borne-kept, borne-forgotten, logged-on}
+use Rattle.history.specs.TableLaws.{borne, Accounts}
+use Rattle.history.proofs.FreshLaws.{borne-on, borne-new, borne-kept, borne-forgotten, logged-on}
 
 -- what holds of a table and of the updates that were accepted on the way to it
 pub record Good (p : Past) : Type 0 where
   pub rule : withinRule (p .table) ≡ true
-  pub rows : every (borne (p .log)) (rowsOf (p .table)) ≡ true
-  pub log : every (before (p .table .time)) (p .log) ≡ true
-
-every-both : (one two both : Row → Bool) → ((r : Row) → one r ≡ true → two r ≡ true → both r ≡ true) → (rs : List Row) → every one rs ≡ true → every two rs ≡ true → every both rs ≡ true
-unfolding every
-every-both one two both h [] a b = refl
-every-both one two both h (r ∷ rs) a b =
-    let (a₀, a₁) = and-eq-true-iff (one r) (every one rs) .0 a in
-    let (b₀, b₁) = and-eq-true-iff (two r) (every two rs) .0 b in
-    rw (h r a₀ b₀) (every-both one two both h rs a₁ b₁)
-
-kept-all : (test : Row → Bool) (via time : ℕ) → ((c : Candidate) → Kept test via time c) → (cs : List Candidate) → Kepts test via time cs
-kept-all test via time k [] = tt
-kept-all test via time k (c ∷ cs) = (k c, kept-all test via time k cs)
+  pub accounts : Accounts p
 
 -- a table that is made of rows within rule has these rows
 rows-are : (t : Table) (rs : List Row) → t .rows ≡ pad rs → every (rowRule (t .own) (t .time)) rs ≡ true → rowsOf t ≡ rs
@@ -75,32 +61,33 @@ module _ (t : Table) (log : List Update) (g : Good (record { table = t; log = lo
       let older : every (borne grown) rs ≡ true =
       every-both (rowRule (t .own) (t .time)) (borne log) (borne grown)
       (λ r a b. borne-on o time log r (in-order-on (r .time) (t .time) time (ruled (t .own) (t .time) r a .past) (m .timely)) b)
-      rs (within t (g .rule) .rules) (g .rows) in
+      rs (within t (g .rule) .rules) (g .accounts .rows) in
       let cs = candidates (t .own) o quality (entriesOf (updateIn s .count) (partIn update s)) in
       let learnt : every (borne grown) new ≡ true =
       learn-all-every (borne grown) o time (some-origin t s quality time m) cs
-      (kept-all (borne grown) o time (λ c. borne-kept grown o time c (borne-new o time log c)) cs)
+      (each-all (Kept (borne grown) o time) (λ c. borne-kept grown o time c (borne-new o time log c)) cs)
       (learned (standing time rs) 0) (standing-every (borne grown) time rs older) in
       record {
         rule = merge-within t s quality time z;
-        rows = rw same learnt;
-        log = rw (gives, in-order-self time) (logged-on (t .time) time (m .timely) log (g .log));
+        accounts = record {
+          rows = rw same learnt;
+          past = rw (gives, in-order-self time) (logged-on (t .time) time (m .timely) log (g .accounts .past));
+        };
       }
 
   forgotten-good : (unit time : ℕ) → forgetOf t unit time .refused ≡ 0 → Good (record { table = forgetOf t unit time .table; log = log })
   unfolding forgetOf
   forgotten-good unit time z =
-      let none =
-      none-holds (forgetReasons t unit time)
-      (numbered _ 14 (λ q. omega arith), (numbered _ 4 (λ q. omega arith), (numbered _ 6 (λ q. omega arith), (numbered _ 8 (λ q. omega arith), tt)))) z in
-      let o = not-false (inOrder (t .time) time) (none .1 .1 .1 .0) in
+      let o = forgettable t unit time z .ordered in
       let new = map (forgotten unit time) (standing time rs) in
       let same : inUse (pad new) ≡ new = rows-of-pad (t .own) time new (forgotten-rules (t .own) (t .time) time o unit time rs (within t (g .rule) .rules)) in
-      let borne-still = every-map (borne log) (borne log) (forgotten unit time) (borne-forgotten log unit time) (standing time rs) (standing-every (borne log) time rs (g .rows)) in
+      let borne-still = every-map (borne log) (borne log) (forgotten unit time) (borne-forgotten log unit time) (standing time rs) (standing-every (borne log) time rs (g .accounts .rows)) in
       record {
         rule = forget-within t unit time z;
-        rows = rw (eq-eqb (forgetOf t unit time .refused) 0 z, same) borne-still;
-        log = rw (eq-eqb (forgetOf t unit time .refused) 0 z) (logged-on (t .time) time o log (g .log));
+        accounts = record {
+          rows = rw (eq-eqb (forgetOf t unit time .refused) 0 z, same) borne-still;
+          past = rw (eq-eqb (forgetOf t unit time .refused) 0 z) (logged-on (t .time) time o log (g .accounts .past));
+        };
       }
 
   forwarded-good : (network : ℕ) (s : List ℕ) (delay time : ℕ) (out : List ℕ) → forwardOf t network s delay time out .answer .refused ≡ 0
@@ -113,8 +100,10 @@ module _ (t : Table) (log : List Update) (g : Good (record { table = t; log = lo
       let accepted = eq-eqb (forwardRefusal t network s delay time (length out)) 0 z in
       record {
         rule = forward-within t network s delay time out z;
-        rows = rw (accepted, same) (standing-every (borne log) time rs (g .rows));
-        log = rw accepted (logged-on (t .time) time (o .ordered) log (g .log));
+        accounts = record {
+          rows = rw (accepted, same) (standing-every (borne log) time rs (g .accounts .rows));
+          past = rw accepted (logged-on (t .time) time (o .ordered) log (g .accounts .past));
+        };
       }
 
 -- ---- those that are refused
@@ -132,6 +121,14 @@ unfolding forwardOf
 forward-kept t network s delay time out z = rw (ne-eqb (forwardRefusal t network s delay time (length out)) 0 z)
 
 -- ---- any call
+-- what holds of the table that a call is given holds of the one that it leaves, if it does where the call is accepted
+pub by-call : (P : Table → Type 0) (n : ℕ) (old new : Table) → ((n ≡ 0 → ⊥) → new ≡ old) → P old → (n ≡ 0 → P new) → P new
+by-call P n old new kept p h = go (ℕ-discrete n 0)
+  where
+    go : Dec (n ≡ 0) → P new
+    go (yes z) = h z
+    go (no z) = rw (kept z) p
+
 -- what holds where a number is 0, and where it is not
 by-number : (P : List Update → Type 0) (n : ℕ) (x y : List Update) → (n ≡ 0 → P x) → ((n ≡ 0 → ⊥) → P y) → P (cond (eqb n 0) x y)
 by-number P n x y h k = go (ℕ-discrete n 0)
@@ -144,16 +141,11 @@ pub good-next : (t : Table) (log : List Update) (c : Call) → Good (record { ta
 good-next t log (merge s quality time) g =
     by-number (λ l. Good (record { table = mergeOf t s quality time .table; log = l })) (mergeOf t s quality time .refused) _ log
     (merged-good t log g s quality time) (λ z. rw (merge-kept t s quality time z) g)
-good-next t log (forget unit time) g = go (ℕ-discrete (forgetOf t unit time .refused) 0)
-  where
-    go : Dec (forgetOf t unit time .refused ≡ 0) → Good (record { table = forgetOf t unit time .table; log = log })
-    go (yes z) = forgotten-good t log g unit time z
-    go (no z) = rw (forget-kept t unit time z) g
-good-next t log (forward network s delay time out) g = go (ℕ-discrete (forwardOf t network s delay time out .answer .refused) 0)
-  where
-    go : Dec (forwardOf t network s delay time out .answer .refused ≡ 0) → Good (record { table = forwardOf t network s delay time out .answer .table; log = log })
-    go (yes z) = forwarded-good t log g network s delay time out z
-    go (no z) = rw (forward-kept t network s delay time out z) g
+good-next t log (forget unit time) g =
+    by-call (λ new. Good (record { table = new; log = log })) (forgetOf t unit time .refused) t _ (forget-kept t unit time) g (forgotten-good t log g unit time)
+good-next t log (forward network s delay time out) g =
+    by-call (λ new. Good (record { table = new; log = log })) (forwardOf t network s delay time out .answer .refused) t _ (forward-kept t network s delay time out) g
+    (forwarded-good t log g network s delay time out)
 good-next t log (lookup d time) g = g
 good-next t log (relay s time out) g = g
 good-next t log (page p time out) g = g
@@ -164,4 +156,4 @@ good-after p (c ∷ cs) g = good-after (record { table = next (p .table) c; log 
 
 pub good-fresh : (own time : ℕ) → freshOf own time .refused ≡ 0 → Good (fresh own time)
 unfolding every freshOf
-good-fresh own time z = record { rule = fresh-within own time z; rows = rw (eq-eqb (freshOf own time .refused) 0 z); log = refl }
+good-fresh own time z = record { rule = fresh-within own time z; accounts = record { rows = rw (eq-eqb (freshOf own time .refused) 0 z); past = refl } }

@@ -15,7 +15,7 @@ use Rattle.shapes.specs.Reading.{refusalAs}
 use Rattle.shapes.specs.Writing.{Wrote}
 use Rattle.traffic.specs.Traffic.{dataKind}
 use Rattle.routes.specs.declared.table.Table.{Table}
-use Rattle.routes.specs.Tables.{withinRule, lookupOf}
+use Rattle.routes.specs.Tables.{withinRule, freshOf, lookupOf}
 use Rattle.routes.proofs.DroppedLaws.{dropped-lookup, dropped-forget, dropped-forgets}
 use Rattle.routes.proofs.KeepLaws.{fresh-within, forget-within}
 use Rattle.merges.proofs.KeepLaws.{merge-within, dropped-merge, dropped-merges}
@@ -23,8 +23,8 @@ use Rattle.relays.specs.Pages.{pageFrame, pageOf, pageReasons}
 use Rattle.relays.specs.Relays.{dataIn, forUs, copyOf, relayRefusal, relayOf, relayReasons}
 use Rattle.relays.proofs.AlikeLaws.{relay-alike, page-alike, forward-refused, forward-written, forward-held, forward-table}
 use Rattle.relays.proofs.ForwardLaws.{forward-within}
-use Rattle.history.specs.TableCalls.{Call, merge, forget, forward, lookup, relay, page, next, answers, newTable, answer, after, fresh}
-use Rattle.history.specs.TableLaws.{Freshness, KeepsRule, RefusedKeeps, StaysWithinRule, GoneRowsDoNotMatter}
+use Rattle.history.specs.TableCalls.{Call, merge, forget, forward, lookup, relay, page, next, answers, newTable, answer, Past, after, fresh}
+use Rattle.history.specs.TableLaws.{AnswersHeard, Freshness, Accounts, FreshnessFrom, KeepsRule, RefusedKeeps, StaysWithinRule, GoneRowsDoNotMatter}
 use Rattle.history.proofs.FreshLaws.{heard}
 use Rattle.history.proofs.LookupLaws.{answering, Found, found, with-values}
 use Rattle.history.proofs.StepLaws.{good-after, good-fresh, merge-kept, forget-kept, forward-kept}
@@ -69,18 +69,25 @@ module _ (t : Table) (s : List ℕ) (time : ℕ) (out : List ℕ) (hop more : �
       (f, sym (ap (λ (x : Said). getD (x .values) 0 0) (f .said)) ∙ ap (λ (x : Said). getD (x .values) 0 0) said)
 
 -- ---- freshness
+answers-heard : (p : Past) → Accounts p → AnswersHeard p
+answers-heard p a time hop more = (
+  λ d e.
+      let f = found (p .table) d time (ap (λ (x : Said). x .refusal) e) in
+      let same : answering (p .table) d .«next_hop» ≡ hop = sym (ap (λ (x : Said). getD (x .values) 0 0) (f .said)) ∙ ap (λ (x : Said). getD (x .values) 0 0) e in
+      rw (← same) (heard p d time a f),
+  λ s out e.
+      let (f, same) = onward (p .table) s time out hop more e (forUs (p .table) s) refl in
+      rw (← same) (heard p (dataIn s .destination) time a f),
+)
+
+accounts-after : (own began : ℕ) (cs : List Call) → freshOf own began .refused ≡ 0 → Accounts (after (fresh own began) cs)
+accounts-after own began cs z = good-after (fresh own began) cs (good-fresh own began z) .accounts
+
 pub freshness : Freshness
-freshness own began cs time hop more z =
-    let p = after (fresh own began) cs in
-    let g = good-after (fresh own began) cs (good-fresh own began z) in (
-      λ d e.
-          let f = found (p .table) d time (ap (λ (x : Said). x .refusal) e) in
-          let same : answering (p .table) d .«next_hop» ≡ hop = sym (ap (λ (x : Said). getD (x .values) 0 0) (f .said)) ∙ ap (λ (x : Said). getD (x .values) 0 0) e in
-          rw (← same) (heard (p .log) (p .table) d time (g .rows) (g .log) f),
-      λ s out e.
-          let (f, same) = onward (p .table) s time out hop more e (forUs (p .table) s) refl in
-          rw (← same) (heard (p .log) (p .table) (dataIn s .destination) time (g .rows) (g .log) f),
-    )
+freshness own began cs z = answers-heard (after (fresh own began) cs) (accounts-after own began cs z)
+
+pub freshness-from : FreshnessFrom
+freshness-from = (accounts-after, λ p cs w a. answers-heard (after p cs) (good-after p cs (record { rule = w; accounts = a }) .accounts))
 
 pub stays-within-rule : StaysWithinRule
 stays-within-rule own began cs z = good-after (fresh own began) cs (good-fresh own began z) .rule

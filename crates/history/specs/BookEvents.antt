@@ -90,20 +90,33 @@ pub record Grant : Type 0 where
 abbrev pub grant : List ℕ → ℕ → Grant
 grant told time = record { told = told; time = time }
 
--- what an accepted event of the unit itself makes of its grant
-abbrev pub renewed : Event → Answer → Grant → Grant
-renewed (call (join s time out)) a g = grant (toldIn (a .written / 13) (a .held)) time
-renewed (call (ask s time out)) a g = grant (toldIn (a .written / 13) (a .held)) time
-renewed (call (heard unit time)) a g = grant (g .told) time
-renewed (call (leave unit time)) a g = grant [] time
-renewed (call (schedule unit hop time out)) a g = g
-renewed (image time out) a g = g
+-- how an answer is read: the slots that so many response frames in a buffer tell
+abbrev pub Telling : Type 0
+Telling = ℕ → List ℕ → List ℕ
 
--- an event that is refused, or about another unit, changes nothing of it
+-- what an accepted event of the unit itself makes of its grant, its answer read so
+abbrev pub renewedBy : Telling → Event → Answer → Grant → Grant
+renewedBy told (call (join s time out)) a g = grant (told (a .written / 13) (a .held)) time
+renewedBy told (call (ask s time out)) a g = grant (told (a .written / 13) (a .held)) time
+renewedBy told (call (heard unit time)) a g = grant (g .told) time
+renewedBy told (call (leave unit time)) a g = grant [] time
+renewedBy told (call (schedule unit hop time out)) a g = g
+renewedBy told (image time out) a g = g
+
+-- what any event makes of it: one that is refused, or about another unit, changes nothing
+abbrev pub changedBy : Telling → ℕ → Event → Answer → Grant → Grant
+changedBy told unit e a g = cond (eqb (a .refused) 0 && eqb (unitOf e) unit) (renewedBy told e a g) g
+
+abbrev pub grantedBy : Telling → ℕ → Grant → List Happened → Grant
+grantedBy told unit g [] = g
+grantedBy told unit g (h ∷ hs) = grantedBy told unit (changedBy told unit (h .event) (h .answer) g) hs
+
+-- the slot of each frame, cut out of its 13 bytes
+abbrev pub renewed : Event → Answer → Grant → Grant
+renewed = renewedBy toldIn
+
 abbrev pub granted : ℕ → Grant → List Happened → Grant
-granted unit g [] = g
-granted unit g (h ∷ hs) =
-    granted unit (cond (eqb (h .answer .refused) 0 && eqb (unitOf (h .event)) unit) (renewed (h .event) (h .answer) g) g) hs
+granted = grantedBy toldIn
 
 -- what a unit has at the start: what its row says, in the fresh book or in the image
 abbrev pub granting : Stated → ℕ → Grant
@@ -121,6 +134,10 @@ abbrev pub grantedAt : Start → List Event → ℕ → ℕ → List ℕ
 grantedAt start es unit time =
     let b = begun start .book in
     counts (b .plan) unit time (granted unit (granting b unit) (recorded b es))
+
+-- addresses are 1 to this
+abbrev pub lastAddress : ℕ
+lastAddress = 0xFFFE
 
 -- the data slots among them: all but the first, over all the units from 1 to n
 abbrev pub grantedTo : Start → List Event → ℕ → ℕ → ℕ

@@ -19,7 +19,7 @@ use Rattle.joins.specs.Joins.{joinOf}
 use Rattle.joins.specs.Responses.{slotsTold}
 use Rattle.keeping.specs.Calls.{join, ask, heard, leave, schedule}
 use Rattle.keeping.specs.Laws.{full, Newcomer, due, Admitted, holding, kindIn}
-use Rattle.history.specs.BookEvents.{Start, begun, Event, call, image, unitOf, after, answer, Happened, recorded, grantedAt, grantedTo}
+use Rattle.history.specs.BookEvents.{Start, begun, Event, call, image, unitOf, after, answer, Happened, recorded, grantedAt, lastAddress, grantedTo}
 
 -- the book after a history
 abbrev pub bookAfter : Start → List Event → Stated
@@ -93,7 +93,7 @@ abbrev pub AlwaysD : Type 0
 AlwaysD =
     (start : Start) (es : List Event) (time : ℕ) → begun start .refused ≡ 0 → inOrder (bookAfter start es .time) time ≡ true
     → let b = bookAfter start es in
-    count (free (b .plan .«data_slots») (rowsAt b time)) + grantedTo start es time 0xFFFE ≡ b .plan .«data_slots»
+    count (free (b .plan .«data_slots») (rowsAt b time)) + grantedTo start es time lastAddress ≡ b .plan .«data_slots»
 
 -- ---- sending
 -- in schedules made from the book at one time, no control or data slot has two senders, and two units send in one beacon slot only at equal hop

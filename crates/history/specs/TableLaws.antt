@@ -1,17 +1,19 @@
--- What holds of every table that comes from a fresh one, as statements.
+-- What holds of every table that comes from a fresh one or a stored one, as statements.
 -- Assumes nothing.
 use mathlib.Core.Path.{_≡_}
-use mathlib.Core.Bool.{Bool, true, false, not}
+use mathlib.Core.Bool.{Bool, true, false, not, _||_}
 use mathlib.Core.List.{List, [], _∷_}
 use Prim.Native.Nat.{ℕ, _≤_}
 use Rattle.octets.specs.Answers.{accepted}
+use Rattle.octets.specs.Lists.{every}
 use Rattle.moments.specs.Moments.{ageAt, inOrder}
+use Rattle.routes.specs.declared.row.Row.{Row}
 use Rattle.routes.specs.declared.table.Table.{Table}
 use Rattle.routes.specs.Rows.{standing}
 use Rattle.routes.specs.Tables.{rowsOf, withinRule, dropped, freshOf, lookupOf}
 use Rattle.relays.specs.Pages.{pageThere}
 use Rattle.relays.specs.Relays.{relayOf}
-use Rattle.history.specs.TableCalls.{Call, merge, forget, forward, lookup, relay, page, timeOf, next, answer, Update, after, fresh, timesFrom}
+use Rattle.history.specs.TableCalls.{Call, merge, forget, forward, lookup, relay, page, timeOf, next, answer, Update, Past, after, fresh, timesFrom}
 
 -- ---- freshness
 -- updates from this unit have been accepted, and the last of them no later than this time and at most 300,000 ms before it
@@ -22,12 +24,41 @@ pub record Heard (log : List Update) (unit time : ℕ) : Type 0 where
   pub past : inOrder last time ≡ true
   pub recent : ageAt time last ≤ 300000
 
--- From a fresh table on, over any list of calls, accepted or refused: where a lookup or a relay answers a next hop, that unit was heard
+-- where a lookup or a relay answers a next hop, that unit was heard
+abbrev pub AnswersHeard : Past → Type 0
+AnswersHeard p =
+    (time hop more : ℕ)
+    → ((d : ℕ) → lookupOf (p .table) d time ≡ accepted (hop ∷ more ∷ []) → Heard (p .log) hop time)
+    × ((s out : List ℕ) → relayOf (p .table) s time out .said ≡ accepted (hop ∷ more ∷ []) → Heard (p .log) hop time)
+
+-- so it is from a fresh table on, over any list of calls, accepted or refused
 abbrev pub Freshness : Type 0
-Freshness =
-    (own began : ℕ) (cs : List Call) (time hop more : ℕ) → freshOf own began .refused ≡ 0
-    → ((d : ℕ) → lookupOf (after (fresh own began) cs .table) d time ≡ accepted (hop ∷ more ∷ []) → Heard (after (fresh own began) cs .log) hop time)
-    × ((s out : List ℕ) → relayOf (after (fresh own began) cs .table) s time out .said ≡ accepted (hop ∷ more ∷ []) → Heard (after (fresh own began) cs .log) hop time)
+Freshness = (own began : ℕ) (cs : List Call) → freshOf own began .refused ≡ 0 → AnswersHeard (after (fresh own began) cs)
+
+-- the first of some times is no earlier than this one
+abbrev pub since : ℕ → List ℕ → Bool
+since time [] = false
+since time (last ∷ earlier) = inOrder time last
+
+-- a log bears a row: the row is withdrawn, or updates from its next hop are logged, the last of them no earlier than the row's time
+abbrev pub borne : List Update → Row → Bool
+borne log r = r .withdrawn || since (r .time) (timesFrom (r .«next_hop») log)
+
+-- an update was logged no later than a time
+abbrev pub before : ℕ → Update → Bool
+before time u = inOrder (u .at) time
+
+-- a log accounts for a table: it bears every row, and has no update after the table's last accepted time
+pub record Accounts (p : Past) : Type 0 where
+  pub rows : every (borne (p .log)) (rowsOf (p .table)) ≡ true
+  pub past : every (before (p .table .time)) (p .log) ≡ true
+
+-- a log along a history accounts for its table; and from any table within rule on whose log accounts for it, as one that was stored with its log, every
+-- next hop that is answered was heard
+abbrev pub FreshnessFrom : Type 0
+FreshnessFrom =
+    ((own began : ℕ) (cs : List Call) → freshOf own began .refused ≡ 0 → Accounts (after (fresh own began) cs))
+    × ((p : Past) (cs : List Call) → withinRule (p .table) ≡ true → Accounts p → AnswersHeard (after p cs))
 
 -- ---- the rule
 -- a fresh table is within rule, and so is the table after every accepted call

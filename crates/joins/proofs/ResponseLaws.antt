@@ -27,11 +27,11 @@ use Rattle.site.specs.Schedules.{controlSlot, dataSlot}
 use Rattle.joins.specs.Responses.{listed, slotsTold, response, responsesFor, responses, toldIn}
 
 -- ---- how many bytes
-length-response : (p : Plan) (unit time slot : ℕ) → length (response p unit time slot) ≡ 13
+pub length-response : (p : Plan) (unit time slot : ℕ) → length (response p unit time slot) ≡ 13
 length-response p unit time slot = length-sealed _ ∙ simp (length-append, length-digits)
 
 -- one frame a slot
-length-for : (p : Plan) (unit time : ℕ) (slots : List ℕ) → length (responsesFor p unit time slots) ≡ 13 * length slots
+pub length-for : (p : Plan) (unit time : ℕ) (slots : List ℕ) → length (responsesFor p unit time slots) ≡ 13 * length slots
 length-for p unit time [] = refl
 length-for p unit time (slot ∷ slots) =
     let h = length-for p unit time slots in
@@ -121,10 +121,10 @@ pub length-responses : (p : Plan) (unit time row : ℕ) (own : Slots 64) → len
 length-responses p unit time row own = length-told 64 p unit time row own
 
 -- ---- read back
--- each slot fits its two bytes
-abbrev pub Small : List ℕ → Type 0
-Small [] = Unit
-Small (slot ∷ slots) = (slot < 256 ^ 2) × Small slots
+-- each slot is below a bound
+abbrev pub Below : ℕ → List ℕ → Type 0
+Below bound [] = Unit
+Below bound (slot ∷ slots) = (slot < bound) × Below bound slots
 
 -- the slot of a frame stands behind its type, its node and its status
 slot-behind : (slot : ℕ) (a b c e x r : List ℕ) → length (a ++ (b ++ c)) ≡ 4 → slot < 256 ^ 2
@@ -141,7 +141,7 @@ slot-told p unit time slot rest h =
     slot-behind slot (digits 1 (joinResponse .code)) (digits 2 unit) (digits 1 0) (digits 4 time ++ (digits 2 (p .network) ++ [])) (xors 0 (fields-all ++ []) ∷ []) rest
     (simp (length-append, length-digits)) h
 
-told-for : (p : Plan) (unit time : ℕ) (slots rest : List ℕ) → Small slots → toldIn (length slots) (responsesFor p unit time slots ++ rest) ≡ slots
+told-for : (p : Plan) (unit time : ℕ) (slots rest : List ℕ) → Below (256 ^ 2) slots → toldIn (length slots) (responsesFor p unit time slots ++ rest) ≡ slots
 told-for p unit time [] rest h = refl
 told-for p unit time (slot ∷ slots) rest h =
     let one = response p unit time slot in
@@ -150,8 +150,8 @@ told-for p unit time (slot ∷ slots) rest h =
     ap (λ (s : List ℕ). joinResponseFrom (valuesIn joinResponse s) .slot ∷ toldIn (length slots) (drop 13 s)) (append-assoc one more rest)
     ∙ ap₂ {C = List ℕ} _∷_ (slot-told p unit time slot (more ++ rest) (h .0)) (ap (toldIn (length slots)) behind ∙ told-for p unit time slots rest (h .1))
 
--- of responses in a buffer that has room for them, so many as there are tell their slots
-pub told-back : (p : Plan) (unit time : ℕ) (slots out : List ℕ) → Small slots → let all = responsesFor p unit time slots in
+-- of responses in a buffer that has room for them, so many as there are tell their slots, if these fit their two bytes
+pub told-back : (p : Plan) (unit time : ℕ) (slots out : List ℕ) → Below (256 ^ 2) slots → let all = responsesFor p unit time slots in
     length all ≤ length out → toldIn (length all / 13) (sets out 0 all) ≡ slots
 told-back p unit time slots out h l =
     let all = responsesFor p unit time slots in
@@ -159,18 +159,24 @@ told-back p unit time slots out h l =
     let whole : sets out 0 all ≡ all ++ drop (0 + length all) out = sets-eq all out 0 (omega (arith, l)) in
     ap₂ {C = List ℕ} toldIn many whole ∙ told-for p unit time slots (drop (0 + length all) out) h
 
--- the slots that a member is told of are among the first of a superframe
-small-listed : {w : ℕ} (p : Plan) (own : Slots w) (i n : ℕ) → dataAt p + i + n ≤ 256 ^ 2 → Small (map (dataSlot p) (listed own i n))
-small-listed p own i zero h = tt
-small-listed p own i (suc n) h = go (has own i) (map (dataSlot p) (listed own (suc i) n)) refl (small-listed p own (suc i) n (omega (arith, h)))
+-- the slots that a member is told of are below a bound that its control slot and the 64 that may be data slots are below
+below-listed : (bound : ℕ) {w : ℕ} (p : Plan) (own : Slots w) (i n : ℕ) → dataAt p + i + n ≤ bound → Below bound (map (dataSlot p) (listed own i n))
+below-listed bound p own i zero h = tt
+below-listed bound p own i (suc n) h =
+    go (has own i) (map (dataSlot p) (listed own (suc i) n)) refl (below-listed bound p own (suc i) n (omega (arith, h)))
   where
-    go : (t : Bool) (l : List ℕ) → map (dataSlot p) (listed own (suc i) n) ≡ l → Small l → Small (map (dataSlot p) (cond t (i ∷ listed own (suc i) n) (listed own (suc i) n)))
+    go : (t : Bool) (l : List ℕ) → map (dataSlot p) (listed own (suc i) n) ≡ l → Below bound l
+        → Below bound (map (dataSlot p) (cond t (i ∷ listed own (suc i) n) (listed own (suc i) n)))
     go true l e s = (omega (arith, h), rw e s)
     go false l e s = rw e s
 
+pub below-told : (bound w : ℕ) (p : Plan) (row : ℕ) (own : Slots w) → controlSlot p row < bound → dataAt p + w ≤ bound
+    → Below bound (controlSlot p row ∷ map (dataSlot p) (listed own 0 w))
+below-told bound w p row own h l = (h, below-listed bound p own 0 w (omega (arith, l)))
+
 pub small-told : (w : ℕ) (p : Plan) (row : ℕ) (own : Slots w) → controlSlot p row < 256 ^ 2 → dataAt p + w ≤ 256 ^ 2
-    → Small (controlSlot p row ∷ map (dataSlot p) (listed own 0 w))
-small-told w p row own h l = (h, small-listed p own 0 w (omega (arith, l)))
+    → Below (256 ^ 2) (controlSlot p row ∷ map (dataSlot p) (listed own 0 w))
+small-told w p row own h l = below-told (256 ^ 2) w p row own h l
 
 -- ---- one frame
 -- the type and the fields of a kind that has nothing behind them, and the checksum

@@ -8,5 +8,6 @@ pub mod RuleLaws
 pub mod SendingLaws
 pub mod ShareLaws
 pub mod SilenceLaws
+pub mod SizeLaws
 pub mod TakingLaws
 pub mod WrittenLaws

@@ -3,7 +3,7 @@
 use mathlib.Core.Path.{_≡_}
 use mathlib.Core.Bool.{Bool, true, false, not, _&&_, _||_}
 use mathlib.Core.List.{List, [], _∷_}
-use Prim.Native.Nat.{ℕ, _+_, _*_, _≤_, min}
+use Prim.Native.Nat.{ℕ, _+_, _*_, _≤_, _<_, min}
 use lib.Dec.{eqb, leb}
 use lib.ListN.{length, getD}
 use Rattle.octets.specs.Lists.{every}
@@ -18,6 +18,7 @@ use Rattle.members.specs.Members.{Row, emptyRow, vacantRow, rowFor, free, spare
 use Rattle.book.specs.Books.{Stated, withinRule, rowsAt, liveAt, freshOf}
 use Rattle.book.specs.Schedules.{scheduleOf}
 use Rattle.joins.specs.Joins.{wish, granted, joinIn, joinOf, askIn, askOf}
+use Rattle.ledgers.specs.Trips.{Sized}
 use Rattle.keeping.specs.Calls.{Call, join, ask, heard, leave, schedule, timeOf, unitOf, refusalOf, next}
 
 -- ---- the rule
@@ -34,6 +35,10 @@ RefusedKeeps = (b : Stated) (c : Call) → (refusalOf b c ≡ 0 → ⊥) → nex
 -- no call changes the plan, or the number of places
 abbrev pub KeepsPlan : Type 0
 KeepsPlan = (b : Stated) (c : Call) → (next b c .plan ≡ b .plan) × (length (next b c .places) ≡ length (b .places))
+
+-- a call at a time of 32 bits, given a book of 21 places whose numbers fit their bytes, leaves such a book, whatever else it is given
+abbrev pub KeepsSize : Type 0
+KeepsSize = (b : Stated) (c : Call) → timeOf c < 0x100000000 → Sized b → Sized (next b c)
 
 -- ---- joining
 -- every row of the plan is live

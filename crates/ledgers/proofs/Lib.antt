@@ -1,2 +1,3 @@
 pub mod BookByteLaws
+pub mod SizeLaws
 pub mod TripLaws

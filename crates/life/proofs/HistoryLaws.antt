@@ -1,32 +1,49 @@
 -- What holds of calls one after the other: the statements of specs/Laws on lists of calls, proved.
 -- Assumes nothing.
-use mathlib.Core.Path.{_≡_, refl, ap}
+use mathlib.Core.Path.{_≡_, refl, sym, ap, subst}
 use mathlib.Core.Bool.{Bool, true, false, not, _||_, false≢true, and-eq-true-iff}
 use mathlib.Core.List.{List, [], _∷_}
 use Prim.Native.Nat.{ℕ, zero, suc, _*_, _<_, _≤_}
 use native.Mathlib.Omega.{arith}
-use borrow.Author.Tests.{lt-ltb, le-ltb, eq-eqb, eqb-true, leb-true}
+use borrow.Author.Tests.{lt-ltb, le-ltb, eq-eqb, eqb-true, eqb-false, leb-true}
 use lib.Dec.{eqb, ltb}
 use Rattle.octets.specs.Answers.{Reason, reason, first}
+use Rattle.octets.specs.Lists.{every}
 use Rattle.octets.proofs.AnswerLaws.{numbered, never-given}
+use Rattle.octets.proofs.CallLaws.{after-refused}
 use Rattle.moments.specs.Moments.{ageAt, inOrder}
-use Rattle.life.specs.States.{Discovery, Joining, Normal, Recovery, Stopped, Nowhere, ready, beacon, accepted, roleChange, recovered, leadsTo, tickTo}
+use Rattle.life.specs.States.{Discovery, Joining, Normal, Recovery, Stopped, Nowhere, ready, beacon, accepted, roleChange, recovered, known, leadsTo, tickTo}
 use Rattle.life.specs.declared.state.State.{State}
 use Rattle.life.specs.Calls.{withinRule, freshState, reasons, onEvent, superframeRule, onTick, gone}
-use Rattle.life.specs.Histories.{Call, event, tick, eventsAt, answer, run, early, quiet}
-use Rattle.life.specs.Laws.{StaysWithinRule, wrongSuperframe, OnlyForSuperframes, NoOtherTrap, NoticesSilence}
+use Rattle.life.specs.Histories.{Call, event, tick, timeOf, answer, run, allAt, early, quiet}
+use Rattle.life.specs.Laws.{StaysWithinRule, wrongSuperframe, OnlyForSuperframes, RefusedKeeps, NoOtherTrap, NoticesSilence}
 use Rattle.moments.proofs.MomentLaws.{in-order-self}
 use Rattle.life.proofs.TableLaws.{of-choice}
-use Rattle.life.proofs.LifeLaws.{keeps-rule}
+use Rattle.life.proofs.LifeLaws.{keeps-rule, stays-stopped}
 
--- what holds of a state holds after a refused call
-refused-stays : (P : State → Type 0) (s : State) (c : Call) → P s → eqb (answer s c .refused) 0 ≡ false → P (answer s c .state)
+-- ---- a call that is refused, and one that is not
+pub refused-keeps : RefusedKeeps
 unfolding onEvent onTick
-refused-stays P s (event number time) h e = rw e h
-refused-stays P s (tick ms time) h e = rw e h
+refused-keeps s (event number time) z = after-refused (onEvent s number time .refused) s _ z
+refused-keeps s (tick ms time) z = after-refused (onTick s ms time .refused) s _ z
+
+-- so what holds of a state holds after a refused call
+refused-stays : (P : State → Type 0) (s : State) (c : Call) → P s → eqb (answer s c .refused) 0 ≡ false → P (answer s c .state)
+refused-stays P s c h e = subst P (sym (refused-keeps s c (eqb-false (answer s c .refused) 0 e))) h
+
+-- an accepted call records its time
+pub accepted-last : (s : State) (c : Call) → answer s c .refused ≡ 0 → answer s c .state .last ≡ timeOf c
+unfolding onEvent onTick gone
+accepted-last s (event number time) e = rw (eq-eqb (onEvent s number time .refused) 0 e)
+accepted-last s (tick ms time) e = rw (eq-eqb (onTick s ms time .refused) 0 e)
+
+-- an accepted event goes where the table leads
+pub event-leads : (s : State) (number time : ℕ) → onEvent s number time .refused ≡ 0 → onEvent s number time .state .kind ≡ leadsTo (s .kind) number
+unfolding onEvent gone
+event-leads s number time e = rw (eq-eqb (onEvent s number time .refused) 0 e)
 
 -- ---- the rule
-accepted-within : (s : State) (c : Call) → answer s c .refused ≡ 0 → withinRule (answer s c .state) ≡ true
+pub accepted-within : (s : State) (c : Call) → answer s c .refused ≡ 0 → withinRule (answer s c .state) ≡ true
 accepted-within s (event number time) z = keeps-rule .1 s time .0 number z
 accepted-within s (tick ms time) z = keeps-rule .1 s time .1 ms z
 
@@ -60,6 +77,12 @@ only-superframes s (tick ms time) w e = go (superframeRule ms) refl
 pub only-for-superframes : OnlyForSuperframes
 only-for-superframes began cs c = only-superframes (run (freshState began) cs) c (stays-within-rule began cs)
 
+-- ---- Stopped
+pub run-stopped : (s : State) (cs : List Call) → s .kind ≡ Stopped → run s cs .kind ≡ Stopped
+run-stopped s [] e = e
+run-stopped s (event number time ∷ cs) e = run-stopped (onEvent s number time .state) cs (stays-stopped s time e .0 number)
+run-stopped s (tick ms time ∷ cs) e = run-stopped (onTick s ms time .state) cs (stays-stopped s time e .1 ms)
+
 -- ---- a way to Normal
 -- what an event needs to be accepted: a state of this kind within rule, and a time in order
 record Ready (s : State) (time kind : ℕ) : Type 0 where
@@ -81,17 +104,17 @@ led {s} {time} {kind} number to e known r =
     }
 
 pub no-other-trap : NoOtherTrap
-unfolding leadsTo
-no-other-trap s time within known ordered = go (s .kind) (record { within = within; ordered = ordered; here = refl }) known
+unfolding leadsTo every
+no-other-trap s time within running ordered = go (s .kind) (record { within = within; ordered = ordered; here = refl }) running
   where
-    go : (kind : ℕ) → Ready s time kind → kind < Stopped → (es : List ℕ) × (eventsAt s es time .kind ≡ Normal)
-    go zero r h = (ready ∷ beacon ∷ accepted ∷ [], led accepted Normal refl refl (led beacon Joining refl refl (led ready Discovery refl refl r)) .here)
-    go (suc zero) r h = (beacon ∷ accepted ∷ [], led accepted Normal refl refl (led beacon Joining refl refl r) .here)
-    go (suc (suc zero)) r h = (accepted ∷ [], led accepted Normal refl refl r .here)
-    go (suc (suc (suc zero))) r h = ([], r .here)
-    go (suc (suc (suc (suc zero)))) r h = (roleChange ∷ [], led roleChange Normal refl refl r .here)
+    go : (kind : ℕ) → Ready s time kind → kind < Stopped → (es : List ℕ) × (every known es ≡ true) × (run s (allAt es time) .kind ≡ Normal)
+    go zero r h = (ready ∷ beacon ∷ accepted ∷ [], refl, led accepted Normal refl refl (led beacon Joining refl refl (led ready Discovery refl refl r)) .here)
+    go (suc zero) r h = (beacon ∷ accepted ∷ [], refl, led accepted Normal refl refl (led beacon Joining refl refl r) .here)
+    go (suc (suc zero)) r h = (accepted ∷ [], refl, led accepted Normal refl refl r .here)
+    go (suc (suc (suc zero))) r h = ([], refl, r .here)
+    go (suc (suc (suc (suc zero)))) r h = (roleChange ∷ [], refl, led roleChange Normal refl refl r .here)
     go (suc (suc (suc (suc (suc zero))))) r h =
-        (recovered ∷ beacon ∷ accepted ∷ [], led accepted Normal refl refl (led beacon Joining refl refl (led recovered Discovery refl refl r)) .here)
+        (recovered ∷ beacon ∷ accepted ∷ [], refl, led accepted Normal refl refl (led beacon Joining refl refl (led recovered Discovery refl refl r)) .here)
     go (suc (suc (suc (suc (suc (suc k)))))) r h = absurd (omega arith)
 
 -- ---- silence

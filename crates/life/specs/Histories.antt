@@ -2,22 +2,22 @@
 -- Assumes nothing.
 use Prim.Native.Nat.{ℕ, _*_}
 use mathlib.Core.Bool.{Bool, true, false, not, _&&_, _||_}
-use mathlib.Core.List.{List, [], _∷_}
+use mathlib.Core.List.{List, [], _∷_, map}
 use lib.Dec.{eqb, leb}
 use Rattle.moments.specs.Moments.{ageAt}
 use Rattle.life.specs.declared.state.State.{State}
 use Rattle.life.specs.declared.state.Lived.{Lived}
 use Rattle.life.specs.Calls.{onEvent, onTick}
 
--- the state after a list of events, all at one time
-abbrev pub eventsAt : State → List ℕ → ℕ → State
-eventsAt s [] time = s
-eventsAt s (e ∷ es) time = eventsAt (onEvent s e time .state) es time
-
 -- a call: an event's number and a time, or a tick's superframe in ms and a time
 pub data Call : Type 0 where
   event : ℕ → ℕ → Call
   tick : ℕ → ℕ → Call
+
+-- when it is made
+abbrev pub timeOf : Call → ℕ
+timeOf (event number time) = time
+timeOf (tick ms time) = time
 
 abbrev pub answer : State → Call → Lived
 answer s (event number time) = onEvent s number time
@@ -27,6 +27,10 @@ answer s (tick ms time) = onTick s ms time
 abbrev pub run : State → List Call → State
 run s [] = s
 run s (c ∷ cs) = run (answer s c .state) cs
+
+-- events, all at one time
+abbrev pub allAt : List ℕ → ℕ → List Call
+allAt numbers time = map (λ number. event number time) numbers
 
 -- a tick no more than three superframes after a beacon
 abbrev pub early : ℕ → Call → Bool

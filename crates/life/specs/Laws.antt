@@ -4,11 +4,12 @@ use mathlib.Core.Path.{_≡_}
 use mathlib.Core.Bool.{Bool, true, false, not}
 use mathlib.Core.List.{List}
 use Prim.Native.Nat.{ℕ, _*_, _<_, _≤_}
+use Rattle.octets.specs.Lists.{every}
 use Rattle.moments.specs.Moments.{ageAt, inOrder}
 use Rattle.life.specs.declared.state.State.{State}
 use Rattle.life.specs.Calls.{withinRule, freshState, onEvent, superframeRule, onTick}
-use Rattle.life.specs.Histories.{Call, event, tick, eventsAt, answer, run, quiet}
-use Rattle.life.specs.States.{Normal, Recovery, Stopped, leadsTo}
+use Rattle.life.specs.Histories.{Call, event, tick, answer, run, allAt, quiet}
+use Rattle.life.specs.States.{Normal, Recovery, Stopped, known, leadsTo}
 
 -- a fresh state is within rule, and every accepted call gives one that is
 abbrev pub KeepsRule : Type 0
@@ -30,6 +31,10 @@ wrongSuperframe (tick ms time) = not (superframeRule ms)
 abbrev pub OnlyForSuperframes : Type 0
 OnlyForSuperframes = (began : ℕ) (cs : List Call) (c : Call) → answer (run (freshState began) cs) c .refused ≡ 14 → wrongSuperframe c ≡ true
 
+-- a call that is refused leaves the state as it was
+abbrev pub RefusedKeeps : Type 0
+RefusedKeeps = (s : State) (c : Call) → (answer s c .refused ≡ 0 → ⊥) → answer s c .state ≡ s
+
 -- Stopped is never left
 abbrev pub StaysStopped : Type 0
 StaysStopped =
@@ -37,11 +42,11 @@ StaysStopped =
     → ((event : ℕ) → onEvent s event time .state .kind ≡ Stopped)
     × ((ms : ℕ) → onTick s ms time .state .kind ≡ Stopped)
 
--- every state within rule that is not Stopped has, at every time in order, a list of events to Normal: there is no other trap
+-- every state within rule that is not Stopped has, at every time in order, a list of the nine events to Normal: there is no other trap
 abbrev pub NoOtherTrap : Type 0
 NoOtherTrap =
     (s : State) (time : ℕ) → withinRule s ≡ true → s .kind < Stopped → inOrder (s .last) time ≡ true
-    → (es : List ℕ) × (eventsAt s es time .kind ≡ Normal)
+    → (es : List ℕ) × (every known es ≡ true) × (run s (allAt es time) .kind ≡ Normal)
 
 -- a unit in Normal that then hears no beacon: an accepted tick leads to Recovery if it comes more than three superframes after the last
 -- beacon, and else stays in Normal

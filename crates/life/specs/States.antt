@@ -1,7 +1,7 @@
 -- The seven states of a unit and document 01's table of them: which event leads where, and which time runs out into what.
 -- Assumes nothing.
 use Prim.Native.Nat.{ℕ, _*_}
-use mathlib.Core.Bool.{_&&_, cond}
+use mathlib.Core.Bool.{Bool, _&&_, cond}
 use mathlib.Core.List.{List, [], _∷_}
 use lib.Dec.{eqb, leb, ltb}
 
@@ -58,6 +58,10 @@ roleChange = 7
 
 abbrev pub recovered : ℕ
 recovered = 8
+
+-- the events are these nine
+abbrev pub known : ℕ → Bool
+known event = leb event recovered
 
 -- ---- what an event does in a state
 pub record Line : Type 0 where

@@ -1,27 +1,23 @@
--- The calls on a plan and on a stored book, from what the core answers.
+-- The calls on a stored book, from what the core answers.
 -- Assumes nothing.
 use mathlib.Core.Path.{_≡_, refl, sym, ap, ap₂, _∙_}
-use mathlib.Core.Bool.{Bool, true, false, not, cond}
-use mathlib.Core.List.{List, [], _∷_}
+use mathlib.Core.Bool.{not, cond}
+use mathlib.Core.List.{List, []}
 use Prim.Native.Nat.{ℕ, _≤_}
 use native.Mathlib.Omega.{arith}
 use borrow.Author.Tests.{eq-eqb, ne-eqb, eqb-true, not-false}
 use lib.Dec.{eqb}
 use lib.ListN.{length}
-use lib.Seq.{sets}
-use Rattle.octets.specs.Answers.{reason, first}
+use Rattle.octets.specs.Answers.{first}
 use Rattle.octets.specs.Calls.{stored, writeLeft}
 use Rattle.octets.proofs.AnswerLaws.{numbered, none-holds, unless-number}
 use Rattle.octets.proofs.CallLaws.{WrittenBack, written-back}
-use Rattle.octets.proofs.StoreLaws.{sets-whole}
 use Rattle.shapes.specs.Writing.{Wrote}
-use Rattle.shapes.proofs.AnsweredLaws.{Valued, Answered, valued, valued-unless, refused-by-some, said-value, answered, told-other, told-done, told-undone}
+use Rattle.shapes.proofs.AnsweredLaws.{Answered, valued, said-value, answered, told-other, told-done, told-undone}
 use Rattle.frames.specs.declared.answers.Refusal.{Refusal}
 use Rattle.frames.specs.declared.answers.Written.{Written}
 use Rattle.frames.specs.Told.{wrote}
-use Rattle.site.specs.declared.plan.Plan.{Plan}
-use Rattle.site.specs.declared.plan.Made.{Made}
-use Rattle.site.specs.Plans.{planRule, slots, toldPlan, planOf}
+use Rattle.site.specs.Plans.{slots}
 use Rattle.book.specs.declared.book.Changed.{Changed}
 use Rattle.book.specs.Books.{Stated, stated, withinRule, Left, leftBy, liveAt}
 use Rattle.book.specs.Schedules.{scheduleRefusal, scheduleOf}
@@ -30,34 +26,10 @@ use Rattle.book.proofs.ScheduleLaws.{few-slots}
 use Rattle.book.proofs.WithinLaws.{within}
 use Rattle.image.specs.Forms.{formSize}
 use Rattle.image.specs.Images.{sections, imageReasons, imageWritten}
-use Rattle.ledgers.specs.PlanBytes.{planSize, planBytes}
+use Rattle.ledgers.specs.PlanBytes.{planSize}
 use Rattle.ledgers.specs.BookBytes.{bookSize, bookBytes}
-use Rattle.ledgers.proofs.BookByteLaws.{length-plan}
-use Rattle.manager.specs.BookCalls.{bookLeft, planCall, leaves, wroteTo}
-
--- ---- a plan
-module _ (s : List ℕ) (network manager hops rows dataSlots ms : ℕ) where
-  plan-valued : Valued (planOf network manager hops rows dataSlots ms)
-  unfolding planOf
-  plan-valued =
-      let p : Plan = record { network = network; manager = manager; «max_hops» = hops; rows = rows; «data_slots» = dataSlots; «slot_ms» = ms } in
-      valued-unless (first (reason (not (planRule p)) 14 ∷ [])) _ (valued network (manager ∷ hops ∷ rows ∷ dataSlots ∷ ms ∷ []))
-
-  pub no-plan : (length s ≡ planSize → ⊥) → bookLeft 14 s ≡ planCall s network manager hops rows dataSlots ms
-  unfolding planCall
-  no-plan e = rw (ne-eqb (length s) planSize e)
-
-  module _ (l : length s ≡ planSize) (made : Made) (e : toldPlan made ≡ planOf network manager hops rows dataSlots ms) where
-    pub planned : (p : Plan) (last : List ℕ) → made ≡ Made.Plan p → last ≡ sets s 0 (planBytes p)
-        → bookLeft 0 last ≡ planCall s network manager hops rows dataSlots ms
-    unfolding planCall
-    planned p last q h = rw (eq-eqb (length s) planSize l, ← e, q, h, sets-whole s (planBytes p) (length-plan p ∙ sym l))
-
-    pub unplanned : (r : Refusal) → made ≡ Made.Refused r → bookLeft (r .number) s ≡ planCall s network manager hops rows dataSlots ms
-    unfolding planCall
-    unplanned r q =
-        let z = refused-by-some (r .number) _ plan-valued (sym (ap toldPlan q) ∙ e) in
-        rw (eq-eqb (length s) planSize l, ← e, q, ne-eqb (r .number) 0 z)
+use Rattle.manager.specs.BookCalls.{bookLeft, leaves, wroteTo}
+use Rattle.manager.proofs.PlanCallLaws.{stored-number}
 
 -- ---- calls that change a book
 -- the facts are, in order, what `write_back` and `refuse_if` ensure
@@ -70,11 +42,7 @@ kept s last status number a w n =
 -- a fresh book under the number that its plan's length gives
 pub opened : (plan : List ℕ) (a new : Left) (said : ℕ) → a ≡ new → said ≡ cond (not (eqb (length plan) planSize)) 14 (a .refused)
     → _≡_ {A = Left} (record { refused = said; book = a .book }) (record { refused = stored planSize plan (new .refused); book = new .book })
-opened plan a new said e m = rw (m, e, turned (eqb (length plan) planSize))
-  where
-    turned : (b : Bool) → cond (not b) 14 (new .refused) ≡ cond b (new .refused) 14
-    turned true = refl
-    turned false = refl
+opened plan a new said e m = rw (m, e, stored-number planSize plan (new .refused))
 
 -- ---- calls that fill a buffer
 pub schedule-answered : (b : Stated) (unit hop time : ℕ) (out : List ℕ) → Answered out (scheduleOf b unit hop time out)

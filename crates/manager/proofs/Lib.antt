@@ -1,1 +1,2 @@
 pub mod BookCallLaws
+pub mod PlanCallLaws

@@ -1,15 +1,14 @@
--- What the calls on a plan and on a stored book return and leave.
+-- What the calls on a stored book return and leave.
 -- Assumes nothing.
 use Prim.Native.Nat.{ℕ}
 use mathlib.Core.List.{List}
 use lib.ListN.{getD}
 use Rattle.octets.specs.Calls.{after, stored, WriteLeft, writeLeft}
 use Rattle.shapes.specs.Writing.{Wrote}
-use Rattle.site.specs.Plans.{planOf}
 use Rattle.book.specs.Books.{Left, freshOf, heardOf, leaveOf}
 use Rattle.book.specs.Schedules.{scheduleOf}
 use Rattle.image.specs.Images.{imageWritten, restoreOf}
-use Rattle.ledgers.specs.PlanBytes.{planSize, planFrom, planAt, planBytes}
+use Rattle.ledgers.specs.PlanBytes.{planSize, planAt}
 use Rattle.ledgers.specs.BookBytes.{bookSize, bookIn, bookBytes}
 
 -- ---- a changing call: the status, and the bytes of the plan or the book
@@ -19,13 +18,6 @@ pub record BookLeft : Type 0 where
 
 abbrev pub bookLeft : ℕ → List ℕ → BookLeft
 bookLeft status book = record { status = status; book = book }
-
--- a plan: only the number of bytes matters, not what they were
-unfoldable pub planCall : List ℕ → ℕ → ℕ → ℕ → ℕ → ℕ → ℕ → BookLeft
-planCall s network manager hops rows dataSlots ms =
-    let said = planOf network manager hops rows dataSlots ms in
-    let status = stored planSize s (said .refusal) in
-    bookLeft status (after status s (planBytes (planFrom (said .values))))
 
 -- a call over a buffer that answers so: 14 where the buffer has not a book's size, else the answer's number, and the new book where that is 0
 abbrev pub leaves : List ℕ → Left → BookLeft

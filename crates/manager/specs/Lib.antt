@@ -1,1 +1,2 @@
 pub mod BookCalls
+pub mod PlanCalls

@@ -1,8 +1,9 @@
-// A plan of 9 bytes and a member book of 307, kept by the caller: made, a member heard or gone, and its schedule.
+// A member book of 307 bytes, kept by the caller: made of a plan, a member heard or gone, and its schedule.
 ghost use mathlib.Core.Path.{_≡_};
 ghost use Rattle.octets.specs.Calls.{writeLeft};
 ghost use Rattle.book.specs.Books.{leftBy};
-ghost use Rattle.manager.specs.BookCalls.{bookLeft, leaves, planCall, freshCall, heardCall, leaveCall, scheduleCall};
+ghost use Rattle.manager.specs.BookCalls.{bookLeft, leaves, freshCall, heardCall, leaveCall, scheduleCall};
+use crate::plan_calls::PLAN_SIZE;
 use book::book::Book;
 use book::book::Changed;
 use frames::answers::Written;
@@ -10,12 +11,7 @@ use ledgers::books::BOOK_SIZE;
 use ledgers::books::book_of;
 use ledgers::books::write_back;
 use ledgers::plans::plan_of;
-use ledgers::plans::put_plan;
 use octets::answers::refuse_if;
-use site::plan::Made;
-use site::plan::Plan;
-
-const PLAN_SIZE: usize = 9;
 
 // The end of every call that changes a book: the new one goes to the buffer, unless that is no book's or the call was refused.
 pub(crate) fn keep(book: &mut [u8], changed: Changed) -> u8
@@ -24,31 +20,6 @@ pub(crate) fn keep(book: &mut [u8], changed: Changed) -> u8
     let next = changed.book;
     let refused = refuse_if(book.len() != BOOK_SIZE, 14, changed.refused);
     write_back(book, refused, next)
-}
-
-// Makes a site's plan of its six numbers.
-#[no_mangle]
-pub extern "C" fn braidlark_plan(
-    plan: &mut [u8],
-    network: u16,
-    manager: u16,
-    max_hops: u8,
-    rows: u8,
-    data_slots: u8,
-    slot_ms: u16,
-) -> u8
-    ensures { λ r. ⌜ bookLeft r (now (plan .exit)) ≡ planCall (now (plan .entry)) network manager «max_hops» rows «data_slots» «slot_ms» ⌝ }
-{
-    if plan.len() != PLAN_SIZE {
-        return 14;
-    }
-    match Plan::new(network, manager, max_hops, rows, data_slots, slot_ms) {
-        Made::Plan(made) => {
-            put_plan(plan, 0, made);
-            0
-        }
-        Made::Refused(refusal) => refusal.number,
-    }
 }
 
 // Makes the book of a plan, with the manager in row 0 and this time as last accepted.
@@ -88,7 +59,7 @@ pub extern "C" fn braidlark_leave(book: &mut [u8], unit: u16, time: u32) -> u8
 pub extern "C" fn braidlark_schedule(
     book: &[u8],
     unit: u16,
-    hop: u8,
+    hop: u32,
     time: u32,
     out: &mut [u8],
     written: &mut u32,

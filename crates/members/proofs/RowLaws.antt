@@ -27,13 +27,6 @@ every-map test test′ f on (r ∷ rs) e =
     let (here, later) = and-eq-true-iff (test r) (every test rs) .0 e in
     and-eq-true-iff (test′ (f r)) (every test′ (map f rs)) .1 (on r here, every-map test test′ f on rs later)
 
-pub every-on : (test test′ : Row → Bool) → ((r : Row) → test r ≡ true → test′ r ≡ true) → (rs : List Row) → every test rs ≡ true → every test′ rs ≡ true
-unfolding every
-every-on test test′ on [] e = refl
-every-on test test′ on (r ∷ rs) e =
-    let (here, later) = and-eq-true-iff (test r) (every test rs) .0 e in
-    and-eq-true-iff (test′ r) (every test′ rs) .1 (on r here, every-on test test′ on rs later)
-
 pub every-set : (test : Row → Bool) (rs : List Row) (at : ℕ) (r : Row) → test r ≡ true → every test rs ≡ true → every test (set rs at r) ≡ true
 unfolding every
 every-set test [] at r h e = refl

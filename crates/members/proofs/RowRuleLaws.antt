@@ -9,7 +9,7 @@ use borrow.Author.Tests.{eq-eqb, ne-eqb, eqb-true, le-leb, leb-true}
 use lib.Dec.{eqb, leb}
 use lib.ListN.{length, set}
 use Rattle.octets.specs.Lists.{every}
-use Rattle.octets.proofs.ListLaws.{every-at}
+use Rattle.octets.proofs.ListLaws.{every-at, every-on}
 use Rattle.moments.specs.Moments.{inOrder}
 use Rattle.moments.proofs.MomentLaws.{in-order-on}
 use Rattle.shapes.specs.Rules.{address}
@@ -19,7 +19,7 @@ use Rattle.slots.proofs.CountLaws.{empty-by-count, count-of-union, count-of-min
 use Rattle.slots.proofs.LowestLaws.{count-of-firsts}
 use Rattle.members.specs.Members.{Row, emptyRow, vacantRow, current, rowFor, held, free, vacant, spare}
 use Rattle.members.specs.Rules.{emptyIs, rowRule, distinct, apart, ledBy, rowsRule}
-use Rattle.members.proofs.RowLaws.{row, every-on, every-current, every-set}
+use Rattle.members.proofs.RowLaws.{row, every-current, every-set}
 use Rattle.members.proofs.RowSums.{weigh, weigh-set, weigh-current, one, tally, ofUnit, owns, distinct-tally, tally-distinct, held-none, apart-tally, tally-apart}
 
 -- ---- one row

@@ -1,9 +1,9 @@
 -- A merge that is accepted gives a table within rule, and it does so whether or not the rows that are gone were there.
 -- Assumes nothing.
 use mathlib.Core.Path.{_≡_, refl, sym, ap, _∙_}
-use mathlib.Core.Bool.{Bool, true, false, not, _&&_, _||_, cond, and-eq-true-iff, false≢true}
-use mathlib.Core.List.{List, [], _∷_}
-use Prim.Native.Nat.{ℕ, _≤_}
+use mathlib.Core.Bool.{Bool, true, false, not, _||_, false≢true}
+use mathlib.Core.List.{List}
+use Prim.Native.Nat.{ℕ, _≤_, _<_}
 use native.Mathlib.Omega.{arith}
 use borrow.Author.Tests.{eq-eqb, le-leb}
 use lib.Dec.{eqb}
@@ -14,19 +14,20 @@ use Rattle.shapes.specs.Shape.{partIn}
 use Rattle.traffic.specs.declared.entry.Entry.{Entry}
 use Rattle.traffic.specs.Traffic.{entryRule, update, entriesOf}
 use Rattle.routes.specs.declared.table.Table.{Table}
-use Rattle.routes.specs.Rows.{rowRule, ascending, standing}
+use Rattle.routes.specs.Rows.{rowRule, standing}
 use Rattle.routes.specs.Tables.{rowsOf, withinRule, withRows, dropped}
 use Rattle.routes.proofs.DroppedLaws.{dropped-within, dropped-standing}
 use Rattle.routes.proofs.KeepLaws.{standing-rules}
 use Rattle.routes.proofs.RuleLaws.{rule-withdrawn, within-pad}
 use Rattle.routes.proofs.StandingLaws.{standing-ascending}
-use Rattle.routes.proofs.TableLaws.{within}
+use Rattle.routes.proofs.TableLaws.{within, few-stand}
 use Rattle.merges.specs.declared.candidate.Candidate.{Candidate}
-use Rattle.merges.specs.Candidates.{neighbour, offered, passedOver, offers, candidates}
+use Rattle.merges.specs.Candidates.{neighbour, offered, offers, candidates}
 use Rattle.merges.specs.Learning.{learned}
 use Rattle.merges.specs.Merges.{updateIn, mergeRefusal, mergedRows, mergeOf}
-use Rattle.merges.proofs.CandidateLaws.{good-hops, good-quality}
-use Rattle.merges.proofs.LearnLaws.{Kept, Kepts, learn-all-every, learn-all-ascending}
+use Rattle.merges.proofs.CandidateLaws.{good-hops, good-quality, entry-unit, entry-some, Each, offers-each}
+use Rattle.merges.proofs.FewLaws.{Few, learn-all-few}
+use Rattle.merges.proofs.LearnLaws.{Kept, learn-all-every}
 use Rattle.merges.proofs.MergeLaws.{Mergeable, mergeable, some-origin}
 
 -- ---- a candidate's row is within rule
@@ -49,31 +50,15 @@ module _ (own via time : ℕ) (a : address via ≡ true) (o : not (eqb via own) 
         back = rule-withdrawn own time;
       }
 
-  offers-kept : (quality : ℕ) (es : List Entry) → every entryRule es ≡ true → Kepts (rowRule own time) via time (offers own via quality es)
-  unfolding every
-  offers-kept quality [] r = tt
-  offers-kept quality (e ∷ es) r =
-      let (here, later) = and-eq-true-iff (entryRule e) (every entryRule es) .0 r in
-      go (passedOver own via e) refl here (offers-kept quality es later)
+  offers-kept : (quality : ℕ) (es : List Entry) → every entryRule es ≡ true → Each (Kept (rowRule own time) via time) (offers own via quality es)
+  offers-kept quality =
+      offers-each own via quality (Kept (rowRule own time) via time) entryRule
+      (λ e r q.
+      candidate-kept (offered quality e) (entry-unit e r) (unlike (eqb (e .destination) own) (eqb (e .destination) via) (eqb (e .«next_hop») own) q) (omega arith))
     where
-      first : (d n h : Bool) → (d && n && h) ≡ true → d ≡ true
-      first true n h e = refl
-      first false n h e = absurd (false≢true e)
-
       unlike : (x y z : Bool) → (x || y || z) ≡ false → not x ≡ true
       unlike true y z e = absurd (false≢true (sym e))
       unlike false y z e = refl
-
-      go : (b : Bool) → passedOver own via e ≡ b → entryRule e ≡ true → Kepts (rowRule own time) via time (offers own via quality es)
-          → Kepts (rowRule own time) via time (cond b (offers own via quality es) (offered quality e ∷ offers own via quality es))
-      go true q here later = later
-      go false q here later = (
-        candidate-kept (offered quality e)
-            (first (address (e .destination)) (address (e .«next_hop»)) _ here)
-            (unlike (eqb (e .destination) own) (eqb (e .destination) via) (eqb (e .«next_hop») own) q)
-            (omega arith),
-        later,
-      )
 
 -- ---- the table
 module _ (t : Table) (s : List ℕ) (quality time : ℕ) (z : mergeOf t s quality time .refused ≡ 0) where
@@ -96,11 +81,15 @@ module _ (t : Table) (s : List ℕ) (quality time : ℕ) (z : mergeOf t s qualit
       (learned (standing time (rowsOf t)) 0)
       (standing-rules (t .own) (t .time) time (m .timely) time (rowsOf t) (within t (m .rule) .rules))
 
-  merge-ascends : ascending (mergedRows t s quality time .rows) ≡ true
+  pub merge-few : Few (mergedRows t s quality time .rows)
   unfolding mergedRows
-  merge-ascends =
-      learn-all-ascending u time (candidates (t .own) u quality (entriesOf (updateIn s .count) (partIn update s))) (learned (standing time (rowsOf t)) 0)
-      (standing-ascending time (rowsOf t) (within t (merged-able .rule) .ascends))
+  merge-few =
+      let m = merged-able in
+      let es = entriesOf (updateIn s .count) (partIn update s) in
+      learn-all-few u time (candidates (t .own) u quality es)
+      (some-origin t s quality time m, offers-each (t .own) u quality (λ c. 0 < c .destination) entryRule (λ e r q. entry-some e r) es (m .entries))
+      (learned (standing time (rowsOf t)) 0)
+      (standing-ascending time (rowsOf t) (within t (m .rule) .ascends), few-stand t (m .rule) time)
 
   pub merge-gives : mergeOf t s quality time .table ≡ withRows t time (mergedRows t s quality time .rows)
   unfolding mergeOf
@@ -109,7 +98,8 @@ module _ (t : Table) (s : List ℕ) (quality time : ℕ) (z : mergeOf t s qualit
   pub merge-within : withinRule (mergeOf t s quality time .table) ≡ true
   merge-within =
       let w = within t (merged-able .rule) in
-      rw merge-gives (within-pad (t .own) time (t .forwarded) (t .origin) (t .sequence) (mergedRows t s quality time .rows) (w .unit) (w .pair) merge-ascends merge-rules)
+      rw merge-gives (within-pad (t .own) time (t .forwarded) (t .origin) (t .sequence) (mergedRows t s quality time .rows) (w .unit) (w .pair) (merge-few .1) (merge-few .0)
+      merge-rules)
 
 -- ---- without the rows that are gone
 module _ (t : Table) (s : List ℕ) (quality time : ℕ) (e : withinRule t ≡ true) where

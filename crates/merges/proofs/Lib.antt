@@ -1,10 +1,12 @@
 pub mod CandidateLaws
+pub mod FewLaws
 pub mod KeepLaws
 pub mod LearnLaws
 pub mod LoopLaws
 pub mod MergeLaws
 pub mod MoveLaws
 pub mod OfferLaws
+pub mod OtherLaws
 pub mod PadLaws
 pub mod PutLaws
 pub mod RankLaws

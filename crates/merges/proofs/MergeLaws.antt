@@ -1,14 +1,13 @@
 -- Merging an update, from what its parts say.
 -- Assumes nothing.
 use mathlib.Core.Path.{_≡_, sym, ap, _∙_}
-use mathlib.Core.Bool.{true, false, not, and-eq-true-iff}
-use mathlib.Core.List.{List, [], _∷_}
+use mathlib.Core.Bool.{true, false, and-eq-true-iff}
+use mathlib.Core.List.{List}
 use Prim.Native.Nat.{ℕ, _≤_, _<_}
 use native.Mathlib.Omega.{arith}
-use borrow.Author.Tests.{eqb-true, ne-eqb, not-false, ltb-false, leb-true}
-use lib.Dec.{eqb, leb, ltb}
+use borrow.Author.Tests.{eqb-true, ne-eqb, not-false, ltb-false}
+use lib.Dec.{eqb}
 use lib.ListN.{length}
-use Rattle.octets.specs.Answers.{reason, refusing}
 use Rattle.octets.specs.Lists.{every}
 use Rattle.octets.proofs.AnswerLaws.{numbered, refusing-numbered, none-holds}
 use Rattle.moments.specs.Moments.{inOrder}
@@ -16,6 +15,7 @@ use Rattle.shapes.specs.Reading.{refusalAs}
 use Rattle.shapes.specs.Rules.{address}
 use Rattle.shapes.specs.Shape.{lengthOf, valuesIn, partIn}
 use Rattle.shapes.proofs.ReadingLaws.{passed}
+use Rattle.shapes.proofs.RuleLaws.{address-least}
 use Rattle.traffic.specs.declared.update.UpdateHeader.{UpdateHeader}
 use Rattle.traffic.specs.Traffic.{update, updateValues, updateFrom, entryRule, entriesOf}
 use Rattle.routes.specs.declared.row.Row.{Row}
@@ -65,10 +65,7 @@ mergeable t s quality time e =
     }
 
 pub some-origin : (t : Table) (s : List ℕ) (quality time : ℕ) → Mergeable t s quality time → 0 < updateIn s .origin
-some-origin t s quality time m =
-    let origin = updateIn s .origin in
-    let h = leb-true 1 origin (and-eq-true-iff (leb 1 origin) (leb origin 0xFFFE) .0 (m .origin) .0) in
-    omega (arith, h)
+some-origin t s quality time m = address-least (updateIn s .origin) (m .origin)
 
 module _ (t : Table) (s : List ℕ) (quality time : ℕ) (long : length (t .rows) ≡ 48) (m : Mergeable t s quality time) where
   abbrev u : UpdateHeader

@@ -1,17 +1,15 @@
 -- The candidates as the code walks them are those of the update: what stands for an entry that is passed over teaches nothing.
 -- Assumes nothing.
 use mathlib.Core.Path.{_≡_, refl, ap, _∙_}
-use mathlib.Core.Bool.{Bool, true, false, _||_, _&&_, cond, and-eq-true-iff, and-false, or-true}
+use mathlib.Core.Bool.{Bool, true, false, cond, and-eq-true-iff, and-false, or-true}
 use mathlib.Core.List.{List, [], _∷_, map}
 use Prim.Native.Nat.{ℕ, zero, suc, _+_, _<_}
 use native.Mathlib.Numerals.{add-one}
 use native.Mathlib.Omega.{arith}
-use borrow.Author.Tests.{ne-eqb, leb-true, lt-ltb}
-use lib.Dec.{eqb, leb}
+use borrow.Author.Tests.{ne-eqb, lt-ltb}
 use lib.ListN.{getD}
 use Rattle.octets.specs.Lists.{tab, every}
 use Rattle.octets.proofs.ListLaws.{length-tab, getD-tab, every-at, every-tab}
-use Rattle.shapes.specs.Rules.{address}
 use Rattle.traffic.specs.declared.entry.Entry.{Entry}
 use Rattle.traffic.specs.Traffic.{entryRule, entryAt, entriesOf}
 use Rattle.routes.specs.Rows.{none, usable}
@@ -20,22 +18,13 @@ use Rattle.merges.specs.declared.candidate.Candidate.{Candidate}
 use Rattle.merges.specs.Candidates.{neighbour, offered, passedOver, offers, candidates, bad}
 use Rattle.merges.specs.Learning.{Learned, learn, learnAll}
 use Rattle.merges.specs.Offering.{nothing, offerOf, offerAt, candidateNo, walked, fair}
+use Rattle.merges.proofs.CandidateLaws.{entry-some}
 use Rattle.merges.proofs.LearnLaws.{Kept, learn-every}
 use Rattle.merges.proofs.StepLaws.{zero-none}
 
 -- ---- a candidate is fair
-address-some : (n : ℕ) → address n ≡ true → 0 < n
-address-some n e =
-    let h = leb-true 1 n (and-eq-true-iff (leb 1 n) (leb n 0xFFFE) .0 e .0) in
-    omega (arith, h)
-
 pub fair-for : (c : Candidate) → 0 < c .destination → fair c ≡ true
 fair-for c h = rw (lt-ltb 0 (c .destination) h) (or-true (bad c))
-
-entry-some : (e : Entry) → entryRule e ≡ true → 0 < e .destination
-entry-some e r =
-    let (both, hops) = and-eq-true-iff (address (e .destination) && address (e .«next_hop»)) (leb 1 (e .hops) && leb (e .hops) 16 || eqb (e .hops) 255) .0 r in
-    address-some (e .destination) (and-eq-true-iff (address (e .destination)) (address (e .«next_hop»)) .0 both .0)
 
 module _ (own origin quality : ℕ) where
   offer-fair : (e : Entry) → entryRule e ≡ true → fair (offerOf own origin quality e) ≡ true

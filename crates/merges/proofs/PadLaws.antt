@@ -1,7 +1,7 @@
 -- The 48 places of a list of rows in use: what stands at a place, a store, a row moved in.
 -- Assumes nothing.
 use mathlib.Core.Path.{_≡_, refl, sym, ap, _∙_}
-use mathlib.Core.Bool.{Bool, true, not, and-eq-true-iff}
+use mathlib.Core.Bool.{true, not, and-eq-true-iff}
 use mathlib.Core.List.{List, [], _∷_, _++_, append-assoc}
 use Prim.Native.Nat.{ℕ, zero, suc, _-_, _≤_, _<_}
 use native.Mathlib.Decide.{decLt}
@@ -11,6 +11,7 @@ use lib.Dec.{ltb}
 use lib.ListN.{length, getD, take, drop, set, replicate, length-append, length-set, length-take, length-drop, List·getD-eq-default}
 use lib.Seq.{set-append-left, take-append-le, drop-append-le}
 use Rattle.octets.specs.Lists.{every}
+use Rattle.octets.proofs.ListLaws.{every-drop}
 use Rattle.routes.specs.declared.row.Row.{Row}
 use Rattle.routes.specs.Rows.{none, pad}
 use Rattle.routes.proofs.StandingLaws.{used}
@@ -75,12 +76,6 @@ pushed-free w (x ∷ xs) zs u =
     let k = ltb-true 0 (x .destination) here in
     rw (ne-eqb (x .destination) 0 (omega (arith, k)), pushed-free x xs zs later)
 
-pub every-drop : (test : Row → Bool) (rs : List Row) (at : ℕ) → every test rs ≡ true → every test (drop at rs) ≡ true
-unfolding every
-every-drop test rs zero e = e
-every-drop test [] (suc at) e = refl
-every-drop test (r ∷ rs) (suc at) e = every-drop test rs at (and-eq-true-iff (test r) (every test rs) .0 e .1)
-
 -- a row moved in where there is room
 pub moved-pad : (rs : List Row) (at : ℕ) (w : Row) → every used rs ≡ true → at ≤ length rs → length rs < 48 → movedIn (pad rs) at w ≡ pad (take at rs ++ (w ∷ drop at rs))
 unfolding pad
@@ -94,5 +89,5 @@ moved-pad rs at w u h room =
       size,
       take-append-le at rs (none ∷ replicate k none) h,
       drop-append-le at rs (none ∷ replicate k none) h,
-      pushed-free w (drop at rs) (replicate k none) (every-drop used rs at u),
+      pushed-free w (drop at rs) (replicate k none) (every-drop used at rs u),
     ) (sym (append-assoc (take at rs) (w ∷ drop at rs) (replicate k none)))

@@ -26,7 +26,7 @@ module _ (w r : Row) (rs : List Row) where
   put-below h = rw (le-ltb (r .destination) (w .destination) (omega arith), ne-eqb (r .destination) (w .destination) (omega arith))
 
 -- what holds of a list with a row before it, by where a row is put
-by-place : (P : List Row → Type 0) (w r : Row) (rs : List Row)
+pub by-place : (P : List Row → Type 0) (w r : Row) (rs : List Row)
     → (r .destination < w .destination → P (r ∷ put w rs)) → (r .destination ≡ w .destination → P (w ∷ rs)) → (w .destination < r .destination → P (w ∷ r ∷ rs))
     → P (put w (r ∷ rs))
 by-place P w r rs above same below = go (decLt (r .destination) (w .destination)) (ℕ-discrete (r .destination) (w .destination))

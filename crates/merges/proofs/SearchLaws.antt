@@ -11,10 +11,9 @@ use lib.Dec.{ltb}
 use lib.ListN.{length, getD, take, drop, set, length-append, drop-of-length-le}
 use lib.Seq.{drop-cons, take-suc, take-at, length-take-le, set-split}
 use Rattle.octets.specs.Lists.{every}
-use Rattle.octets.proofs.ListLaws.{every-snoc}
+use Rattle.octets.proofs.ListLaws.{every-snoc, every-on}
 use Rattle.routes.specs.declared.row.Row.{Row}
 use Rattle.routes.specs.Rows.{none, ascending, rowFor}
-use Rattle.routes.proofs.RuleLaws.{every-on}
 use Rattle.routes.proofs.StandingLaws.{ascending-rest}
 use Rattle.merges.specs.Learning.{put}
 use Rattle.merges.specs.Searching.{startsAt}

@@ -1,4 +1,5 @@
 pub mod Candidates
+pub mod Laws
 pub mod Learning
 pub mod Merges
 pub mod Offering

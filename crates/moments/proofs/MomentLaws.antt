@@ -2,7 +2,7 @@
 -- Assumes nothing.
 use mathlib.Core.Path.{_≡_}
 use mathlib.Core.Bool.{true}
-use Prim.Native.Nat.{ℕ, _≤_}
+use Prim.Native.Nat.{ℕ, _≤_, _<_}
 use native.Mathlib.Omega.{arith}
 use borrow.Author.Tests.{le-leb, leb-true}
 use Rattle.moments.specs.Moments.{ageAt, inOrder}
@@ -14,6 +14,11 @@ in-order-self t = le-leb t t (omega arith)
 pub in-order-on : (a b c : ℕ) → inOrder a b ≡ true → inOrder b c ≡ true → inOrder a c ≡ true
 unfolding inOrder
 in-order-on a b c p q = le-leb a c (omega (arith, leb-true a b p, leb-true b c q))
+
+-- a time that is no later than one of 32 bits has 32 bits
+pub in-order-fits : (time last : ℕ) → inOrder time last ≡ true → last < 0x100000000 → time < 0x100000000
+unfolding inOrder
+in-order-fits time last e h = omega (arith, leb-true time last e)
 
 -- what happens has no age
 pub no-age : (t : ℕ) → ageAt t t ≡ 0

@@ -1,5 +1,8 @@
 -- The table of examples, computed; the story by its steps.
 -- Assumes nothing.
+use mathlib.Core.Path.{refl, ap, _∙_}
+use mathlib.Core.List.{List}
+use Prim.Native.Nat.{ℕ}
 use Rattle.octets.specs.Numbers.{num, digits}
 use Rattle.octets.specs.Sums.{xors}
 use Rattle.shapes.specs.Reading.{isSealed, readRefusal}
@@ -7,9 +10,9 @@ use Rattle.shapes.specs.Shape.{sealed}
 use Rattle.frames.specs.Frames.{readFrame}
 use Rattle.site.specs.Plans.{slotsIn, planOf}
 use Rattle.clock.specs.Clock.{drift, half, correction, corrected, stepOf}
-use Rattle.paper.specs.Examples.{examples, AsInThePaper}
+use Rattle.paper.specs.Examples.{examplesWith, allSame, AsInThePaper}
 use Rattle.paper.proofs.StoryLaws.{story-told}
 
 pub as-in-the-paper : AsInThePaper
-unfolding examples readFrame readRefusal isSealed sealed num digits xors planOf slotsIn drift half correction corrected stepOf
-as-in-the-paper = rw story-told
+unfolding readFrame readRefusal isSealed sealed num digits xors planOf slotsIn drift half correction corrected stepOf
+as-in-the-paper = ap (λ (told : List (List ℕ)). allSame (examplesWith told)) story-told ∙ refl

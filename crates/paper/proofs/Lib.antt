@@ -2,3 +2,4 @@ pub mod ExampleLaws
 pub mod SingleLaws
 pub mod StoryGrantLaws
 pub mod StoryLaws
+pub mod WitnessLaws

@@ -3,33 +3,44 @@
 use mathlib.Core.Path.{_≡_, refl, sym, ap, ap₂, _∙_}
 use mathlib.Core.List.{List, [], _∷_, map}
 use Prim.Native.Nat.{ℕ}
+use Rattle.octets.specs.Answers.{Said, OneToOne}
 use Rattle.slots.specs.Sets.{slotsOf, maskOf}
 use Rattle.slots.proofs.BitLaws.{mask-of-set}
 use Rattle.traffic.specs.Traffic.{dataFrom, updateFrom}
 use Rattle.requests.specs.Requests.{joinRequestFrom, joinResponseFrom, slotRequestFrom, discoveryRequestFrom, discoveryResponseFrom}
 use Rattle.beacons.specs.Beacons.{beaconFrom}
 use Rattle.shapes.specs.Writing.{Wrote}
-use Rattle.frames.specs.declared.answers.Written.{Written}
-use Rattle.frames.specs.Told.{wrote, toldWritten}
+use Rattle.frames.specs.Told.{toldWritten}
 use Rattle.frames.proofs.ToldLaws.{told-one, told-written-one}
 use Rattle.entries.proofs.MeetLaws.{told-walked-one}
 use Rattle.routes.proofs.ToldLaws.{told-found-one}
-use Rattle.relays.specs.declared.relaying.Relayed.{Relayed}
-use Rattle.relays.specs.Relays.{relayed}
+use Rattle.relays.specs.Relays.{toldRelayed}
 use Rattle.relays.proofs.ToldLaws.{told-relayed-one}
 use Rattle.site.proofs.ToldLaws.{told-plan-one}
 use Rattle.members.specs.declared.member.Member.{Member}
 use Rattle.members.specs.Members.{Row, rowOf, rowsOf}
 use Rattle.book.specs.declared.book.Book.{Book}
 use Rattle.book.specs.Books.{Stated, stated}
-use Rattle.paper.specs.Single.{TellsApart, SingleAnswer, any, mask, maskRow, maskRows, maskBook, ViewsTellApart}
+use Rattle.paper.specs.Single.{TellsApart, SingleAnswer, PartsTellApart, any, mask, maskRow, maskRows, maskBook, ViewsTellApart}
 
 pub single-answer : SingleAnswer
 single-answer A B possible view apart given a a′ p p′ e e′ = apart a a′ p p′ (e ∙ sym e′)
 
+pub parts-tell-apart : PartsTellApart
+parts-tell-apart A A′ B B′ possible possible′ view view′ apart apart′ a a′ p p′ e =
+    ap₂ {C = A × A′} (λ part rest. (part, rest))
+    (apart (a .0) (a′ .0) (p .0) (p′ .0) (ap (λ (v : B × B′). v .0) e))
+    (apart′ (a .1) (a′ .1) (p .1) (p′ .1) (ap (λ (v : B × B′). v .1) e))
+
 -- a view that can be undone tells answers apart
 undone : {A B : Type 0} (possible : A → Type 0) (view : A → B) (back : B → A) → ((a : A) → possible a → back (view a) ≡ a) → TellsApart possible view
 undone possible view back returns a a′ p p′ e = sym (returns a p) ∙ (ap back e ∙ returns a′ p′)
+
+-- what an enum says, with a buffer
+with-buffer : {A : Type 0} (said : A → Said) → OneToOne said → TellsApart {B = Wrote} any (λ (a : A × List ℕ). record { said = said (a .0); held = a .1 })
+with-buffer {A} said one a a′ p p′ e =
+    parts-tell-apart A (List ℕ) Said (List ℕ) any any said (λ held. held) (λ a a′ p p′ e. one a a′ e) (λ a a′ p p′ e. e) a a′ (p, p) (p′, p′)
+    (ap {B = Said × List ℕ} (λ (w : Wrote). (w .said, w .held)) e)
 
 -- ---- masks
 mask-back : (m : ℕ) → mask m → maskOf (slotsOf m) ≡ m
@@ -69,16 +80,15 @@ views-tell-apart =
       discoveryResponses = undone any _ discoveryResponseFrom (λ a p. refl);
       beacons = undone any _ beaconFrom (λ a p. refl);
       frames = λ a a′ p p′ e. told-one a a′ e;
-      writings = λ a a′ p p′ e. told-written-one a a′ e;
       findings = λ a a′ p p′ e. told-found-one a a′ e;
       plans = λ a a′ p p′ e. told-plan-one a a′ e;
-      steps = told-walked-one;
-      writingsInto = λ a a′ p p′ e. ap₂ {C = Written × List ℕ} (λ w held. (w, held)) (told-written-one (a .0) (a′ .0) (ap (λ (w : Wrote). w .said) e)) (ap (λ (w : Wrote). w .held) e);
-      relayings = λ a a′ p p′ e. ap₂ {C = Relayed × List ℕ} (λ w held. (w, held)) (told-relayed-one (a .0) (a′ .0) (ap (λ (w : Wrote). w .said) e)) (ap (λ (w : Wrote). w .held) e);
+      steps = λ a a′ p p′ e. told-walked-one a a′ e;
+      writingsInto = with-buffer toldWritten told-written-one;
+      relayings = with-buffer toldRelayed told-relayed-one;
       forwardings = undone any _ (λ v. (v .answer, v .held)) (λ a p. refl);
+      parts = λ name a a′ p p′ e i. record { ptr = (e i .block, e i .start); name = (p ∙ sym p′) i; now = e i .bytes };
       readers = undone any _ (λ v. record { frame = v .0; position = v .1 }) (λ e p. refl);
       masks = undone mask slotsOf maskOf mask-back;
-      members = undone maskRow rowOf rowBack row-back;
       rows = undone maskRows rowsOf (map rowBack) rows-back;
       census =
           undone _ _ (λ v. record { own = v .0; place = v .1; slots = maskOf (v .2); vacant = v .3 })
@@ -97,5 +107,6 @@ views-tell-apart =
       states = undone any _ (λ l. (l .status, l .state)) (λ a p. refl);
       clocks = undone any _ (λ l. (l .status, l .offset)) (λ a p. refl);
       bookCalls = undone any _ (λ l. (l .status, l .book)) (λ a p. refl);
+      planNumberings = undone any _ (λ l. (l .status, l .numbers)) (λ a p. refl);
       requests = undone any _ (λ l. (l .status, l .book, l .out, l .written)) (λ a p. refl);
     }

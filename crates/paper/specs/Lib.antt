@@ -1,3 +1,4 @@
 pub mod Examples
 pub mod Single
 pub mod Story
+pub mod Witnesses

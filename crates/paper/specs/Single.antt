@@ -1,20 +1,23 @@
 -- Each promise admits a single answer. A public contract says `view of the answer ≡ what the definitions give`: the answer is the result with the exit
--- contents of every lent buffer, and the view one of those below. No two answers have one view, so no two meet the contract.
+-- contents of every lent buffer, and the view one of those below, or one for each part. No two answers have one view, so no two meet the contract.
+-- `contracts/check` holds every public contract against this list, and the list against the contracts.
 -- Assumes nothing.
 use mathlib.Core.Path.{_≡_}
 use mathlib.Core.List.{List, [], _∷_}
 use Prim.Native.Nat.{ℕ, _^_, _<_}
 use lib.IntN.{ℤ}
+use base.Fml.{GName}
 use denote.Ref.{RefT}
 use Rattle.octets.specs.Calls.{writeLeft}
+use Rattle.octets.specs.Parts.{lent}
 use Rattle.slots.specs.Sets.{Slots, slotsOf}
 use Rattle.traffic.specs.Traffic.{dataValues, updateValues}
 use Rattle.requests.specs.Requests.{joinRequestValues, joinResponseValues, slotRequestValues, discoveryRequestValues, discoveryResponseValues}
 use Rattle.beacons.specs.Beacons.{beaconValues}
 use Rattle.frames.specs.declared.answers.Written.{Written}
-use Rattle.frames.specs.Told.{told, toldWritten, wrote}
+use Rattle.frames.specs.Told.{told, wrote}
 use Rattle.entries.specs.declared.reader.Entries.{Entries}
-use Rattle.entries.specs.Walks.{toldWalked, Numbered}
+use Rattle.entries.specs.Walks.{toldWalked}
 use Rattle.routes.specs.Told.{toldFound}
 use Rattle.relays.specs.declared.forwarding.Forwarded.{Forwarded}
 use Rattle.relays.specs.declared.relaying.Relayed.{Relayed}
@@ -23,7 +26,7 @@ use Rattle.relays.specs.Relays.{relayed}
 use Rattle.site.specs.Plans.{toldPlan}
 use Rattle.members.specs.declared.census.Census.{Census}
 use Rattle.members.specs.declared.member.Member.{Member}
-use Rattle.members.specs.Members.{rowOf, rowsOf}
+use Rattle.members.specs.Members.{rowsOf}
 use Rattle.book.specs.declared.book.Book.{Book}
 use Rattle.book.specs.declared.book.Changed.{Changed}
 use Rattle.book.specs.Books.{stated, leftBy}
@@ -37,6 +40,7 @@ use Rattle.router.specs.RelayCalls.{relayLeft, forwardLeft}
 use Rattle.router.specs.TableCalls.{tableLeft, lookupLeft}
 use Rattle.router.specs.UpdateCalls.{mergeLeft}
 use Rattle.manager.specs.BookCalls.{bookLeft}
+use Rattle.manager.specs.PlanCalls.{numbersLeft}
 use Rattle.admissions.specs.RequestCalls.{requestLeft}
 
 -- a view tells apart the answers that the code can give
@@ -48,6 +52,13 @@ abbrev pub SingleAnswer : Type 1
 SingleAnswer =
     (A B : Type 0) (possible : A → Type 0) (view : A → B) → TellsApart possible view
     → (given : B) (a a′ : A) → possible a → possible a′ → view a ≡ given → view a′ ≡ given → a ≡ a′
+
+-- a contract that fixes one part of the answer by one view and the rest by another fixes the whole
+abbrev pub PartsTellApart : Type 1
+PartsTellApart =
+    (A A′ B B′ : Type 0) (possible : A → Type 0) (possible′ : A′ → Type 0) (view : A → B) (view′ : A′ → B′)
+    → TellsApart possible view → TellsApart possible′ view′
+    → TellsApart {B = B × B′} (λ (a : A × A′). possible (a .0) × possible′ (a .1)) (λ a. (view (a .0), view′ (a .1)))
 
 -- ---- which answers the code can give
 abbrev pub any : {A : Type 0} → A → Type 0
@@ -69,7 +80,7 @@ maskBook b = maskRows (b .rows)
 
 -- ---- the views
 pub record ViewsTellApart : Type 1 where
-  -- most contracts say `answer ≡ definition`, of the result, of a buffer, or of both
+  -- most contracts say `answer ≡ definition`, of the result, of a buffer, or of each
   pub itself : {A : Type 0} → TellsApart any (λ (a : A). a)
   -- the values of a record of fields: `of` of the eight kinds
   pub dataHeaders : TellsApart any dataValues
@@ -82,19 +93,18 @@ pub record ViewsTellApart : Type 1 where
   pub beacons : TellsApart any beaconValues
   -- what an enum says, alone and with a buffer
   pub frames : TellsApart any told
-  pub writings : TellsApart any toldWritten
   pub findings : TellsApart any toldFound
   pub plans : TellsApart any toldPlan
-  -- a step of a walk: its contract also says that a refusal's number is not 0
-  pub steps : TellsApart Numbered toldWalked
+  pub steps : TellsApart any toldWalked
   pub writingsInto : TellsApart any (λ (a : Written × List ℕ). wrote (a .0) (a .1))
   pub relayings : TellsApart any (λ (a : Relayed × List ℕ). relayed (a .0) (a .1))
   pub forwardings : TellsApart any (λ (a : Forwarded × List ℕ). passed (a .0) (a .1))
+  -- a part of lent bytes: where it lies, and what it holds; the name that a proof tracks it by is none that code has
+  pub parts : (name : GName) → TellsApart (λ (part : RefT (List ℕ)). part .name ≡ name) lent
   -- a reader of entries: the bytes that it was lent, and its position
   pub readers : TellsApart {B = RefT (List ℕ) × ℕ} any (λ (e : Entries). (e .frame, e .position))
   -- sets for masks
   pub masks : TellsApart mask slotsOf
-  pub members : TellsApart maskRow rowOf
   pub rows : TellsApart maskRows rowsOf
   pub census : TellsApart {B = ℕ × ℕ × Slots 64 × ℕ} (λ c. mask (c .slots)) (λ (c : Census). (c .own, c .place, slotsOf (c .slots), c .vacant))
   pub books : TellsApart maskBook stated
@@ -112,4 +122,5 @@ pub record ViewsTellApart : Type 1 where
   pub states : TellsApart any (λ (a : ℕ × List ℕ). stateLeft (a .0) (a .1))
   pub clocks : TellsApart any (λ (a : ℕ × ℤ). clockLeft (a .0) (a .1))
   pub bookCalls : TellsApart any (λ (a : ℕ × List ℕ). bookLeft (a .0) (a .1))
+  pub planNumberings : TellsApart any (λ (a : ℕ × List ℕ). numbersLeft (a .0) (a .1))
   pub requests : TellsApart any (λ (a : ℕ × List ℕ × List ℕ × ℕ). requestLeft (a .0) (a .1) (a .2) (a .3))

@@ -5,6 +5,7 @@ use mathlib.Core.Bool.{true}
 use mathlib.Core.List.{List}
 use Prim.Native.Nat.{ℕ}
 use lib.ListN.{length}
+use Rattle.octets.specs.Parts.{Lent}
 use Rattle.routes.specs.declared.table.Table.{Table}
 use Rattle.routes.specs.Tables.{withinRule, dropped}
 use Rattle.routes.proofs.DroppedLaws.{dropped-within, dropped-standing, dropped-lookup}
@@ -21,9 +22,9 @@ module _ (time : ℕ) (t : Table) (e : withinRule t ≡ true) where
   unfolding relayOf
   relay-alike s out = rw (relay-refusal s (length out), dropped-lookup time t e (dataIn s .destination))
 
-  pub handed-alike : (s : List ℕ) → handedBack (dropped time t) s time ≡ handedBack t s time
+  pub handed-alike : (s : Lent) → handedBack (dropped time t) s time ≡ handedBack t s time
   unfolding handedBack
-  handed-alike s = rw (relay-refusal s 0)
+  handed-alike s = rw (relay-refusal (s .bytes) 0)
 
   pub page-alike : (p : ℕ) (out : List ℕ) → pageOf (dropped time t) p time out ≡ pageOf t p time out
   unfolding pageOf

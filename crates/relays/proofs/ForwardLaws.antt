@@ -1,7 +1,7 @@
 -- Forwarding a beacon, from what its parts say.
 -- Assumes nothing.
 use mathlib.Core.Path.{_≡_, refl, sym, ap, _∙_}
-use mathlib.Core.Bool.{Bool, true, false, not, _&&_, cond, and-eq-true-iff, false≢true}
+use mathlib.Core.Bool.{Bool, true, false, not, _&&_, and-eq-true-iff, false≢true}
 use mathlib.Core.List.{List, [], _∷_, _++_}
 use Prim.Native.Nat.{ℕ, _+_, _*_, _≤_, _<_}
 use native.Mathlib.Omega.{arith}
@@ -17,6 +17,7 @@ use Rattle.shapes.specs.Rules as rules
 use Rattle.shapes.specs.Shape.{valuesIn}
 use Rattle.shapes.specs.Writing.{Wrote, writeAs}
 use Rattle.shapes.proofs.ReadingLaws.{passed}
+use Rattle.shapes.proofs.WritingLaws.{written-whole}
 use Rattle.beacons.specs.declared.beacon.Beacon.{Beacon}
 use Rattle.beacons.specs.Beacons.{beacon, beaconValues, beaconFrom, beaconRule}
 use Rattle.frames.specs.declared.answers.Written.{Written}
@@ -30,11 +31,10 @@ use Rattle.routes.proofs.KeepLaws.{standing-rules}
 use Rattle.routes.proofs.LookupLaws.{lookup-told, lookup-leads}
 use Rattle.routes.proofs.RuleLaws.{within-pad}
 use Rattle.routes.proofs.StandingLaws.{standing-ascending, standing-places}
-use Rattle.routes.proofs.TableLaws.{within, held}
+use Rattle.routes.proofs.TableLaws.{within, few-stand, held}
 use Rattle.relays.specs.declared.passing.Passing.{Passing}
 use Rattle.relays.specs.Forwards as forwards
 use Rattle.relays.specs.Forwards.{passingOf, toForward, passingReasons, beaconIn, passedBy, copyOf, recorded, forwardRefusal, forwardOf}
-use Rattle.relays.proofs.CopyLaws.{written-whole}
 use Rattle.relays.proofs.ReasonLaws.{first-append, first-behind}
 
 pub beacon-in : (b : Beacon) (s : List ℕ) → beaconValues b ≡ valuesIn beacon s → b ≡ beaconIn s
@@ -181,8 +181,12 @@ module _ (t : Table) (network : ℕ) (s : List ℕ) (delay time : ℕ) (out : Li
   copied z =
       let o = onward t network s delay time (length out) (sym e ∙ z) in
       let r = read-ruled s (o .unread) in
-      written-whole 34 (beaconRule copy) (copyOf t delay s) out (copy-length t delay s) (omega (arith, copy-length t delay s))
-      (r .passes (t .own) delay (within t (o .right) .unit) (o .below)) (o .fits)
+      written-whole 34 (beaconRule copy) (copyOf t delay s) out (record {
+        sized = copy-length t delay s;
+        short = omega (arith, copy-length t delay s);
+        kept = r .passes (t .own) delay (within t (o .right) .unit) (o .below);
+        fits = ltb-false (length out) (length (copyOf t delay s)) (o .fits);
+      })
 
   pub forwarded-on : (sent : Beacon) (w : Written) (kept part : List ℕ) (q : Passing) (new : Table) → n ≡ 0 → beaconValues b ≡ valuesIn beacon s
       → sent ≡ passedBy (t .own) delay b → part ≡ [] → wrote w kept ≡ writeAs beacon (beaconValues sent) part out → q ≡ passingOf b
@@ -215,4 +219,4 @@ forward-within t network s delay time out e =
     let w = within t (o .right) in
     let rs = rowsOf t in
     rw e (within-pad (t .own) time true (beaconIn s .«original_source») (beaconIn s .sequence) (standing time rs) (w .unit) (read-ruled s (o .unread) .origin)
-    (standing-ascending time rs (w .ascends)) (standing-rules (t .own) (t .time) time (o .ordered) time rs (w .rules)))
+    (few-stand t (o .right) time) (standing-ascending time rs (w .ascends)) (standing-rules (t .own) (t .time) time (o .ordered) time rs (w .rules)))

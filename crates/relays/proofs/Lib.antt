@@ -1,5 +1,5 @@
 pub mod AlikeLaws
-pub mod CopyLaws
+pub mod EntryLaws
 pub mod ForwardLaws
 pub mod PageLaws
 pub mod ReasonLaws

@@ -9,7 +9,7 @@ use native.Mathlib.Decide.{decLe}
 use native.Mathlib.Omega.{arith}
 use borrow.Author.Tests.{ne-eqb, eqb-true, ltb-true, ltb-false, not-false}
 use lib.Dec.{eqb, ltb}
-use lib.ListN.{length, getD, take, drop, set, length-append, length-take, length-drop, length-map, drop-of-length-le}
+use lib.ListN.{length, getD, take, drop, set, length-take, length-drop, length-map, drop-of-length-le}
 use lib.Seq.{sets, drop-cons, getD-take, length-take-le, take-take, take-add, take-nil, drop-at}
 use Rattle.octets.specs.Answers.{Reason, reason, first}
 use Rattle.octets.specs.Layouts.{bytes}
@@ -33,6 +33,7 @@ use Rattle.routes.specs.Tables.{rowsOf, withinRule}
 use Rattle.routes.proofs.StandingLaws.{used, standing-all, standing-every, in-use-used, in-use-pad}
 use Rattle.routes.proofs.RowLaws.{in-use-end, in-use-turn}
 use Rattle.relays.specs.Pages.{entryFor, entriesBytes, onPage, pageFrame, pageOf}
+use Rattle.relays.proofs.EntryLaws.{length-entries}
 
 -- ---- counting the places in use
 module _ (rows : List Row) (i : ℕ) (l : length rows ≡ 48) (e : i + length (inUse (drop i rows)) ≡ length (inUse rows)) where
@@ -51,10 +52,6 @@ entriesOf time rs = entriesBytes (map (entryFor time) rs)
 
 length-entry : (e : Entry) → length (bytes entryWidths (entryValues e)) ≡ 10
 length-entry e = length-bytes entryWidths (entryValues e) refl
-
-length-entries : (es : List Entry) → length (entriesBytes es) ≡ 10 * length es
-length-entries [] = refl
-length-entries (e ∷ es) = omega (arith, length-append (bytes entryWidths (entryValues e)) (entriesBytes es), length-entry e, length-entries es)
 
 -- a page has at most 24 entries
 pub page-short : (t : Table) (p time : ℕ) → length (pageFrame t p time) ≤ 249

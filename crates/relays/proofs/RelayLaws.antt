@@ -5,18 +5,19 @@ use mathlib.Core.Bool.{Bool, true, false, not, _&&_, cond, and-eq-true-iff, fals
 use mathlib.Core.List.{List, [], _∷_, _++_}
 use Prim.Native.Nat.{ℕ, _+_, _≤_}
 use native.Mathlib.Omega.{arith}
-use borrow.Author.Tests.{eqb-true, ltb-false, not-true, not-false}
+use borrow.Author.Tests.{eqb-true, leb-false, ltb-false, not-true, not-false}
 use lib.Dec.{eqb, leb, ltb}
-use lib.ListN.{length, getD, drop, length-take, length-drop}
+use lib.ListN.{length, getD}
 use lib.Seq.{sets}
 use Rattle.octets.specs.Answers.{accepted, refused, Reason, reason, refusing, first, unless}
-use Rattle.octets.proofs.AnswerLaws.{numbered, refusing-numbered, none-holds}
+use Rattle.octets.specs.Parts.{Lent, partOf}
+use Rattle.octets.proofs.AnswerLaws.{Numbered, numbered, refusing-numbered, none-holds}
 use Rattle.moments.specs.Moments.{inOrder}
 use Rattle.shapes.specs.Reading.{refusalAs}
 use Rattle.shapes.specs.Rules.{address}
-use Rattle.shapes.specs.Shape.{lengthOf, valuesIn, partIn, frameOf}
+use Rattle.shapes.specs.Shape.{valuesIn, partIn, partLent, frameOf}
 use Rattle.shapes.specs.Writing.{Wrote}
-use Rattle.shapes.proofs.ReadingLaws.{Passed, passed}
+use Rattle.shapes.proofs.ReadingLaws.{passed, part-length}
 use Rattle.traffic.specs.declared.data_frame.DataHeader.{DataHeader}
 use Rattle.traffic.specs.Traffic.{dataKind, dataValues, dataFrom}
 use Rattle.writers.proofs.WritingLaws.{frame-length}
@@ -26,7 +27,7 @@ use Rattle.routes.specs.Rows.{leads, rowFor}
 use Rattle.routes.specs.Tables.{rowsOf, withinRule, leadsTo, lookupOf}
 use Rattle.routes.proofs.LookupLaws.{lookup-told, lookup-leads}
 use Rattle.relays.specs.declared.relaying.Relayed.{Relayed}
-use Rattle.relays.specs.Relays.{dataIn, forUs, passedOn, copyOf, relayRefusal, relayOf, handedBack, toldRelayed, relayed}
+use Rattle.relays.specs.Relays.{dataIn, forUs, passedOn, copyOf, relayReasons, relayRefusal, relayOf, handedBack, toldRelayed, relayed}
 use Rattle.relays.proofs.ReasonLaws.{first-behind}
 
 pub header-in : (h : DataHeader) (s : List ℕ) → dataValues h ≡ valuesIn dataKind s → h ≡ dataIn s
@@ -71,43 +72,59 @@ module _ (t : Table) (s : List ℕ) (time room : ℕ) where
       rw (lookup-leads t (dataIn s .destination) time (not-false _ (n .0)) (read-destination s (eqb-true (refusalAs dataKind s) 0 (not-false _ (n .1 .0))))
       (not-false _ (n .1 .1 .1 .0)))))
 
+  numbers : Numbered (relayReasons t s time room)
+  numbers =
+      (numbered _ 14 (λ z. omega arith), (refusing-numbered (refusalAs dataKind s), (numbered _ 6 (λ z. omega arith), (numbered _ 8 (λ z. omega arith), (numbered _ 10 (λ z. omega arith), (numbered _ 11 (λ z. omega arith), (numbered _ 5 (λ z. omega arith), tt)))))))
+
+  -- a frame that is not refused is read
+  pub relayed-read : relayRefusal t s time room ≡ 0 → refusalAs dataKind s ≡ 0
+  unfolding relayRefusal
+  relayed-read e = eqb-true (refusalAs dataKind s) 0 (not-false _ (none-holds (relayReasons t s time room) numbers e .1 .0))
+
   -- what is known of a frame that is passed on
   pub record Onward : Type 0 where
+    pub right : withinRule t ≡ true
     pub unread : refusalAs dataKind s ≡ 0
+    pub ordered : inOrder (t .time) time ≡ true
+    pub lives : 2 ≤ dataIn s .ttl
     pub found : lookupOf t (dataIn s .destination) time .refusal ≡ 0
-    pub fits : ltb room (length (copyOf s)) ≡ false
+    pub fits : length (copyOf s) ≤ room
 
-  onward : relayRefusal t s time room ≡ 0 → forUs t s ≡ false → Onward
+  pub onward : relayRefusal t s time room ≡ 0 → forUs t s ≡ false → Onward
   unfolding relayRefusal
   onward e o =
       let n = refusalAs dataKind s in
       let m = lookupOf t (dataIn s .destination) time .refusal in
-      let none = none-holds (before (withinRule t) (dataIn s) n ++ behind (dataIn s) (eqb m 0) (length (copyOf s)))
-      (numbered _ 14 (λ z. omega arith), (refusing-numbered n, (numbered _ 6 (λ z. omega arith), (numbered _ 8 (λ z. omega arith), (numbered _ 10 (λ z. omega arith), (numbered _ 11 (λ z. omega arith), (numbered _ 5 (λ z. omega arith), tt))))))) e in
+      let none = none-holds (relayReasons t s time room) numbers e in
       record {
+        right = not-false (withinRule t) (none .0);
         unread = eqb-true n 0 (not-false _ (none .1 .0));
+        ordered = not-false (inOrder (t .time) time) (none .1 .1 .1 .0);
+        lives = leb-false (dataIn s .ttl) 1 (rw o at (none .1 .1 .1 .1 .0));
         found = eqb-true m 0 (not-false _ (rw o at (none .1 .1 .1 .1 .1 .0)));
-        fits = (rw o at (none .1 .1 .1 .1 .1 .1 .0));
+        fits = ltb-false room (length (copyOf s)) (rw o at (none .1 .1 .1 .1 .1 .1 .0));
       }
 
 -- the copy of a frame that is passed on
 module _ (t : Table) (s : List ℕ) (time : ℕ) (out : List ℕ) (e : relayRefusal t s time (length out) ≡ 0) (o : forUs t s ≡ false) where
-  known : Passed (dataKind .code) (lengthOf dataKind (dataIn s .count)) (dataKind .rule (valuesIn dataKind s) (partIn dataKind s)) s
-  known = passed _ _ _ s (onward t s time (length out) e o .unread)
+  known : Onward t s time (length out)
+  known = onward t s time (length out) e o
 
-  part-length : length (partIn dataKind s) ≡ dataIn s .count
-  part-length =
-      length-take (dataIn s .count) (drop 9 s) ∙ omega (arith, length-drop 9 s, known .sized)
+  part-is : length (partIn dataKind s) ≡ dataIn s .count
+  part-is = part-length dataKind s (known .unread)
 
   pub copy-short : length (copyOf s) ≤ 255
-  copy-short = omega (arith, copy-length s, part-length, known .sized, known .short)
+  copy-short =
+      let p = passed _ _ _ s (known .unread) in
+      omega (arith, copy-length s, part-is, p .sized, p .short)
 
   pub copy-fits : 10 + length (partIn dataKind s) ≤ length out
-  copy-fits = omega (arith, copy-length s, ltb-false (length out) (length (copyOf s)) (onward t s time (length out) e o .fits))
+  copy-fits = omega (arith, copy-length s, known .fits)
 
-  onto : record { said = accepted (rowFor (dataIn s .destination) (rowsOf t) .«next_hop» ∷ length (copyOf s) ∷ []); held = sets out 0 (copyOf s) } ≡ relayOf t s time out
+  -- the answer to it: the next hop of the row for its destination, and the copy from the buffer's start
+  pub onto : record { said = accepted (rowFor (dataIn s .destination) (rowsOf t) .«next_hop» ∷ length (copyOf s) ∷ []); held = sets out 0 (copyOf s) } ≡ relayOf t s time out
   unfolding relayOf
-  onto = rw (lookup-told t (dataIn s .destination) time (onward t s time (length out) e o .found), e, o)
+  onto = rw (lookup-told t (dataIn s .destination) time (known .found), e, o)
 
 -- ---- the answers, with what was read as the code has it
 module _ (t : Table) (s : List ℕ) (time : ℕ) (out : List ℕ) (h : DataHeader) (n : ℕ) where
@@ -145,11 +162,11 @@ module _ (t : Table) (s : List ℕ) (time : ℕ) (out : List ℕ) (h : DataHeade
       go true false f = absurd (false≢true (sym f))
       go false u f = refl
 
-module _ (t : Table) (s : List ℕ) (time : ℕ) (h : DataHeader) (n : ℕ) (e : dataValues h ≡ valuesIn dataKind s) (z : n ≡ relayRefusal t s time 0) where
-  pub handed-part : (eqb n 0 && eqb (h .destination) (t .own)) ≡ true → partIn dataKind s ≡ handedBack t s time
+module _ (t : Table) (s : Lent) (time : ℕ) (h : DataHeader) (n : ℕ) (e : dataValues h ≡ valuesIn dataKind (s .bytes)) (z : n ≡ relayRefusal t (s .bytes) time 0) where
+  pub handed-part : (eqb n 0 && eqb (h .destination) (t .own)) ≡ true → partLent dataKind s ≡ handedBack t s time
   unfolding handedBack
-  handed-part f = let g = rw (header-in h s e) at f in rw (← z, g)
+  handed-part f = let g = rw (header-in h (s .bytes) e) at f in rw (← z, g)
 
-  pub handed-none : (eqb n 0 && eqb (h .destination) (t .own)) ≡ false → [] ≡ handedBack t s time
+  pub handed-none : (eqb n 0 && eqb (h .destination) (t .own)) ≡ false → partOf s 0 0 ≡ handedBack t s time
   unfolding handedBack
-  handed-none f = let g = rw (header-in h s e) at f in rw (← z, g)
+  handed-none f = let g = rw (header-in h (s .bytes) e) at f in rw (← z, g)

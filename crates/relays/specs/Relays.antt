@@ -8,9 +8,10 @@ use lib.ListN.{length, getD}
 use lib.Seq.{sets}
 use Rattle.octets.specs.Answers.{Said, accepted, refused, Reason, reason, refusing, first, unless}
 use Rattle.octets.specs.Calls.{after}
+use Rattle.octets.specs.Parts.{Lent, partOf}
 use Rattle.moments.specs.Moments.{inOrder}
 use Rattle.shapes.specs.Reading.{refusalAs}
-use Rattle.shapes.specs.Shape.{valuesIn, partIn, frameOf}
+use Rattle.shapes.specs.Shape.{valuesIn, partIn, partLent, frameOf}
 use Rattle.shapes.specs.Writing.{Wrote}
 use Rattle.traffic.specs.declared.data_frame.DataHeader.{DataHeader}
 use Rattle.traffic.specs.Traffic.{dataKind, dataValues, dataFrom}
@@ -62,9 +63,9 @@ relayOf t s time out =
       held = after refusal out (cond (forUs t s) out (sets out 0 (copyOf s)));
     }
 
--- the payload of a frame that is relayed to this unit, as its part of the frame; nothing of any other
-unfoldable pub handedBack : Table → List ℕ → ℕ → List ℕ
-handedBack t s time = cond (eqb (relayRefusal t s time 0) 0 && forUs t s) (partIn dataKind s) []
+-- the payload of a frame that is relayed to this unit, as its part of the frame; of any other nothing, at its start
+unfoldable pub handedBack : Table → Lent → ℕ → Lent
+handedBack t s time = cond (eqb (relayRefusal t (s .bytes) time 0) 0 && forUs t (s .bytes)) (partLent dataKind s) (partOf s 0 0)
 
 -- what the cases of the answer say
 abbrev pub toldRelayed : Relayed → Said

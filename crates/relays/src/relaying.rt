@@ -6,6 +6,7 @@ ghost use lib.Seq.{sets};
 ghost use Prim.Native.Nat.{_+_, _-_, _≤_};
 ghost use Rattle.octets.specs.Answers.{accepted, unless};
 ghost use Rattle.octets.specs.Layouts.{bytes};
+ghost use Rattle.octets.specs.Parts.{lent};
 ghost use Rattle.shapes.specs.Shape.{frameOf};
 ghost use Rattle.traffic.specs.Traffic.{dataKind, dataValues};
 ghost use Rattle.routes.specs.Tables.{withinRule, leadsTo};
@@ -129,7 +130,7 @@ pub fn relay(table: Table, frame: &[u8], time: u32, out: &mut [u8]) -> Relayed
 
 // The payload of a frame that is relayed to this unit, as its part of the frame; nothing of any other.
 pub fn handed_back(table: Table, frame: &[u8], time: u32) -> &[u8]
-    ensures { λ r. ⌜ now r ≡ handedBack table (now (frame .entry)) time ⌝ }
+    ensures { λ r. ⌜ lent r ≡ handedBack table (lent (frame .entry)) time ⌝ }
 {
     let header = DataHeader::of(frame);
     let rows = table.rows;

@@ -19,7 +19,7 @@ use Rattle.routes.specs.Tables.{rowsOf, withinRule, withRows, dropped, l
 use Rattle.routes.proofs.KeepLaws.{ascending-above, standing-rules}
 use Rattle.routes.proofs.RuleLaws.{within-pad}
 use Rattle.routes.proofs.StandingLaws.{used, in-use-used, in-use-pad, standing-every, standing-ascending, ascending-rest}
-use Rattle.routes.proofs.TableLaws.{within, address-some}
+use Rattle.routes.proofs.TableLaws.{within, few-stand, address-some}
 
 -- ---- the rows
 pub standing-again : (time : ℕ) (rs : List Row) → standing time (standing time rs) ≡ standing time rs
@@ -40,7 +40,7 @@ dropped-standing time t = ap (standing time) (dropped-rows time t) ∙ standing-
 pub dropped-within : (time : ℕ) (t : Table) → withinRule t ≡ true → withinRule (dropped time t) ≡ true
 dropped-within time t e =
     let w = within t e in
-    within-pad (t .own) (t .time) (t .forwarded) (t .origin) (t .sequence) (standing time (rowsOf t)) (w .unit) (w .pair)
+    within-pad (t .own) (t .time) (t .forwarded) (t .origin) (t .sequence) (standing time (rowsOf t)) (w .unit) (w .pair) (few-stand t e time)
     (standing-ascending time (rowsOf t) (w .ascends)) (standing-rules (t .own) (t .time) (t .time) (in-order-self (t .time)) time (rowsOf t) (w .rules))
 
 -- ---- one row looked up

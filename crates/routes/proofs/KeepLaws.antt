@@ -7,6 +7,7 @@ use Prim.Native.Nat.{ℕ}
 use native.Mathlib.Omega.{arith}
 use borrow.Author.Tests.{not-false}
 use lib.Dec.{eqb, ltb}
+use lib.ListN.{length-map}
 use Rattle.octets.specs.Answers.{reason}
 use Rattle.octets.specs.Lists.{every}
 use Rattle.octets.proofs.AnswerLaws.{numbered, none-holds}
@@ -14,11 +15,11 @@ use Rattle.moments.specs.Moments.{inOrder}
 use Rattle.shapes.specs.Rules.{address}
 use Rattle.routes.specs.declared.row.Row.{Row}
 use Rattle.routes.specs.declared.table.Table.{Table}
-use Rattle.routes.specs.Rows.{none, usable, rowRule, withdrawnAt, forgotten, ascending, pad, standing}
+use Rattle.routes.specs.Rows.{usable, rowRule, withdrawnAt, forgotten, ascending, pad, standing}
 use Rattle.routes.specs.Tables.{rowsOf, withinRule, freshOf, forgetOf}
 use Rattle.routes.proofs.RuleLaws.{rule-later, rule-withdrawn, rules-later, within-pad}
 use Rattle.routes.proofs.StandingLaws.{ascending-without, standing-every, standing-ascending}
-use Rattle.routes.proofs.TableLaws.{within}
+use Rattle.routes.proofs.TableLaws.{within, few-stand, forgettable}
 
 -- ---- what a test of rows says of some of them
 pub every-map : (test test′ : Row → Bool) (f : Row → Row) → ((r : Row) → test r ≡ true → test′ (f r) ≡ true) → (rs : List Row)
@@ -38,16 +39,20 @@ ascending-above r (s ∷ rs) e =
     let (a, f) = and-eq-true-iff (ltb (r .destination) (s .destination)) (ascending (s ∷ rs)) .0 e in
     rw (a, ascending-above r rs (ascending-without r s rs e))
 
+-- ---- a row when a unit is forgotten: as it was, or withdrawn
+pub by-forgotten : (P : Row → Type 0) (unit time : ℕ) (r : Row) → P r → P (withdrawnAt time r) → P (forgotten unit time r)
+by-forgotten P unit time r same lost = go (usable time r && (eqb (r .destination) unit || eqb (r .«next_hop») unit))
+  where
+    go : (b : Bool) → P (cond b (withdrawnAt time r) r)
+    go true = lost
+    go false = same
+
 -- ---- rows within rule at a later time
 module _ (own last at : ℕ) (o : inOrder last at ≡ true) where
   rule-forgotten : (unit : ℕ) (r : Row) → rowRule own last r ≡ true → rowRule own at (forgotten unit at r) ≡ true
   rule-forgotten unit r e =
       let later = rule-later own last at o r e in
-      go (usable at r && (eqb (r .destination) unit || eqb (r .«next_hop») unit)) (rule-withdrawn own at r later) later
-    where
-      go : (b : Bool) → rowRule own at (withdrawnAt at r) ≡ true → rowRule own at r ≡ true → rowRule own at (cond b (withdrawnAt at r) r) ≡ true
-      go true f g = f
-      go false f g = g
+      by-forgotten (λ x. rowRule own at x ≡ true) unit at r later (rule-withdrawn own at r later)
 
   -- the rows that stand, in a table with a later time
   pub standing-rules : (time : ℕ) (rs : List Row) → every (rowRule own last) rs ≡ true → every (rowRule own at) (standing time rs) ≡ true
@@ -64,27 +69,22 @@ ascending-map f k (r ∷ []) = refl
 ascending-map f k (r ∷ s ∷ rs) = rw (ascending-map f k (s ∷ rs), k r, k s)
 
 forgotten-destination : (unit time : ℕ) (r : Row) → forgotten unit time r .destination ≡ r .destination
-forgotten-destination unit time r = go (usable time r && (eqb (r .destination) unit || eqb (r .«next_hop») unit))
-  where
-    go : (b : Bool) → cond b (withdrawnAt time r) r .destination ≡ r .destination
-    go true = refl
-    go false = refl
+forgotten-destination unit time r = by-forgotten (λ x. x .destination ≡ r .destination) unit time r refl refl
 
 -- ---- the calls
 pub fresh-within : (own time : ℕ) → freshOf own time .refused ≡ 0 → withinRule (freshOf own time .table) ≡ true
 unfolding freshOf pad every
 fresh-within own time e =
     let a = not-false (address own) (none-holds (reason (not (address own)) 4 ∷ []) (numbered _ 4 (λ z. omega arith), tt) e .0) in
-    rw a (within-pad own time false 0 0 [] a refl refl refl)
+    rw a (within-pad own time false 0 0 [] a refl (omega arith) refl refl)
 
 pub forget-within : (t : Table) (unit time : ℕ) → forgetOf t unit time .refused ≡ 0 → withinRule (forgetOf t unit time .table) ≡ true
 unfolding forgetOf
 forget-within t unit time e =
-    let none = none-holds (reason (not (withinRule t)) 14 ∷ reason (not (address unit)) 4 ∷ reason (eqb unit (t .own)) 6 ∷ reason (not (inOrder (t .time) time)) 8 ∷ [])
-    (numbered _ 14 (λ z. omega arith), (numbered _ 4 (λ z. omega arith), (numbered _ 6 (λ z. omega arith), (numbered _ 8 (λ z. omega arith), tt)))) e in
-    let w = within t (not-false (withinRule t) (none .0)) in
-    let o = not-false (inOrder (t .time) time) (none .1 .1 .1 .0) in
+    let f = forgettable t unit time e in
+    let w = within t (f .right) in
     let rs = standing time (rowsOf t) in
     let up = ascending-map (forgotten unit time) (forgotten-destination unit time) rs ∙ standing-ascending time (rowsOf t) (w .ascends) in
-    rw e (within-pad (t .own) time (t .forwarded) (t .origin) (t .sequence) (map (forgotten unit time) rs) (w .unit) (w .pair) up
-    (forgotten-rules (t .own) (t .time) time o unit time (rowsOf t) (w .rules)))
+    rw e (within-pad (t .own) time (t .forwarded) (t .origin) (t .sequence) (map (forgotten unit time) rs) (w .unit) (w .pair)
+    (omega (arith, length-map rs (forgotten unit time), few-stand t (f .right) time)) up
+    (forgotten-rules (t .own) (t .time) time (f .ordered) unit time (rowsOf t) (w .rules)))

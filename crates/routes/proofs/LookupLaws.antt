@@ -9,7 +9,6 @@ use Rattle.octets.specs.Answers.{Said, accepted, unless}
 use Rattle.octets.proofs.AnswerLaws.{unless-none, unless-number}
 use Rattle.moments.specs.Moments.{inOrder}
 use Rattle.shapes.specs.Rules.{address}
-use Rattle.routes.specs.declared.row.Row.{Row}
 use Rattle.routes.specs.declared.table.Table.{Table}
 use Rattle.routes.specs.Rows.{rowFor}
 use Rattle.routes.specs.Tables.{rowsOf, withinRule, leadsTo, lookupRefusal, lookupOf}

@@ -1,16 +1,18 @@
 -- Rows within rule, and the table that is made of them.
 -- Assumes nothing.
 use mathlib.Core.Path.{_≡_, refl}
-use mathlib.Core.Bool.{Bool, true, false, not, _&&_, and-eq-true-iff, false≢true}
-use mathlib.Core.List.{List, [], _∷_}
-use Prim.Native.Nat.{ℕ}
-use native.Mathlib.Omega.{arith}
-use borrow.Author.Tests.{leb-true, lt-ltb}
+use mathlib.Core.Bool.{Bool, true, false, not, _&&_, false≢true}
+use mathlib.Core.List.{List}
+use Prim.Native.Nat.{ℕ, _≤_}
+use borrow.Author.Tests.{lt-ltb}
 use lib.Dec.{eqb, leb}
+use lib.ListN.{length}
 use Rattle.octets.specs.Lists.{every}
+use Rattle.octets.proofs.ListLaws.{every-on}
 use Rattle.moments.specs.Moments.{inOrder}
 use Rattle.moments.proofs.MomentLaws.{in-order-self, in-order-on}
 use Rattle.shapes.specs.Rules.{address}
+use Rattle.shapes.proofs.RuleLaws.{address-least}
 use Rattle.routes.specs.declared.row.Row.{Row}
 use Rattle.routes.specs.Rows.{rowRule, withdrawnAt, ascending, inUse, pad}
 use Rattle.routes.specs.Tables.{pairOk, withinRule}
@@ -44,14 +46,6 @@ module _ (own last : ℕ) (r : Row) where
       let k = parts (address (r .destination)) (not (eqb (r .destination) own)) (address (r .«next_hop»)) (not (eqb (r .«next_hop») own)) (leb 1 (r .hops) && leb (r .hops) 16) (leb 40 (r .quality)) (inOrder (r .time) last) e in
       record { destination = k .0; other = k .1; hop = k .2; otherHop = k .3; hops = k .4; quality = k .5; past = k .6 }
 
--- what holds of every row by what held of it before
-pub every-on : (test test′ : Row → Bool) → ((r : Row) → test r ≡ true → test′ r ≡ true) → (rs : List Row) → every test rs ≡ true → every test′ rs ≡ true
-unfolding every
-every-on test test′ on [] e = refl
-every-on test test′ on (r ∷ rs) e =
-    let (here, later) = and-eq-true-iff (test r) (every test rs) .0 e in
-    rw (on r here) (every-on test test′ on rs later)
-
 -- a row within rule is so at a later time, and when it is withdrawn
 pub rule-later : (own last time : ℕ) → inOrder last time ≡ true → (r : Row) → rowRule own last r ≡ true → rowRule own time r ≡ true
 rule-later own last time h r e =
@@ -70,18 +64,16 @@ rules-later own last time h = every-on (rowRule own last) (rowRule own time) (ru
 pub rules-used : (own last : ℕ) (rs : List Row) → every (rowRule own last) rs ≡ true → every used rs ≡ true
 rules-used own last =
     every-on (rowRule own last) used
-    (λ r e.
-    let h = leb-true 1 (r .destination) (and-eq-true-iff (leb 1 (r .destination)) (leb (r .destination) 0xFFFE) .0 (ruled own last r e .destination) .0) in
-    lt-ltb 0 (r .destination) (omega (arith, h)))
+    (λ r e. lt-ltb 0 (r .destination) (address-least (r .destination) (ruled own last r e .destination)))
 
 -- the rows of a table that is made of rows within rule are these rows
 pub rows-of-pad : (own last : ℕ) (rs : List Row) → every (rowRule own last) rs ≡ true → inUse (pad rs) ≡ rs
 rows-of-pad own last rs e = in-use-pad rs (rules-used own last rs e)
 
--- a table that is made of rows within rule, in order, is within rule
-pub within-pad : (own time : ℕ) (forwarded : Bool) (origin sequence : ℕ) (rs : List Row) → address own ≡ true → pairOk forwarded origin sequence ≡ true → ascending rs ≡ true
-    → every (rowRule own time) rs ≡ true
+-- a table that is made of at most 48 rows within rule, in order, is within rule
+pub within-pad : (own time : ℕ) (forwarded : Bool) (origin sequence : ℕ) (rs : List Row) → address own ≡ true → pairOk forwarded origin sequence ≡ true → length rs ≤ 48
+    → ascending rs ≡ true → every (rowRule own time) rs ≡ true
     → withinRule (record { own = own; time = time; forwarded = forwarded; origin = origin; sequence = sequence; rows = pad rs }) ≡ true
-within-pad own time forwarded origin sequence rs unit pair ascends rules =
+within-pad own time forwarded origin sequence rs unit pair few ascends rules =
     let same = rows-of-pad own time rs rules in
-    by-parts _ (record { unit = unit; pair = pair; ascends = rw same ascends; rules = rw same rules; zeros = rw same (pad-zeros rs) })
+    by-parts _ (record { unit = unit; pair = pair; few = rw same few; ascends = rw same ascends; rules = rw same rules; zeros = rw same (pad-zeros rs) })

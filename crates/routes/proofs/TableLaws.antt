@@ -3,34 +3,39 @@
 use mathlib.Core.Path.{_≡_, refl, sym, ap, _∙_}
 use mathlib.Core.Bool.{Bool, true, false, not, _&&_, cond, and-eq-true-iff, false≢true}
 use mathlib.Core.List.{List, [], _∷_, _++_, map}
-use Prim.Native.Nat.{ℕ, zero, suc, _-_}
+use Prim.Native.Nat.{ℕ, zero, suc, _-_, _≤_}
 use native.Mathlib.Decide.{ℕ-discrete}
 use native.Mathlib.Omega.{arith}
-use borrow.Author.Tests.{ne-eqb, leb-true, eqb-true, not-true}
+use borrow.Author.Tests.{ne-eqb, leb-true, le-leb, eqb-true, not-true, not-false}
 use lib.Dec.{eqb, leb}
 use lib.ListN.{length, drop, replicate, length-map, length-drop}
-use Rattle.octets.specs.Answers.{Reason, reason, first}
+use Rattle.octets.specs.Answers.{first}
 use Rattle.octets.specs.Lists.{every}
+use Rattle.octets.proofs.AnswerLaws.{numbered, none-holds}
 use Rattle.moments.specs.Moments.{inOrder}
 use Rattle.shapes.specs.Rules.{address}
+use Rattle.shapes.proofs.RuleLaws.{address-least}
 use Rattle.routes.specs.declared.row.Row.{Row}
 use Rattle.routes.specs.declared.table.Table.{Table}
 use Rattle.routes.specs.Places.{okPlaces}
 use Rattle.routes.specs.Rows.{none, usable, rowRule, isNone, forgotten, ascending, inUse, pad, standing, standingPlaces}
-use Rattle.routes.specs.Tables.{rowsOf, pairOk, withinRule, settled, withRows, forgetOf}
+use Rattle.routes.specs.Tables.{rowsOf, pairOk, withinRule, settled, withRows, forgetReasons, forgetOf}
 use Rattle.routes.proofs.PlaceLaws.{ok-right}
-use Rattle.routes.proofs.StandingLaws.{standing-places}
+use Rattle.routes.proofs.StandingLaws.{standing-places, standing-shorter, in-use-fits}
 
-regrouped : (x a e n : Bool) → (x && (a && e && n)) ≡ (x && a && e && n)
-regrouped true a e n = refl
-regrouped false a e n = refl
+regrouped : (x f a e n : Bool) → f ≡ true → (x && (a && e && n)) ≡ (x && f && a && e && n)
+regrouped true true a e n h = refl
+regrouped true false a e n h = absurd (false≢true h)
+regrouped false f a e n h = refl
 
-pub table-right : (t : Table) (pair places : Bool) → pair ≡ pairOk (t .forwarded) (t .origin) (t .sequence) → places ≡ okPlaces (t .own) (t .time) (t .rows)
-    → (address (t .own) && pair && places) ≡ withinRule t
+-- an array of 48 places has no more rows, so that no test counts them
+pub table-right : (t : Table) (pair places : Bool) → length (t .rows) ≡ 48 → pair ≡ pairOk (t .forwarded) (t .origin) (t .sequence)
+    → places ≡ okPlaces (t .own) (t .time) (t .rows) → (address (t .own) && pair && places) ≡ withinRule t
 unfolding withinRule
-table-right t pair places p q =
+table-right t pair places l p q =
     rw (p, q, ok-right (t .own) (t .time) (t .rows))
-    (regrouped (address (t .own) && pairOk (t .forwarded) (t .origin) (t .sequence)) (ascending (inUse (t .rows))) (every (rowRule (t .own) (t .time)) (inUse (t .rows))) _)
+    (regrouped (address (t .own) && pairOk (t .forwarded) (t .origin) (t .sequence)) _ (ascending (inUse (t .rows))) (every (rowRule (t .own) (t .time)) (inUse (t .rows))) _
+    (le-leb _ _ (in-use-fits (t .rows) l)))
 
 -- only an accepted call shows the new table
 pub settled-same : (n : ℕ) (t a b : Table) → (n ≡ 0 → a ≡ b) → settled n t a ≡ settled n t b
@@ -58,18 +63,8 @@ forgotten-none unit time h = rw (ne-eqb 0 unit (λ z. h (sym z))) (go (usable ti
     go true = refl
     go false = refl
 
--- what an accepted call says of the table and the unit that it names
-pub record Passed (a b : Bool) : Type 0 where
-  pub within : a ≡ true
-  pub unit : b ≡ true
-
-pub two-passed : (a b : Bool) (m n : ℕ) (rest : List Reason) → (m ≡ 0 → ⊥) → (n ≡ 0 → ⊥) → first (reason (not a) m ∷ reason (not b) n ∷ rest) ≡ 0 → Passed a b
-two-passed false b m n rest p q e = absurd (p e)
-two-passed true true m n rest p q e = record { within = refl; unit = refl }
-two-passed true false m n rest p q e = absurd (q e)
-
 pub address-some : (unit : ℕ) → address unit ≡ true → unit ≡ 0 → ⊥
-address-some unit e z = omega (arith, leb-true 1 unit (and-eq-true-iff (leb 1 unit) (leb unit 0xFFFE) .0 e .0))
+address-some unit e z = omega (arith, address-least unit e)
 
 -- ---- the places of a table within rule are its rows, with zeros behind them
 abbrev built : ℕ → ℕ → ℕ → ℕ → ℕ → Bool → Row
@@ -103,31 +98,37 @@ in-use-first (r ∷ rs) = go (eqb (r .destination) 0) (in-use-first rs)
     go true h = refl
     go false h = ap (λ (l : List Row). r ∷ l) h
 
--- the five parts of the rule
+-- the six parts of the rule
 pub record Within (t : Table) : Type 0 where
   pub unit : address (t .own) ≡ true
   pub pair : pairOk (t .forwarded) (t .origin) (t .sequence) ≡ true
+  pub few : length (rowsOf t) ≤ 48
   pub ascends : ascending (rowsOf t) ≡ true
   pub rules : every (rowRule (t .own) (t .time)) (rowsOf t) ≡ true
   pub zeros : every isNone (drop (length (rowsOf t)) (t .rows)) ≡ true
 
-five : (u p a r z : Bool) → (u && p && a && r && z) ≡ true → (u ≡ true) × (p ≡ true) × (a ≡ true) × (r ≡ true) × (z ≡ true)
-five true true true true true e = (refl, refl, refl, refl, refl)
-five true true true true false e = absurd (false≢true e)
-five true true true false z e = absurd (false≢true e)
-five true true false r z e = absurd (false≢true e)
-five true false a r z e = absurd (false≢true e)
-five false p a r z e = absurd (false≢true e)
+six : (u p f a r z : Bool) → (u && p && f && a && r && z) ≡ true → (u ≡ true) × (p ≡ true) × (f ≡ true) × (a ≡ true) × (r ≡ true) × (z ≡ true)
+six true true true true true true e = (refl, refl, refl, refl, refl, refl)
+six true true true true true false e = absurd (false≢true e)
+six true true true true false z e = absurd (false≢true e)
+six true true true false r z e = absurd (false≢true e)
+six true true false a r z e = absurd (false≢true e)
+six true false f a r z e = absurd (false≢true e)
+six false p f a r z e = absurd (false≢true e)
 
 pub within : (t : Table) → withinRule t ≡ true → Within t
 unfolding withinRule
 within t e =
-    let w = five (address (t .own)) (pairOk (t .forwarded) (t .origin) (t .sequence)) (ascending (rowsOf t)) (every (rowRule (t .own) (t .time)) (rowsOf t)) (every isNone (drop (length (rowsOf t)) (t .rows))) e in
-    record { unit = w .0; pair = w .1; ascends = w .2; rules = w .3; zeros = w .4 }
+    let w = six (address (t .own)) (pairOk (t .forwarded) (t .origin) (t .sequence)) (leb (length (rowsOf t)) 48) (ascending (rowsOf t)) (every (rowRule (t .own) (t .time)) (rowsOf t)) (every isNone (drop (length (rowsOf t)) (t .rows))) e in
+    record { unit = w .0; pair = w .1; few = leb-true (length (rowsOf t)) 48 (w .2); ascends = w .3; rules = w .4; zeros = w .5 }
 
 pub by-parts : (t : Table) → Within t → withinRule t ≡ true
 unfolding withinRule
-by-parts t w = rw (w .unit, w .pair, w .ascends, w .rules, w .zeros)
+by-parts t w = rw (w .unit, w .pair, le-leb (length (rowsOf t)) 48 (w .few), w .ascends, w .rules, w .zeros)
+
+-- no more than 48 of its rows stand
+pub few-stand : (t : Table) → withinRule t ≡ true → (time : ℕ) → length (standing time (rowsOf t)) ≤ 48
+few-stand t e time = omega (arith, standing-shorter time (rowsOf t), within t e .few)
 
 pub held : (t : Table) → length (t .rows) ≡ 48 → withinRule t ≡ true → t .rows ≡ pad (rowsOf t)
 unfolding pad
@@ -136,19 +137,32 @@ held t l e =
     let count : length behind ≡ 48 - length (rowsOf t) = length-drop (length (rowsOf t)) (t .rows) ∙ rw l in
     sym (in-use-first (t .rows)) ∙ ap (λ (rs : List Row). rowsOf t ++ rs) (all-none behind (within t e .zeros) ∙ ap (λ (n : ℕ). replicate n none) count)
 
--- the table of an accepted forget, with its rows as the loops leave them
+-- ---- forgetting a unit
+-- what holds where a unit is forgotten
+pub record Forgettable (t : Table) (unit time : ℕ) : Type 0 where
+  pub right : withinRule t ≡ true
+  pub known : address unit ≡ true
+  pub ordered : inOrder (t .time) time ≡ true
+
+pub forgettable : (t : Table) (unit time : ℕ) → first (forgetReasons t unit time) ≡ 0 → Forgettable t unit time
+forgettable t unit time e =
+    let none =
+    none-holds (forgetReasons t unit time)
+    (numbered _ 14 (λ z. omega arith), (numbered _ 4 (λ z. omega arith), (numbered _ 6 (λ z. omega arith), (numbered _ 8 (λ z. omega arith), tt)))) e in
+    record { right = not-false (withinRule t) (none .0); known = not-false (address unit) (none .1 .0); ordered = not-false (inOrder (t .time) time) (none .1 .1 .1 .0) }
+
+-- the table then, with its rows as the loops leave them
 module _ (t : Table) (unit time n : ℕ) (rows : List Row) (l : length (t .rows) ≡ 48) where
   abbrev Left : Table
   Left = record { own = t .own; time = time; forwarded = t .forwarded; origin = t .origin; sequence = t .sequence; rows = rows }
 
-  pub forgets : n ≡ first (reason (not (withinRule t)) 14 ∷ reason (not (address unit)) 4 ∷ reason (eqb unit (t .own)) 6 ∷ reason (not (inOrder (t .time) time)) 8 ∷ [])
-      → rows ≡ map (forgotten unit time) (standingPlaces time (t .rows)) → settled n t Left ≡ forgetOf t unit time
+  pub forgets : n ≡ first (forgetReasons t unit time) → rows ≡ map (forgotten unit time) (standingPlaces time (t .rows)) → settled n t Left ≡ forgetOf t unit time
   unfolding forgetOf
   forgets e q =
       let h : n ≡ 0 → Left ≡ withRows t time (map (forgotten unit time) (standing time (rowsOf t))) =
       λ z.
-      let p = two-passed (withinRule t) (address unit) 14 4 (reason (eqb unit (t .own)) 6 ∷ reason (not (inOrder (t .time) time)) 8 ∷ []) (λ y. omega arith) (λ y. omega arith) (sym e ∙ z) in
-      let stand = ap (map (forgotten unit time)) (standing-places time (t .rows) (held t l (p .within))) in
+      let f = forgettable t unit time (sym e ∙ z) in
+      let stand = ap (map (forgotten unit time)) (standing-places time (t .rows) (held t l (f .right))) in
       ap (λ (rs : List Row). record { own = t .own; time = time; forwarded = t .forwarded; origin = t .origin; sequence = t .sequence; rows = rs })
-      (q ∙ (stand ∙ map-pad (forgotten unit time) (forgotten-none unit time (address-some unit (p .unit))) (standing time (rowsOf t)))) in
+      (q ∙ (stand ∙ map-pad (forgotten unit time) (forgotten-none unit time (address-some unit (f .known))) (standing time (rowsOf t)))) in
       settled-same n t Left _ h ∙ rw e

@@ -3,7 +3,7 @@
 use Prim.Native.Nat.{ℕ}
 use mathlib.Core.Bool.{Bool, false, not, _&&_, cond}
 use mathlib.Core.List.{List, [], _∷_, map}
-use lib.Dec.{eqb}
+use lib.Dec.{eqb, leb}
 use lib.ListN.{length, drop, replicate}
 use Rattle.octets.specs.Answers.{Said, accepted, Reason, reason, first, unless}
 use Rattle.octets.specs.Lists.{every}
@@ -22,11 +22,11 @@ rowsOf t = inUse (t .rows)
 abbrev pub pairOk : Bool → ℕ → ℕ → Bool
 pairOk forwarded origin sequence = cond forwarded (address origin) (eqb origin 0 && eqb sequence 0)
 
--- a table is within rule: its unit is an address, its rows ascend and keep their rules, and every place behind them is zeros
+-- a table is within rule: its unit is an address, it has at most 48 rows, which ascend and keep their rules, and every place behind them is zeros
 unfoldable pub withinRule : Table → Bool
 withinRule t =
-    address (t .own) && pairOk (t .forwarded) (t .origin) (t .sequence) && ascending (rowsOf t) && every (rowRule (t .own) (t .time)) (rowsOf t)
-    && every isNone (drop (length (rowsOf t)) (t .rows))
+    address (t .own) && pairOk (t .forwarded) (t .origin) (t .sequence) && leb (length (rowsOf t)) 48 && ascending (rowsOf t)
+    && every (rowRule (t .own) (t .time)) (rowsOf t) && every isNone (drop (length (rowsOf t)) (t .rows))
 
 -- the table with these rows at this time
 abbrev pub withRows : Table → ℕ → List Row → Table

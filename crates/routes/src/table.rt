@@ -1,6 +1,7 @@
 // A unit's table of at most 48 routes, by value.
 ghost use mathlib.Core.Path.{_≡_};
 ghost use mathlib.Core.List.{[], _∷_, map};
+ghost use lib.ListN.{length};
 ghost use Rattle.routes.specs.Places.{okPlaces};
 ghost use Rattle.routes.specs.Rows.{forgotten, inUse, rowFor};
 ghost use Rattle.octets.specs.Answers.{accepted, unless};
@@ -41,7 +42,7 @@ pub enum Found {
 
 // Whether each place may stand before the next.
 fn places_ok(own: u16, last: u32, rows: [Row; 48]) -> bool
-    ensures { λ r. ⌜ r ≡ okPlaces own last rows ⌝ }
+    ensures { λ r. ⌜ (r ≡ okPlaces own last rows) × (length rows ≡ 48) ⌝ }
 {
     for i in 0..47 {
         let row = rows[i];

@@ -7,6 +7,7 @@ use mathlib.Core.List.{List, [], _∷_, _++_}
 use lib.Dec.{eqb}
 use lib.ListN.{take, drop}
 use Rattle.octets.specs.Layouts.{total, fields, bytes}
+use Rattle.octets.specs.Parts.{Lent, partOf}
 use Rattle.octets.specs.Sums.{xors}
 
 pub record Kind : Type 0 where
@@ -37,6 +38,10 @@ valuesIn k s = fields (k .widths) s 1
 
 abbrev pub partIn : Kind → List ℕ → List ℕ
 partIn k s = take (k .extent (valuesIn k s)) (drop (placeOf k) s)
+
+-- those bytes as a part of a lent frame
+abbrev pub partLent : Kind → Lent → Lent
+partLent k s = partOf s (placeOf k) (k .extent (valuesIn k (s .bytes)))
 
 -- the bytes with their XOR behind them
 unfoldable pub sealed : List ℕ → List ℕ

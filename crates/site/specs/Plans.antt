@@ -44,6 +44,11 @@ discoveryAt p = dataAt p + p .«data_slots»
 abbrev pub sleepAt : Plan → ℕ
 sleepAt p = active p
 
+-- ---- what a plan tells
+-- its active slots, the slots of a superframe and their ms, and where control, data, discovery and sleep begin; beacons begin at 0
+abbrev pub planNumbers : Plan → List ℕ
+planNumbers p = active p ∷ slots p ∷ superframeMs p ∷ controlAt p ∷ dataAt p ∷ discoveryAt p ∷ sleepAt p ∷ []
+
 -- ---- the rules
 abbrev pub planRule : Plan → Bool
 planRule p =

@@ -1,5 +1,7 @@
 // A site's plan: the six numbers that it is made from, and when they are refused.
 ghost use mathlib.Core.Path.{_≡_};
+ghost use mathlib.Core.Bool.{_&&_};
+ghost use lib.Dec.{leb};
 ghost use Rattle.site.specs.Plans.{planRule, planOf, toldPlan};
 use frames::answers::Refusal;
 
@@ -18,24 +20,34 @@ pub enum Made {
     Refused(Refusal),
 }
 
+// Whether four numbers fit into a plan's fields. Those that do not are out of rule, whatever the others are.
+fn fit(max_hops: u32, rows: u32, data_slots: u32, slot_ms: u32) -> bool
+    ensures { λ r. ⌜ r ≡ (leb «max_hops» 255 && leb rows 255 && leb «data_slots» 255 && leb «slot_ms» 65535) ⌝ }
+{
+    (max_hops <= 255) & (rows <= 255) & (data_slots <= 255) & (slot_ms <= 65_535)
+}
+
 impl Plan {
     pub fn new(
         network: u16,
         manager: u16,
-        max_hops: u8,
-        rows: u8,
-        data_slots: u8,
-        slot_ms: u16,
+        max_hops: u32,
+        rows: u32,
+        data_slots: u32,
+        slot_ms: u32,
     ) -> Made
         ensures { λ r. ⌜ toldPlan r ≡ planOf network manager «max_hops» rows «data_slots» «slot_ms» ⌝ }
     {
+        if !fit(max_hops, rows, data_slots, slot_ms) {
+            return Made::Refused(Refusal { number: 14 });
+        }
         let plan = Plan {
             network,
             manager,
-            max_hops,
-            rows,
-            data_slots,
-            slot_ms,
+            max_hops: max_hops as u8,
+            rows: rows as u8,
+            data_slots: data_slots as u8,
+            slot_ms: slot_ms as u16,
         };
         if plan.within_rule() {
             return Made::Plan(plan);

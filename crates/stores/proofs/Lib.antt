@@ -1,3 +1,4 @@
+pub mod SizeLaws
 pub mod StateTripLaws
 pub mod TableByteLaws
 pub mod TableTripLaws

@@ -1,31 +1,40 @@
--- What is stored is what is read back: the statements of specs/Laws, proved.
+-- The round trips of a state and its bytes.
 -- Assumes nothing.
 use mathlib.Core.Path.{_≡_, refl, sym, ap, _∙_}
-use mathlib.Core.List.{List, []}
-use Prim.Native.Nat.{ℕ, _+_}
+use mathlib.Core.List.{List, [], append-nil}
+use Prim.Native.Nat.{ℕ}
 use native.Mathlib.Omega.{arith}
-use lib.ListN.{length, drop}
-use lib.Seq.{sets, sets-eq, take-all}
-use Rattle.octets.specs.Layouts.{fields, bytes, Bytes}
-use Rattle.octets.proofs.LayoutLaws.{length-bytes, fields-bytes, bytes-fields}
+use lib.ListN.{length}
+use lib.Seq.{take-all}
+use Rattle.octets.specs.Layouts.{Bytes}
+use Rattle.octets.proofs.LayoutLaws.{length-bytes, fields-bytes, bytes-fields, fields-fit}
+use Rattle.octets.proofs.StoreLaws.{sets-whole}
 use Rattle.life.specs.declared.state.State.{State}
-use Rattle.stores.specs.StateBytes.{stateWidths, stateSize, stateValues, stateFrom, stateIn, stateOver}
-use Rattle.stores.specs.StateTrips.{StateReadBack, StateSaidOnce}
+use Rattle.stores.specs.StateBytes.{stateWidths, stateSize, stateValues, stateFrom, stateIn, stateBytes, stateOver}
+use Rattle.stores.specs.StateTrips.{StateSized, StateReadsBack, StateFills, StateWritesBack, StateSaidOnce}
 
-pub state-read-back : StateReadBack
-unfolding stateIn stateOver
-state-read-back out state room fit =
-    let vs = stateValues state in
-    let put = bytes stateWidths vs in
-    let size : length put ≡ stateSize = length-bytes stateWidths vs refl in
-    let read : fields stateWidths (sets out 0 put) 0 ≡ vs =
-    rw (sets-eq put out 0 (omega arith)) (fields-bytes stateWidths vs [] (drop (0 + length put) out) 0 refl fit) in
-    ap stateFrom read
+-- ---- what was written, read
+pub length-state : (state : State) → length (stateBytes state) ≡ stateSize
+length-state state = length-bytes stateWidths (stateValues state) refl
+
+pub state-reads-back : StateReadsBack
+unfolding stateIn
+state-reads-back state fit =
+    let read = fields-bytes stateWidths (stateValues state) [] [] 0 refl fit in
+    (ap stateFrom (rw (append-nil (stateBytes state)) at read), length-state state)
+
+pub state-fills : StateFills
+unfolding stateOver
+state-fills out state room = sets-whole out (stateBytes state) (length-state state ∙ sym room)
+
+-- ---- what was read, written
+pub state-sized : (s : List ℕ) → Bytes s → StateSized (stateIn s)
+unfolding stateIn
+state-sized s b = fields-fit s b stateWidths 0
+
+pub state-writes-back : StateWritesBack
+unfolding stateIn
+state-writes-back s b l = bytes-fields s b stateWidths 0 (omega arith) ∙ take-all stateSize s (omega arith)
 
 pub state-said-once : StateSaidOnce
-unfolding stateIn
-state-said-once s t b b′ l l′ e =
-    sym (whole s b l) ∙ (ap (λ (x : State). bytes stateWidths (stateValues x)) e ∙ whole t b′ l′)
-  where
-    whole : (u : List ℕ) → Bytes u → length u ≡ stateSize → bytes stateWidths (stateValues (stateIn u)) ≡ u
-    whole u c m = bytes-fields u c stateWidths 0 (omega arith) ∙ take-all stateSize u (omega arith)
+state-said-once s t b b′ l l′ e = sym (state-writes-back s b l) ∙ (ap stateBytes e ∙ state-writes-back t b′ l′)

@@ -24,6 +24,10 @@ stateFrom vs = record { kind = getD vs 0 0; last = getD vs 1 0; entered = getD v
 unfoldable pub stateIn : List ℕ → State
 stateIn s = stateFrom (fields stateWidths s 0)
 
+-- the bytes that say a state
+abbrev pub stateBytes : State → List ℕ
+stateBytes state = bytes stateWidths (stateValues state)
+
 -- a buffer with the bytes of a state from its start on
 unfoldable pub stateOver : List ℕ → State → List ℕ
-stateOver out state = sets out 0 (bytes stateWidths (stateValues state))
+stateOver out state = sets out 0 (stateBytes state)

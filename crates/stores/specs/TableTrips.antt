@@ -15,7 +15,7 @@ abbrev pub RowsFit : List Row → Type 0
 RowsFit [] = Unit
 RowsFit (r ∷ rs) = Fit rowWidths (rowValues r) × RowsFit rs
 
--- a table as the code can have it: 48 rows, and every number fits its bytes
+-- a table as the code can have it: 48 places, and every number fits its bytes
 pub record Sized (t : Table) : Type 0 where
   pub places : length (t .rows) ≡ 48
   pub head : Fit headWidths (headValues t)

@@ -1,16 +1,15 @@
 -- Numbers whose type is that of a kind: what the writer does with them is what the kind's definition says.
 -- Assumes nothing.
-use mathlib.Core.Path.{_≡_, refl, sym, ap, _∙_}
-use mathlib.Core.Bool.{Bool, true, false, not, _||_, cond}
+use mathlib.Core.Path.{_≡_, refl, sym, ap, ap₂, _∙_}
+use mathlib.Core.Bool.{Bool, true, false, _&&_, false≢true}
 use mathlib.Core.List.{List, [], _∷_, _++_, List·Memᴰ}
 use mathlib.Core.Logic.{⊎-elim}
 use Prim.Native.Nat.{ℕ, suc, _+_, _≤_, _<_}
 use native.Mathlib.Omega.{arith}
 use borrow.Author.Tests.{leb-true}
-use lib.Dec.{eqb, leb, ltb}
+use lib.Dec.{leb}
 use lib.ListN.{length, getD, take}
-use Rattle.octets.specs.Answers.{refused}
-use Rattle.octets.specs.Layouts.{total, bytes}
+use Rattle.octets.specs.Layouts.{total, bytes, Fit}
 use Rattle.octets.specs.Lists.{every}
 use Rattle.frames.specs.declared.answers.Written.{Written}
 use Rattle.frames.specs.declared.layouts.Layout.{Layout}
@@ -19,11 +18,13 @@ use Rattle.frames.specs.Layout.{widthsOf, layoutOf}
 use Rattle.frames.specs.Listed.{given, fitting, extentOf, writeListed, writeNumbers}
 use Rattle.shapes.specs.Shape.{Kind, placeOf, lengthOf, sealed, frameOf}
 use Rattle.frames.specs.Told.{wrote}
-use Rattle.shapes.specs.Writing.{Wrote, writeRefusal, writing}
+use Rattle.shapes.specs.Writing.{writeRefusal, writing, Wrote, writeAs}
 use Rattle.frames.proofs.KindLaws.{asked, known-or-not, code-fits}
 use Rattle.frames.proofs.LayoutLaws.{laid-out, of-widths}
+use Rattle.frames.proofs.ListedLaws.{listed-as, by-type}
+use Rattle.shapes.proofs.WritingLaws.{put}
 use Rattle.writers.specs.Taking.{takes}
-use Rattle.writers.proofs.ListedLaws.{length-given, fitting-fit, fitting-stand, told-late, takes-kept}
+use Rattle.writers.proofs.ListedLaws.{length-given, fitting-fit, fitting-stand, standing-given, told-late, takes-kept}
 use Rattle.writers.proofs.WritingLaws.{frame-length, unwritten}
 
 -- the kind that numbers of this type are of, and what its layout holds
@@ -72,26 +73,17 @@ module _ (code : ℕ) (layout : Layout) (k : Known code layout) (ns part out : L
   due = rw (k .head, asked (λ x. x .extent (given (x .widths) ns 1)) 0 (k .member) code (k .typed))
 
   same : writeNumbers ns part out ≡ writeListed (k .kind) ns part out
-  unfolding writeNumbers
-  same = asked (λ x. writeListed x ns part out) _ (k .member) (getD ns 0 0) (t ∙ k .typed)
+  same = listed-as part out (k .member) ns (t ∙ k .typed)
 
   size : length frame ≡ layout .head + length part + 1
   size = frame-length (1 ∷ k .kind .widths) (k .kind .code ∷ vs) part [] (layout .head) (ap suc (sym (length-given (k .kind .widths) ns 1))) (sym (k .head))
-
-  refuses : (d s r : ℕ) → writeRefusal d s false r ≡ 0 → ⊥
-  unfolding writeRefusal
-  refuses d s r e = go (not (eqb s d) || ltb 255 s) e
-    where
-      go : (b : Bool) → _≡_ {A = ℕ} (cond b 1 4) 0 → ⊥
-      go true z = omega arith
-      go false z = omega arith
 
   pub unfit : (n : ℕ) → fitting (1 ∷ k .kind .widths) ns 0 ≡ false
       → n ≡ writeRefusal (layout .head + 1 + extentOf code ns) (layout .head + length part + 1) false (length out)
       → wrote (Written.Refused (record { number = n })) out ≡ writeNumbers ns part out
   unfit n f e =
       rw (same, f)
-      (unwritten (lengthOf (k .kind) (k .kind .extent vs)) false frame out n (rw (size, ← due) e) (λ z. refuses _ _ _ (sym e ∙ z)))
+      (unwritten (lengthOf (k .kind) (k .kind .extent vs)) false frame out n (rw (size, ← due) e) (λ z. false≢true (put _ _ _ _ (sym e ∙ z) .kept)))
 
   pub fit : (r : Written) (last : List ℕ) (good : Bool) → fitting (1 ∷ k .kind .widths) ns 0 ≡ true
       → good ≡ takes (sealed (bytes (take (layout .count) (layout .widths)) (take (layout .count) ns) ++ part))
@@ -106,13 +98,18 @@ module _ (code : ℕ) (layout : Layout) (k : Known code layout) (ns part out : L
       (λ d l. (rw w at g) ∙ takes-kept (k .kind) (k .member) vs part (h .1) d l)
       ∙ sym (rw (same, f)))
 
+-- numbers that fit a kind are written as the frame with these values, whatever stands behind them
+pub written-as : (k : Kind) → List·Memᴰ k kinds → (vs more part out : List ℕ) → Fit (k .widths) vs → writeNumbers (k .code ∷ (vs ++ more)) part out ≡ writeAs k vs part out
+written-as k m vs more part out f =
+    listed-as part out m (k .code ∷ (vs ++ more)) refl
+    ∙ ap₂ {C = Wrote} (λ (b : Bool) (us : List ℕ). writing (lengthOf k (k .extent us)) (b && k .rule us part) (frameOf k us part) out)
+    (standing-given (1 ∷ k .widths) (k .code ∷ vs) [] more 0 refl (code-fits m, f) .1) (standing-given (k .widths) vs (k .code ∷ []) more 1 refl f .0)
+
 -- numbers whose type is that of no kind
-module _ (ns part out : List ℕ) where
+module _ (ns part out : List ℕ) (some : length ns ≡ 0 → ⊥) where
   refused-two : ((k : Kind) → List·Memᴰ k kinds → getD ns 0 0 ≡ k .code → ⊥) → wrote (Written.Refused (record { number = 2 })) out ≡ writeNumbers ns part out
-  unfolding writeNumbers
   refused-two h =
-      ⊎-elim (λ r. absurd (h (r .0) (r .1) (r .2))) (λ r. sym (r Wrote (λ k. writeListed k ns part out) (record { said = refused 2; held = out })))
-      (known-or-not (getD ns 0 0))
+      by-type part out ns (λ w. wrote (Written.Refused (record { number = 2 })) out ≡ w) (λ z. absurd (some z)) (λ k m c. absurd (h k m c)) refl
 
   pub too-large : 255 < getD ns 0 0 → wrote (Written.Refused (record { number = 2 })) out ≡ writeNumbers ns part out
   too-large h = refused-two (λ k m e. omega (arith, code-fits m))

@@ -2,7 +2,7 @@
 -- Assumes nothing.
 use mathlib.Core.Path.{_≡_, refl, sym, ap, _∙_}
 use mathlib.Core.Bool.{Bool, true, false, not, _&&_, cond, or-true, false≢true}
-use mathlib.Core.List.{List, [], _∷_, List·Memᴰ}
+use mathlib.Core.List.{List, [], _∷_, _++_, append-assoc, List·Memᴰ}
 use Prim.Native.Nat.{ℕ, suc, _+_, _^_, _≤_, _<_}
 use native.Mathlib.Decide.{decLe, ℕ-discrete}
 use native.Mathlib.Nat.{lt-of-lt-of-le, pow-le-pow-right}
@@ -10,8 +10,8 @@ use native.Mathlib.Numerals.{add-one}
 use native.Mathlib.Omega.{arith}
 use borrow.Author.Tests.{eq-eqb, ne-eqb, le-ltb, lt-ltb, ltb-true, le-leb}
 use lib.Dec.{eqb, ltb}
-use lib.ListN.{length, getD, take, drop, length-take}
-use lib.Seq.{sets, drop-cons}
+use lib.ListN.{length, getD, take, drop, length-append, length-take}
+use lib.Seq.{sets, drop-cons, getD-at}
 use Rattle.octets.specs.Answers.{Said, accepted, refused}
 use Rattle.octets.specs.Layouts.{Fit}
 use Rattle.octets.proofs.StoreLaws.{take-sets}
@@ -97,6 +97,17 @@ fitting-stand (w ∷ ws) ns i h =
 
 pub fitting-within : (ws ns : List ℕ) → fitting ws ns 0 ≡ true → length ws ≤ length ns
 fitting-within ws ns h = omega (arith, ap length (fitting-stand ws ns 0 h), length-take (length ws) ns, length-given ws ns 0)
+
+-- numbers that stand in a list and fit a layout are those that are given for it, whatever stands before and behind them
+pub standing-given : (ws vs p q : List ℕ) (n : ℕ) → length p ≡ n → Fit ws vs → (given ws (p ++ (vs ++ q)) n ≡ vs) × (fitting ws (p ++ (vs ++ q)) n ≡ true)
+standing-given [] [] p q n e f = (refl, refl)
+standing-given [] (v ∷ vs) p q n e f = absurd f
+standing-given (w ∷ ws) [] p q n e f = absurd f
+standing-given (w ∷ ws) (v ∷ vs) p q n e f =
+    let l : length (p ++ (v ∷ [])) ≡ n + 1 = length-append p (v ∷ []) ∙ ap (λ (k : ℕ). k + 1) e in
+    let later = rw (append-assoc p (v ∷ []) (vs ++ q)) at (standing-given ws vs (p ++ (v ∷ [])) q (n + 1) l (f .1)) in
+    let there : n < length (p ++ (v ∷ (vs ++ q))) = omega (arith, e, length-append p (v ∷ (vs ++ q))) in
+    rw (getD-at p v (vs ++ q) 0 n e, lt-ltb n (length (p ++ (v ∷ (vs ++ q)))) there, lt-ltb v (256 ^ w) (f .0), later .0, later .1) (refl, refl)
 
 -- ---- a writer whose rules are told only of frames that are not too long
 pub told-late : (due : ℕ) (g good : Bool) (frame out : List ℕ) → (length frame ≡ due → length frame ≤ 255 → g ≡ good) → writing due g frame out ≡ writing due good frame out

@@ -1,13 +1,11 @@
 -- A writer that is refused, one that is not, and a frame that is stored with its checksum.
 -- Assumes nothing.
-use mathlib.Core.Path.{_≡_, refl, sym, _∙_}
-use mathlib.Core.Bool.{Bool, true, false, not, _||_, cond}
+use mathlib.Core.Path.{_≡_, sym, _∙_}
+use mathlib.Core.Bool.{Bool}
 use mathlib.Core.List.{List, [], _∷_, _++_}
-use Prim.Native.Nat.{ℕ, _+_, _≤_, _<_}
+use Prim.Native.Nat.{ℕ, _+_, _<_}
 use native.Mathlib.Nat.{zero-add}
 use native.Mathlib.Omega.{arith}
-use borrow.Author.Tests.{ltb-false}
-use lib.Dec.{eqb, ltb}
 use lib.ListN.{length, take, set, length-append}
 use lib.Seq.{sets}
 use Rattle.octets.specs.Layouts.{total, bytes}
@@ -31,17 +29,6 @@ module _ (due : ℕ) (good : Bool) (frame out : List ℕ) (n : ℕ) (e : n ≡ w
   pub stored : (size : ℕ) (held : List ℕ) → n ≡ 0 → size ≡ length frame → held ≡ sets out 0 frame → wrote (Written.Done size) held ≡ writing due good frame out
   unfolding writing
   stored size held z l p = rw (← e, unless-none n (accepted (length frame ∷ [])) z, after-accepted n out (sets out 0 frame) z, l, p)
-
--- what is written has room
-pub has-room : (due size : ℕ) (good : Bool) (room : ℕ) → writeRefusal due size good room ≡ 0 → size ≤ room
-unfolding writeRefusal
-has-room due size good room e = go (not (eqb size due) || ltb 255 size) (not good) (ltb room size) refl e
-  where
-    go : (a b c : Bool) → ltb room size ≡ c → _≡_ {A = ℕ} (cond a 1 (cond b 4 (cond c 5 0))) 0 → size ≤ room
-    go true b c q z = absurd (omega arith)
-    go false true c q z = absurd (omega arith)
-    go false false true q z = absurd (omega arith)
-    go false false false q z = ltb-false room size q
 
 -- the numbers, the bytes behind them and the checksum, one after the other, are the frame
 module _ (ws vs part out : List ℕ) (head : ℕ) (lengths : length ws ≡ length vs) (heads : total ws ≡ head) where

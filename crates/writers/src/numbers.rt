@@ -115,7 +115,10 @@ fn listed(code: u8, layout: Layout, numbers: &[u32], part: &[u8], out: &mut [u8]
 pub fn write(numbers: &[u32], part: &[u8], out: &mut [u8]) -> Written
     ensures { λ r. ⌜ wrote r (now (out .exit)) ≡ writeNumbers (now (numbers .entry)) (now (part .entry)) (now (out .entry)) ⌝ }
 {
-    let first = number_at(numbers, 0);
+    if numbers.len() == 0 {
+        return Written::Refused(Refusal { number: 1 });
+    }
+    let first = numbers[0];
     if 255 < first {
         return Written::Refused(Refusal { number: 2 });
     }

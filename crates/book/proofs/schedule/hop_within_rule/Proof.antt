@@ -12,4 +12,4 @@ returns-2 : tie.Need-returns-2
 returns-2 c = rw (ne-eqb _ _ (c .before .if1 .left))
 
 pub hop-within-rule-spec : {M : Type 1} → statement M
-hop-within-rule-spec = tie.close (tie.spec returns returns-2)
+hop-within-rule-spec = tie.close (tie.spec returns (λ c. search needs) returns-2)

@@ -1,7 +1,7 @@
 -- `braidlark_entry`: an entry with room for it or without, the end, or why the bytes are no update.
 -- Assumes nothing.
 use native.Mathlib.Omega.{arith}
-use mathlib.Core.Path.{_≡_, sym, ap, _∙_}
+use mathlib.Core.Path.{sym, ap, _∙_}
 use Rattle.entries.proofs.WalkLaws.{next-few}
 use Rattle.entries.specs.Walks.{toldWalked}
 use Rattle.braidlark.proofs.EntryCallLaws.{entry-short, entry-met, entry-end, entry-refused}
@@ -14,14 +14,14 @@ returns c =
     let step = c .before .before .step .given in
     let d = c .before .before .before .before in
     let a = d .before .before .before .args in
-    entry-short (a .frame .now) (a .position) (a .entry .now) _ (d .walk .result) (d .walk .ensures .0) (step .0 .0) (step .1) (c .if1 .taken)
+    entry-short (a .frame .now) (a .position) (a .entry .now) _ (d .walk .result) (d .walk .ensures) (step .0 .0) (step .1) (c .if1 .taken)
 
 cast-next : tie.Need-cast-next
 cast-next c =
     let s = c .before .before .before .before .before .before .before .before in
     let d = s .before .before in
     let a = d .before .before .before .args in
-    omega (arith, next-few (a .frame .now) (a .position) (s .step .given .0 .0) (sym (ap toldWalked (s .step .given .1)) ∙ d .walk .ensures .0))
+    omega (arith, next-few (a .frame .now) (a .position) (s .step .given .0 .0) (sym (ap toldWalked (s .step .given .1)) ∙ d .walk .ensures))
 
 returns-2 : tie.Need-returns-2
 returns-2 c =
@@ -30,20 +30,20 @@ returns-2 c =
     let s = room .before .before in
     let d = s .before .before in
     let a = d .before .before .before .args in
-    entry-met (a .frame .now) (a .position) (a .entry .now) _ (d .walk .result) (d .walk .ensures .0) (s .step .given .0 .0) (s .step .given .1) (room .if1 .left) _ (put .put-entry .ensures)
+    entry-met (a .frame .now) (a .position) (a .entry .now) _ (d .walk .result) (d .walk .ensures) (s .step .given .0 .0) (s .step .given .1) (room .if1 .left) _ (put .put-entry .ensures)
 
 returns-3 : tie.Need-returns-3
 returns-3 c =
     let d = c .before .before in
     let a = d .before .before .before .args in
-    entry-end (a .frame .now) (a .position) (a .entry .now) _ (d .walk .result) (d .walk .ensures .0) (c .enum-told .given .1)
+    entry-end (a .frame .now) (a .position) (a .entry .now) _ (d .walk .result) (d .walk .ensures) (c .enum-told .given .1)
 
 returns-4 : tie.Need-returns-4
 returns-4 c =
     let refusal = c .before .refusal .given in
     let d = c .before .before .before in
     let a = d .before .before .before .args in
-    entry-refused (a .frame .now) (a .position) (a .entry .now) _ (d .walk .result) (d .walk .ensures .0) (d .walk .ensures .1) (refusal .0 .0) (refusal .1)
+    entry-refused (a .frame .now) (a .position) (a .entry .now) _ (d .walk .result) (d .walk .ensures) (refusal .0 .0) (refusal .1)
 
 pub braidlark-entry-spec : {M : Type 1} → statement M
 braidlark-entry-spec =

@@ -40,7 +40,7 @@ use denote.Triple.Table.{entered, cited}
 use denote.Triple.Walked.{says, Stays, stay-none, stay-none-slice, walkOf, goes-none, goes-none-slice, Walks, ends-at, walked, walk-meets}
 use denote.Exit.{yes}
 use denote.Triple.Clauses.{ensured, lasts}
-use Rattle.entries.specs.Walks.{walkOf as stepOf, toldWalked, Numbered}
+use Rattle.entries.specs.Walks.{walkOf as stepOf, toldWalked}
 use Rattle.entries.specs.declared.reader.Entries.{Entries}
 use Rattle.entries.specs.declared.walking.Walked.{Walked}
 use Rattle.entries.proofs.reader.Entries as T
@@ -96,7 +96,7 @@ abbrev At : Entries → ℕ → Entries → Type 0
 At r n t = (t .frame ≡ r .frame) × (t .position ≡ n)
 
 abbrev Told : RefT (List ℕ) → ℕ → Walked → Type 0
-Told s n w = (toldWalked w ≡ stepOf (now s) n) × Numbered w
+Told s n w = toldWalked w ≡ stepOf (now s) n
 
 module _ {M : Type 1} (𝓤 : URA M) (H : Heap 𝓤) (A : Atoms 𝓤) (W : Given 𝓤 H A) (mem : Memory → SProp 𝓤) (run : Routine → Fun 𝓤) (κ : Lft) (q : Share) (s : RefT (List ℕ)) (n : ℕ) (ok : n < 2 ^ 64) where
   -- the machine value that s has
@@ -166,7 +166,7 @@ module _ {M : Type 1} (𝓤 : URA M) (H : Heap 𝓤) (A : Atoms 𝓤) (W : Given
   -- what the three calls say together
   together : (r t : Entries) (w : Walked) → Made s r → At r n t → Told (t .frame) (t .position) w → Told s n w
   together r t w made at told =
-      (told .0 ∙ (ap (λ (x : RefT (List ℕ)). stepOf (now x) (t .position)) (at .0 ∙ made .0) ∙ ap (stepOf (now s)) (at .1)), told .1)
+      told ∙ (ap (λ (x : RefT (List ℕ)). stepOf (now x) (t .position)) (at .0 ∙ made .0) ∙ ap (stepOf (now s)) (at .1))
 
   module _ (C : Calls 𝓤 H) (Λ : Loops 𝓤 H) (fm : FmC 𝓤 H (W .laws) C) (known : Known 𝓤 H A mem run C) where
     goes : Is (ShrSlice (named 0) κ u8) s (v ∷ []) → ent 𝓤 (onEntry 𝓤 H A walk.signature (κ, tt) (q, tt) (s, (n, tt)) at) (WpFn 𝓤 H C Λ code.function (v ∷ vint w64 n ∷ []) Post)

@@ -1,9 +1,10 @@
 -- `numbers_at`: the numbers of a row in a part of the image are those in all of it.
 -- Assumes nothing.
-use mathlib.Core.Path.{_∙_}
+use mathlib.Core.Path.{ap, _∙_}
 use Prim.Native.Nat.{_+_, _*_, _-_}
 use native.Mathlib.Nat.{add-zero}
 use native.Mathlib.Omega.{arith}
+use Rattle.octets.specs.Parts.{Lent}
 use Rattle.octets.proofs.NumberLaws.{num-part}
 use borrow.Author.Needs.{needs}
 use Rattle.image.proofs.restoring.numbers_at.Statement.{statement}
@@ -15,7 +16,7 @@ returns c =
     let s = a .s .now in
     let start = 20 + 10 * a .place in
     let row = c .numbers-in .ensures in
-    let e = c .before .part .ensures in
+    let e = ap (λ (l : Lent). l .bytes) (c .before .part .ensures) in
     ((rw e at (row .0)) ∙ (rw (add-zero start) at (num-part 2 s start 10 0 (omega arith))), (rw e at (row .1)) ∙ num-part 8 s start 10 2 (omega arith))
 
 returns-2 : tie.Need-returns-2

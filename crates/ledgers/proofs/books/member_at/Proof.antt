@@ -3,6 +3,7 @@
 use mathlib.Core.Path.{ap, _∙_}
 use Prim.Native.Nat.{_+_, _*_, _-_}
 use native.Mathlib.Omega.{arith}
+use Rattle.octets.specs.Parts.{Lent}
 use Rattle.octets.proofs.LayoutLaws.{fields-part}
 use Rattle.ledgers.specs.BookBytes.{rowWidths, rowFrom, rowAt}
 use borrow.Author.Needs.{needs}
@@ -13,7 +14,7 @@ returns : tie.Need-returns
 unfolding rowAt
 returns c =
     let a = c .before .before .before .before .args in
-    c .member-in .ensures ∙ rw (c .before .part .ensures) (ap rowFrom (fields-part rowWidths (a .s .now) (13 + 14 * a .place) 14 (omega arith)))
+    c .member-in .ensures ∙ rw (ap (λ (l : Lent). l .bytes) (c .before .part .ensures)) (ap rowFrom (fields-part rowWidths (a .s .now) (13 + 14 * a .place) 14 (omega arith)))
 
 returns-2 : tie.Need-returns-2
 unfolding rowAt

@@ -2,6 +2,7 @@
 -- Assumes nothing.
 use mathlib.Core.Path.{_≡_, sym, ap, _∙_}
 use denote.Ref.{now}
+use Rattle.octets.specs.Parts.{Lent}
 use Rattle.routes.specs.Rows.{pad}
 use Rattle.merges.specs.Learning.{Learned}
 use Rattle.merges.specs.Merges.{updateIn}
@@ -28,7 +29,7 @@ learn-all-requires : tie.Need-learn-all-requires
 learn-all-requires c κs =
     let a = c .before .before .before .before .before .before .before .args in
     learnable (a .table) (a .frame .now) (a .quality) (a .time) (c .before .standing-places .ensures .1) (able c) (c .before .standing-places .result)
-    (c .before .standing-places .ensures .0) (c .before .before .before .of .result) _ (header c) (c .entries .ensures)
+    (c .before .standing-places .ensures .0) (c .before .before .before .of .result) _ (header c) (ap (λ (l : Lent). l .bytes) (c .entries .ensures))
 
 returns-2 : tie.Need-returns-2
 returns-2 c =
@@ -36,7 +37,7 @@ returns-2 c =
     let a = d .before .before .before .before .before .before .before .args in
     let whole =
     merged-by (a .table) (a .frame .now) (a .quality) (a .time) (d .before .standing-places .ensures .1) (able d) (d .before .standing-places .result)
-    (d .before .standing-places .ensures .0) (d .before .before .before .of .result) _ (header d) (d .entries .ensures) in
+    (d .before .standing-places .ensures .0) (d .before .before .before .of .result) _ (header d) (ap (λ (l : Lent). l .bytes) (d .entries .ensures)) in
     let l = c .before .learn-all .ensures in
     merges (a .table) (a .frame .now) (a .quality) (a .time) (c .before .learn-all .result .skipped) (c .before .learn-all .result .rows)
     (sym (d .before .before .before .before .before .why-unmerged .ensures) ∙ d .before .before .before .before .if1 .left) (l .1 ∙ ap (λ (x : Learned). x .skipped) whole)

@@ -2,6 +2,7 @@
 -- Assumes nothing.
 use Rattle.traffic.specs.Traffic.{updateRule, update}
 use mathlib.Core.Path.{ap, _∙_}
+use Rattle.octets.specs.Parts.{Lent}
 use Rattle.shapes.proofs.ReadingLaws.{refused-as}
 use borrow.Author.Needs.{needs}
 use Rattle.readers.proofs.refusals.update.Statement.{statement}
@@ -11,7 +12,7 @@ returns : tie.Need-returns
 returns c =
     let f = c .before .before .before .before .of .result in
     refused-as update _ _ _ _ (c .refused .ensures)
-    (c .before .good2 .ensures ∙ ap (updateRule f) (c .before .before .entries .ensures)) (c .before .before .before .before .of .ensures)
+    (c .before .good2 .ensures ∙ ap (λ (l : Lent). updateRule f (l .bytes)) (c .before .before .entries .ensures)) (c .before .before .before .before .of .ensures)
 
 pub update-spec : {M : Type 1} → statement M
 update-spec =

@@ -1,6 +1,7 @@
 -- `handed_back`: the payload where it is relayed to this unit.
 -- Assumes nothing.
 use mathlib.Core.Path.{_∙_}
+use Rattle.octets.specs.Parts.{lent}
 use Rattle.relays.proofs.RelayLaws.{leads-is, handed-part, handed-none}
 use borrow.Author.Needs.{needs}
 use Rattle.relays.proofs.relaying.handed_back.Statement.{statement}
@@ -16,12 +17,12 @@ refusal-requires c κs =
 returns : tie.Need-returns
 returns c =
     let refused = c .before .before .before .before in
-    c .payload .ensures ∙ handed-part _ _ _ _ _ (refused .before .before .before .before .before .of .ensures) (refused .refusal .ensures) (c .before .if1 .taken)
+    c .payload .ensures ∙ handed-part _ (lent (refused .before .before .before .before .before .before .before .args .frame)) _ _ _ (refused .before .before .before .before .before .of .ensures) (refused .refusal .ensures) (c .before .if1 .taken)
 
 returns-2 : tie.Need-returns-2
 returns-2 c =
     let refused = c .before .before .before .before in
-    c .part .ensures ∙ handed-none _ _ _ _ _ (refused .before .before .before .before .before .of .ensures) (refused .refusal .ensures) (c .before .if1 .left)
+    c .part .ensures ∙ handed-none _ (lent (refused .before .before .before .before .before .before .before .args .frame)) _ _ _ (refused .before .before .before .before .before .of .ensures) (refused .refusal .ensures) (c .before .if1 .left)
 
 pub handed-back-spec : {M : Type 1} → statement M
 handed-back-spec =

@@ -4,6 +4,7 @@ use mathlib.Core.Path.{_∙_, ap}
 use Prim.Native.Nat.{ℕ, _+_}
 use mathlib.Core.List.{List}
 use lib.ListN.{length}
+use Rattle.octets.specs.Parts.{Lent}
 use Rattle.relays.proofs.RelayLaws.{header-in, copy-length, refusal-is}
 use borrow.Author.Needs.{needs}
 use Rattle.relays.proofs.relaying.refusal.Statement.{statement}
@@ -32,7 +33,7 @@ returns c =
     )
     (refusal-is (a .table) (a .frame .now) (a .time) (a .room) (header .of .result) (a .within) (a .leads) (unread .data-frame .result) _
     (header-in _ _ (header .of .ensures)) (start .pre .0) (start .pre .1) (unread .data-frame .ensures)
-    (ap (λ (l : List ℕ). length l + 10) (first .before .payload .ensures) ∙ copy-length (a .frame .now)))
+    (ap (λ (l : Lent). length (l .bytes) + 10) (first .before .payload .ensures) ∙ copy-length (a .frame .now)))
 
 pub refusal-spec : {M : Type 1} → statement M
 refusal-spec =

@@ -1,5 +1,7 @@
 -- `relay`: nothing is written where it is refused or for this unit, else the copy.
 -- Assumes nothing.
+use mathlib.Core.Path.{ap}
+use Rattle.octets.specs.Parts.{Lent}
 use Rattle.relays.proofs.RelayLaws.{leads-is, has-room, relayed-on, relayed-off}
 use borrow.Author.Needs.{needs}
 use Rattle.relays.proofs.relaying.relay.Statement.{statement}
@@ -18,7 +20,7 @@ put-frame-requires c κs =
     let refused = part .before .before .before .before in
     let header = refused .before .before .before .before .before in
     let a = header .before .before .before .args in
-    has-room (a .table) (a .frame .now) (a .time) (a .out .now) (header .of .result) (refused .refusal .result) (header .of .ensures) (refused .refusal .ensures) (part .before .if1 .taken) _ (part .payload .ensures)
+    has-room (a .table) (a .frame .now) (a .time) (a .out .now) (header .of .result) (refused .refusal .result) (header .of .ensures) (refused .refusal .ensures) (part .before .if1 .taken) _ (ap (λ (l : Lent). l .bytes) (part .payload .ensures))
 
 returns : tie.Need-returns
 returns c =
@@ -29,7 +31,7 @@ returns c =
     let header = row .before .before in
     let a = header .before .before .before .args in
     relayed-on (a .table) (a .frame .now) (a .time) (a .out .now) (header .of .result) (refused .refusal .result) (header .of .ensures) (refused .refusal .ensures) (part .before .if1 .taken)
-    (row .row-for .result) (copy .before .passed-on .result) _ _ (row .row-for .ensures) (copy .before .passed-on .ensures) (part .payload .ensures) (copy .put-frame .ensures)
+    (row .row-for .result) (copy .before .passed-on .result) _ _ (row .row-for .ensures) (copy .before .passed-on .ensures) (ap (λ (l : Lent). l .bytes) (part .payload .ensures)) (copy .put-frame .ensures)
 
 returns-2 : tie.Need-returns-2
 returns-2 c =

@@ -20,7 +20,7 @@ loop-holds : tie.Need-loop-holds Inv-loop μ-loop
 loop-holds c = (search needs, refl)
 
 returns : tie.Need-returns Inv-loop μ-loop
-returns c = search (needs, ok-stop)
+returns c = (search (needs, ok-stop), search needs)
 
 loop-again : tie.Need-loop-again Inv-loop μ-loop
 loop-again c =
@@ -32,7 +32,7 @@ returns-2 : tie.Need-returns-2 Inv-loop μ-loop
 returns-2 c =
     let l = c .before .before .before .loop in
     let a = c .before .before .before .before .args in
-    ok-end (a .own) (a .last) (a .t3) (l .i) (search needs) _ (omega arith) (l .inv .1) (c .ordered2 .ensures)
+    (ok-end (a .own) (a .last) (a .t3) (l .i) (search needs) _ (omega arith) (l .inv .1) (c .ordered2 .ensures), search needs)
 
 pub places-ok-spec : {M : Type 1} → statement M
 places-ok-spec =

@@ -3,6 +3,7 @@
 use mathlib.Core.Path.{ap, _∙_}
 use Prim.Native.Nat.{_+_, _*_, _-_}
 use native.Mathlib.Omega.{arith}
+use Rattle.octets.specs.Parts.{Lent}
 use Rattle.octets.proofs.LayoutLaws.{fields-part}
 use Rattle.stores.specs.TableBytes.{rowWidths, rowFrom, rowAt}
 use borrow.Author.Needs.{needs}
@@ -13,7 +14,7 @@ returns : tie.Need-returns
 unfolding rowAt
 returns c =
     let a = c .before .before .before .before .args in
-    c .row-in .ensures ∙ rw (c .before .part .ensures) (ap rowFrom (fields-part rowWidths (a .s .now) (11 + 11 * a .place) 11 (omega arith)))
+    c .row-in .ensures ∙ rw (ap (λ (l : Lent). l .bytes) (c .before .part .ensures)) (ap rowFrom (fields-part rowWidths (a .s .now) (11 + 11 * a .place) 11 (omega arith)))
 
 returns-2 : tie.Need-returns-2
 unfolding rowAt

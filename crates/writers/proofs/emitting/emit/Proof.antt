@@ -7,7 +7,8 @@ use mathlib.Core.Path.{sym, ap, _∙_}
 use Prim.Native.Nat.{_+_}
 use native.Mathlib.Omega.{arith}
 use lib.ListN.{length, length-set}
-use Rattle.writers.proofs.WritingLaws.{frame-length, unwritten, stored, has-room, sealed-stored}
+use Rattle.shapes.proofs.WritingLaws.{put}
+use Rattle.writers.proofs.WritingLaws.{frame-length, unwritten, stored, sealed-stored}
 use borrow.Author.Needs.{needs}
 use Rattle.writers.proofs.emitting.emit.Statement.{statement}
 use Rattle.writers.proofs.emitting.emit.Tie as tie
@@ -22,7 +23,7 @@ returns c =
 slice-write-out : tie.Need-slice-write-out
 slice-write-out c =
     let a = c .before .before .before .before .before .before .before .before .before .before .before .before .before .before .before .before .args in
-    omega (arith, has-room (a .due) (a .head + length (a .part .now) + 1) (a .good) (length (a .out .now)) (sym (c .before .before .before .before .before .before .before .before .before .before .before .why-unwritten .ensures) ∙ c .before .before .before .before .before .before .before .before .before .before .if1 .left), c .before .before .before .before .put-bytes .kept .0, c .before .before .before .before .before .before .before .before .put-layout .kept .0)
+    omega (arith, put (a .due) (a .head + length (a .part .now) + 1) (a .good) (length (a .out .now)) (sym (c .before .before .before .before .before .before .before .before .before .before .before .why-unwritten .ensures) ∙ c .before .before .before .before .before .before .before .before .before .before .if1 .left) .fits, c .before .before .before .before .put-bytes .kept .0, c .before .before .before .before .before .before .before .before .put-layout .kept .0)
 
 same-length : tie.Need-same-length
 same-length c = simp length-set (c .before .before .before .before .put-bytes .kept .0 ∙ c .before .before .before .before .before .before .before .before .put-layout .kept .0)
@@ -34,7 +35,7 @@ returns-2 c =
     let l = frame-length (a .widths .now) (a .values .now) (a .part .now) (a .out .now) (a .head) (p .0) (p .1) in
     let held = c .before .before .before .before .put-bytes .ensures ∙ ap (λ (o : List ℕ). sets o (a .head) (a .part .now)) (c .before .before .before .before .before .before .before .before .put-layout .ensures) in
     stored (a .due) (a .good) _ (a .out .now) (c .before .before .before .before .before .before .before .before .before .before .before .why-unwritten .result) (rw l (c .before .before .before .before .before .before .before .before .before .before .before .why-unwritten .ensures)) _ _ (c .before .before .before .before .before .before .before .before .before .before .if1 .left) (sym l)
-    (rw held (sealed-stored (a .widths .now) (a .values .now) (a .part .now) (a .out .now) (a .head) (p .0) (p .1) (c .xor-of .result) (omega (arith, has-room (a .due) (a .head + length (a .part .now) + 1) (a .good) (length (a .out .now)) (sym (c .before .before .before .before .before .before .before .before .before .before .before .why-unwritten .ensures) ∙ c .before .before .before .before .before .before .before .before .before .before .if1 .left))) (rw held at (c .xor-of .ensures))))
+    (rw held (sealed-stored (a .widths .now) (a .values .now) (a .part .now) (a .out .now) (a .head) (p .0) (p .1) (c .xor-of .result) (omega (arith, put (a .due) (a .head + length (a .part .now) + 1) (a .good) (length (a .out .now)) (sym (c .before .before .before .before .before .before .before .before .before .before .before .why-unwritten .ensures) ∙ c .before .before .before .before .before .before .before .before .before .before .if1 .left) .fits)) (rw held at (c .xor-of .ensures))))
 
 pub emit-spec : {M : Type 1} → statement M
 emit-spec =

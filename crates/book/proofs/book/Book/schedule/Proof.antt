@@ -47,7 +47,10 @@ cast-put-kinds c =
     fits-under _ _ 22 (omega (arith, below, d .before .in-use .ensures)) _
 
 cast-put-kinds-2 : tie.Need-cast-put-kinds-2
-cast-put-kinds-2 c =
+cast-put-kinds-2 c = omega (arith, able (c .before .before .before) (c .before .before .if1 .left) .near)
+
+cast-put-kinds-3 : tie.Need-cast-put-kinds-3
+cast-put-kinds-3 c =
     let s = c .before .before .slots .ensures in
     let few = few-slots (c .before .before .before .before .before .before .before .before .before .before .before .args .self .plan) in
     fits-under _ _ 101 (omega (arith, s, few)) _
@@ -75,4 +78,4 @@ returns-2 c =
 
 pub schedule-spec : {M : Type 1} → statement M
 schedule-spec =
-    tie.close (tie.spec (λ c κs. search needs) (λ c κs. search needs) (λ c κs. search needs) (λ c κs. search needs) returns (λ c κs. search needs) cast-put-kinds (λ c κs. search needs) cast-put-kinds-2 put-kinds-requires (λ c. search needs) (λ c. search needs) returns-2)
+    tie.close (tie.spec (λ c κs. search needs) (λ c κs. search needs) (λ c κs. search needs) (λ c κs. search needs) returns (λ c κs. search needs) cast-put-kinds cast-put-kinds-2 (λ c κs. search needs) cast-put-kinds-3 put-kinds-requires (λ c. search needs) (λ c. search needs) returns-2)

@@ -44,7 +44,7 @@ use denote.Triple.Walked.{says, Stays, stay-none, walkOf, goes-none, Walks, ends
 use denote.Exit.{yes}
 use denote.Triple.Clauses.{ensured, lasts}
 use Rattle.octets.specs.Answers.{Said}
-use Rattle.entries.specs.Walks.{walkOf as stepOf, toldWalked, Numbered}
+use Rattle.entries.specs.Walks.{walkOf as stepOf, toldWalked}
 use Rattle.entries.specs.declared.reader.Entries.{Entries}
 use Rattle.entries.specs.declared.walking.Walked.{Walked}
 use Rattle.entries.proofs.reader.Entries as T
@@ -85,7 +85,7 @@ module _ {M : Type 1} (𝓤 : URA M) (H : Heap 𝓤) (A : Atoms 𝓤) (W : Given
   found = stepOf (now (d .frame)) (d .position)
 
   abbrev Told : Walked → Type 0
-  Told r = (toldWalked r ≡ found) × Numbered r
+  Told r = toldWalked r ≡ found
 
   abbrev Post : Val → SProp 𝓤
   Post = walkOf 𝓤 H A next.ended stayed (next.clauses 𝓤 H A mem run) .post (((κ, tt), (q, tt), tt, (d, tt), (mach ∷ [], tt)), tt)

@@ -1,4 +1,2 @@
-pub mod StateBytes
-pub mod StateTrips
 pub mod TableBytes
 pub mod TableTrips

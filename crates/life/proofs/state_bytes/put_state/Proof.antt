@@ -1,9 +1,9 @@
 -- `put_state`: its numbers, laid out.
 -- Assumes nothing.
 use borrow.Author.Needs.{needs}
-use Rattle.stores.specs.StateBytes.{stateOver}
-use Rattle.stores.proofs.states.put_state.Statement.{statement}
-use Rattle.stores.proofs.states.put_state.Tie as tie
+use Rattle.life.specs.StateBytes.{stateOver}
+use Rattle.life.proofs.state_bytes.put_state.Statement.{statement}
+use Rattle.life.proofs.state_bytes.put_state.Tie as tie
 
 returns : tie.Need-returns
 unfolding stateOver

@@ -1,9 +1,9 @@
 -- `state_of`: each number stands where the layout says.
 -- Assumes nothing.
 use borrow.Author.Needs.{needs}
-use Rattle.stores.specs.StateBytes.{stateIn}
-use Rattle.stores.proofs.states.state_of.Statement.{statement}
-use Rattle.stores.proofs.states.state_of.Tie as tie
+use Rattle.life.specs.StateBytes.{stateIn}
+use Rattle.life.proofs.state_bytes.state_of.Statement.{statement}
+use Rattle.life.proofs.state_bytes.state_of.Tie as tie
 
 returns : tie.Need-returns
 unfolding stateIn

@@ -1,7 +1,7 @@
 // A unit's state as 13 bytes.
 ghost use mathlib.Core.Path.{_≡_};
-ghost use Rattle.stores.specs.StateBytes.{stateIn, stateOver};
-use life::state::State;
+ghost use Rattle.life.specs.StateBytes.{stateIn, stateOver};
+use crate::state::State;
 use octets::layouts::put_layout;
 use octets::numbers::number8;
 use octets::numbers::number32;

@@ -5,8 +5,8 @@ use mathlib.Core.List.{List}
 use Prim.Native.Nat.{ℕ}
 use lib.ListN.{length}
 use Rattle.octets.specs.Layouts.{Fit, Bytes}
 use Rattle.life.specs.declared.state.State.{State}
-use Rattle.stores.specs.StateBytes.{stateWidths, stateSize, stateValues, stateIn, stateBytes, stateOver}
+use Rattle.life.specs.StateBytes.{stateWidths, stateSize, stateValues, stateIn, stateBytes, stateOver}
 
 -- a state as the code can have it: every number fits its bytes
 abbrev pub StateSized : State → Type 0

@@ -9,9 +9,9 @@ use lib.Seq.{take-all}
 use Rattle.octets.specs.Layouts.{Bytes}
 use Rattle.octets.proofs.LayoutLaws.{length-bytes, fields-bytes, bytes-fields, fields-fit}
 use Rattle.octets.proofs.StoreLaws.{sets-whole}
 use Rattle.life.specs.declared.state.State.{State}
-use Rattle.stores.specs.StateBytes.{stateWidths, stateSize, stateValues, stateFrom, stateIn, stateBytes, stateOver}
-use Rattle.stores.specs.StateTrips.{StateSized, StateReadsBack, StateFills, StateWritesBack, StateSaidOnce}
+use Rattle.life.specs.StateBytes.{stateWidths, stateSize, stateValues, stateFrom, stateIn, stateBytes, stateOver}
+use Rattle.life.specs.StateTrips.{StateSized, StateReadsBack, StateFills, StateWritesBack, StateSaidOnce}
 
 -- ---- what was written, read
 pub length-state : (state : State) → length (stateBytes state) ≡ stateSize

@@ -35,7 +35,7 @@ use Rattle.routes.proofs.TableLaws.{within, few-stand, held}
 use Rattle.relays.specs.declared.passing.Passing.{Passing}
 use Rattle.relays.specs.Forwards as forwards
 use Rattle.relays.specs.Forwards.{passingOf, toForward, passingReasons, beaconIn, passedBy, copyOf, recorded, forwardRefusal, forwardOf}
-use Rattle.relays.proofs.ReasonLaws.{first-append, first-behind}
+use Rattle.octets.proofs.ReasonLaws.{first-append, first-behind}
 
 pub beacon-in : (b : Beacon) (s : List ℕ) → beaconValues b ≡ valuesIn beacon s → b ≡ beaconIn s
 beacon-in b s e = ap beaconFrom e

@@ -2,6 +2,5 @@ pub mod AlikeLaws
 pub mod EntryLaws
 pub mod ForwardLaws
 pub mod PageLaws
-pub mod ReasonLaws
 pub mod RelayLaws
 pub mod ToldLaws

@@ -28,7 +28,7 @@ use Rattle.routes.specs.Tables.{rowsOf, withinRule, leadsTo, lookupOf}
 use Rattle.routes.proofs.LookupLaws.{lookup-told, lookup-leads}
 use Rattle.relays.specs.declared.relaying.Relayed.{Relayed}
 use Rattle.relays.specs.Relays.{dataIn, forUs, passedOn, copyOf, relayReasons, relayRefusal, relayOf, handedBack, toldRelayed, relayed}
-use Rattle.relays.proofs.ReasonLaws.{first-behind}
+use Rattle.octets.proofs.ReasonLaws.{first-behind}
 
 pub header-in : (h : DataHeader) (s : List ℕ) → dataValues h ≡ valuesIn dataKind s → h ≡ dataIn s
 header-in h s e = ap dataFrom e

@@ -2,7 +2,6 @@
 -- Assumes nothing.
 use mathlib.Core.Path.{_∙_, sym}
 use borrow.Author.Tests.{not-true, not-false}
-use Rattle.routes.specs.Tables.{foundBy}
 use Rattle.routes.proofs.LookupLaws.{looked-up, not-looked-up}
 use borrow.Author.Needs.{needs}
 use Rattle.routes.proofs.table.Table.lookup.Statement.{statement}

@@ -3,10 +3,12 @@
 use mathlib.Core.Path.{_≡_, refl, sym, _∙_}
 use mathlib.Core.Bool.{Bool, true, false, not, cond, false≢true}
 use mathlib.Core.List.{List, [], _∷_, _++_}
+use Prim.Native.Nat.{ℕ}
+use native.Mathlib.Decide.{ℕ-discrete}
 use borrow.Author.Tests.{ne-eqb}
 use lib.Dec.{eqb}
 use Rattle.octets.specs.Answers.{Reason, refusing, first}
 use Rattle.octets.proofs.AnswerLaws.{Numbered, NoneHolds}
 
 -- those in front as one number
 pub first-append : (rs qs : List Reason) → Numbered rs → first (rs ++ qs) ≡ first (refusing (first rs) ∷ qs)
@@ -27,3 +29,11 @@ first-behind (r ∷ rs) qs ps h = go (r .holds) refl (λ n. first-behind rs qs p
         → cond b (r .number) (first (rs ++ qs)) ≡ cond b (r .number) (first (rs ++ ps))
     go true q e = refl
     go false q e = e q
+
+-- a number that refuses is the first of its own
+pub first-refusing : (n : ℕ) → first (refusing n ∷ []) ≡ n
+first-refusing n = go (ℕ-discrete n 0)
+  where
+    go : Dec (n ≡ 0) → first (refusing n ∷ []) ≡ n
+    go (yes z) = rw z
+    go (no z) = rw (ne-eqb n 0 z)

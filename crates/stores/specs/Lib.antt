@@ -1,2 +1,3 @@
+pub mod StoredTables
 pub mod TableBytes
 pub mod TableTrips

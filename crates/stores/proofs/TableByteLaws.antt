@@ -1,15 +1,16 @@
 -- The bytes of a table: its rows one behind the other, with zeros behind them, how many they all are, the rows behind the head, and all of it stored.
 -- Assumes nothing.
 use mathlib.Core.Path.{_≡_, refl, sym, ap, _∙_}
-use mathlib.Core.Bool.{true}
+use mathlib.Core.Bool.{true, _&&_, and-eq-true-iff}
 use mathlib.Core.List.{List, [], _∷_, _++_, append-assoc}
 use Prim.Native.Nat.{ℕ, zero, suc, _+_, _*_, _-_, _≤_, _<_}
 use native.Mathlib.Omega.{arith}
 use borrow.Author.Tests.{eq-eqb, ne-eqb, eqb-true}
+use lib.Dec.{eqb, leb}
 use lib.ListN.{length, getD, take, drop, replicate, length-append, drop-of-length-le}
 use lib.Seq.{sets}
 use Rattle.octets.specs.Layouts.{bytes}
-use Rattle.octets.specs.Numbers.{digits}
+use Rattle.octets.specs.Numbers.{num, digits}
 use Rattle.octets.proofs.StoreLaws.{sets-append, sets-whole}
 use Rattle.octets.proofs.LayoutLaws.{length-bytes}
 use Rattle.octets.proofs.RunLaws.{Run, run-length, put-turn}
@@ -20,7 +21,7 @@ use Rattle.routes.specs.Rows.{none, inUse, pad}
 use Rattle.routes.specs.Tables.{headOf, tableOf}
 use Rattle.routes.proofs.RowLaws.{in-use-end, in-use-turn}
 use Rattle.routes.proofs.StandingLaws.{pad-length}
-use Rattle.stores.specs.TableBytes.{rowWidths, rowValues, rowsBytes, headWidths, headValues, tableBytes, tableOver}
+use Rattle.stores.specs.TableBytes.{rowWidths, rowValues, rowsBytes, headWidths, headValues, tableBytes, tableOver, flagsOk, isTable}
 
 pub rows-run : Run rowWidths rowValues rowsBytes
 rows-run = record { none = refl; more = λ r rs. refl; full = λ r. refl }
@@ -110,3 +111,10 @@ module _ (l out : List ℕ) (rows : List Row) (used : ℕ) (many : length rows �
         rest = rw (n, next) (put-turn rows-run out here (getD rows used none) (inUse (drop (used + 1) rows)) filled (omega (arith, g .long)) f ∙ (sym (ap (λ (rs : List Row). sets out here (rowsBytes rs)) e) ∙ g .rest));
         count = omega (arith, g .count, ap length e);
       }
+
+-- ---- the bytes of a table have its length
+pub table-length : (s : List ℕ) → isTable s ≡ true → length s ≡ 539
+unfolding isTable
+table-length s h =
+    let front = and-eq-true-iff (eqb (length s) 539 && leb (num 1 s 6) 1) (flagsOk 48 s) .0 h .0 in
+    eqb-true (length s) 539 (and-eq-true-iff (eqb (length s) 539) (leb (num 1 s 6) 1) .0 front .0)

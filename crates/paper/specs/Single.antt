@@ -19,9 +19,9 @@ use Rattle.frames.specs.Told.{told, wrote}
 use Rattle.entries.specs.declared.reader.Entries.{Entries}
 use Rattle.entries.specs.Walks.{toldWalked}
 use Rattle.routes.specs.Told.{toldFound}
-use Rattle.relays.specs.declared.forwarding.Forwarded.{Forwarded}
+use Rattle.forwards.specs.declared.forwarding.Forwarded.{Forwarded}
 use Rattle.relays.specs.declared.relaying.Relayed.{Relayed}
-use Rattle.relays.specs.Forwards.{passed}
+use Rattle.forwards.specs.Forwards.{passed}
 use Rattle.relays.specs.Relays.{relayed}
 use Rattle.site.specs.Plans.{toldPlan}
 use Rattle.members.specs.declared.census.Census.{Census}

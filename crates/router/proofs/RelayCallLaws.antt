@@ -15,10 +15,10 @@ use Rattle.shapes.specs.Writing.{Wrote}
 use Rattle.frames.specs.declared.answers.Refusal.{Refusal}
 use Rattle.routes.specs.declared.table.Table.{Table}
 use Rattle.routes.specs.Tables.{lookupOf}
-use Rattle.relays.specs.declared.forwarding.Forwarded.{Forwarded}
+use Rattle.forwards.specs.declared.forwarding.Forwarded.{Forwarded}
 use Rattle.relays.specs.declared.relaying.Passage.{Passage}
 use Rattle.relays.specs.declared.relaying.Relayed.{Relayed}
-use Rattle.relays.specs.Forwards.{Passed, passed, forwardOf}
+use Rattle.forwards.specs.Forwards.{Passed, passed, forwardOf}
 use Rattle.relays.specs.Relays.{dataIn, forUs, copyOf, relayRefusal, relayOf, relayed}
 use Rattle.relays.proofs.RelayLaws.{copy-short}
 use Rattle.stores.specs.TableBytes.{tableIn, tableBytes, isTable}

@@ -16,8 +16,8 @@ use Rattle.frames.specs.Told.{wrote}
 use Rattle.routes.specs.declared.table.Table.{Table}
 use Rattle.merges.specs.declared.merging.Merged.{Merged}
 use Rattle.merges.specs.Merges.{mergeOf}
-use Rattle.relays.specs.Pages.{pageFrame, pageRefusal, pageOf}
-use Rattle.relays.proofs.PageLaws.{page-short}
+use Rattle.pages.specs.Pages.{pageFrame, pageRefusal, pageOf}
+use Rattle.pages.proofs.PageLaws.{page-short}
 use Rattle.stores.specs.TableBytes.{tableIn, tableBytes, isTable}
 use Rattle.router.specs.UpdateCalls.{mergeLeft, mergeCall, pageCall}
 use Rattle.shapes.proofs.AnsweredLaws.{Answered, valued, said-value, answered, told-other, told-done, told-undone}

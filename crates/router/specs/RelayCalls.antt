@@ -8,7 +8,7 @@ use Rattle.octets.specs.Calls.{after}
 use Rattle.shapes.specs.Shape.{placeOf}
 use Rattle.traffic.specs.Traffic.{dataKind}
 use Rattle.stores.specs.TableBytes.{tableIn, tableBytes}
-use Rattle.relays.specs.Forwards.{forwardOf}
+use Rattle.forwards.specs.Forwards.{forwardOf}
 use Rattle.relays.specs.Relays.{forUs, relayOf}
 use Rattle.router.specs.TableCalls.{storedTable}
 

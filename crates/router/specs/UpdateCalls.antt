@@ -6,7 +6,7 @@ use lib.ListN.{getD}
 use Rattle.octets.specs.Calls.{after, WriteLeft, writeLeft}
 use Rattle.stores.specs.TableBytes.{tableIn, tableBytes}
 use Rattle.merges.specs.Merges.{mergeOf}
-use Rattle.relays.specs.Pages.{pageOf}
+use Rattle.pages.specs.Pages.{pageOf}
 use Rattle.router.specs.TableCalls.{storedTable}
 
 -- ---- merging: the status, the table's bytes, and how many candidates were skipped

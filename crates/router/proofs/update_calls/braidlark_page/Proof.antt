@@ -6,7 +6,7 @@ use native.Mathlib.Omega.{arith}
 use denote.Ref.{now}
 use borrow.Author.Tests.{not-true, not-false}
 use Rattle.frames.specs.Told.{wrote}
-use Rattle.relays.specs.Pages.{pageOf}
+use Rattle.pages.specs.Pages.{pageOf}
 use Rattle.stores.specs.TableBytes.{tableIn, isTable}
 use Rattle.router.proofs.UpdateCallLaws.{page-no-table, page-size, page-done, page-undone}
 use borrow.Author.Needs.{needs}

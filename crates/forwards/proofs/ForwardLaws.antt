@@ -1,7 +1,7 @@
 -- Forwarding a beacon, from what its parts say.
 -- Assumes nothing.
 use mathlib.Core.Path.{_≡_, refl, sym, ap, _∙_}
-use mathlib.Core.Bool.{Bool, true, false, not, _&&_, and-eq-true-iff, false≢true}
+use mathlib.Core.Bool.{Bool, true, false, not, _&&_, cond, and-eq-true-iff, false≢true}
 use mathlib.Core.List.{List, [], _∷_, _++_}
 use Prim.Native.Nat.{ℕ, _+_, _*_, _≤_, _<_}
 use native.Mathlib.Omega.{arith}
@@ -9,33 +9,33 @@ use borrow.Author.Tests.{ne-eqb, eqb-true, ltb-true, ltb-false, leb-true, le-leb
 use lib.Dec.{eqb, leb, ltb}
 use lib.ListN.{length}
 use lib.Seq.{sets}
-use Rattle.octets.specs.Answers.{accepted, Reason, reason, refusing, first}
+use Rattle.octets.specs.Answers.{Reason, reason, refusing, first}
 use Rattle.octets.proofs.AnswerLaws.{Numbered, numbered, refusing-numbered, none-holds}
 use Rattle.moments.specs.Moments.{inOrder}
 use Rattle.shapes.specs.Reading.{refusalAs}
 use Rattle.shapes.specs.Rules as rules
 use Rattle.shapes.specs.Shape.{valuesIn}
-use Rattle.shapes.specs.Writing.{Wrote, writeAs}
 use Rattle.shapes.proofs.ReadingLaws.{passed}
-use Rattle.shapes.proofs.WritingLaws.{written-whole}
 use Rattle.beacons.specs.declared.beacon.Beacon.{Beacon}
 use Rattle.beacons.specs.Beacons.{beacon, beaconValues, beaconFrom, beaconRule}
-use Rattle.frames.specs.declared.answers.Written.{Written}
-use Rattle.frames.specs.Told.{wrote}
 use Rattle.writers.proofs.WritingLaws.{frame-length}
-use Rattle.routes.specs.declared.row.Row.{Row}
+use Rattle.routes.specs.declared.table.Changed.{Changed}
 use Rattle.routes.specs.declared.table.Table.{Table}
-use Rattle.routes.specs.Rows.{leads, standing, standingPlaces, rowFor}
-use Rattle.routes.specs.Tables.{rowsOf, withinRule, leadsTo, lookupOf}
+use Rattle.routes.specs.Rows.{standing}
+use Rattle.routes.specs.Tables.{rowsOf, headOf, withinRule, settled, lookupOf}
 use Rattle.routes.proofs.KeepLaws.{standing-rules}
-use Rattle.routes.proofs.LookupLaws.{lookup-told, lookup-leads}
 use Rattle.routes.proofs.RuleLaws.{within-pad}
-use Rattle.routes.proofs.StandingLaws.{standing-ascending, standing-places}
-use Rattle.routes.proofs.TableLaws.{within, few-stand, held}
-use Rattle.forwards.specs.declared.passing.Passing.{Passing}
+use Rattle.routes.proofs.StandingLaws.{standing-ascending}
+use Rattle.routes.proofs.TableLaws.{within, few-stand}
+use Rattle.passing.specs.declared.Passing.{Passing}
+use Rattle.passing.specs.Passes.{again, ownHop, toForward, tableReasons, recorded, passReasons, passOf}
+use Rattle.stores.specs.StoredTables.{TableLeft, tableLeft, storedTable, changedBy}
+use Rattle.stores.specs.TableBytes.{tableIn, tableBytes, isTable}
 use Rattle.forwards.specs.Forwards as forwards
-use Rattle.forwards.specs.Forwards.{passingOf, toForward, passingReasons, beaconIn, passedBy, copyOf, recorded, forwardRefusal, forwardOf}
-use Rattle.octets.proofs.ReasonLaws.{first-append, first-behind}
+use Rattle.forwards.specs.Forwards.{passingOf, beaconIn, passedBy, copyOf, forwardRefusal, forwardOf, forwardLeft, forwardCall}
+use Rattle.octets.proofs.ReasonLaws.{first-append, first-behind, first-refusing}
+use Rattle.octets.proofs.CallLaws as CallLaws
+use Rattle.octets.proofs.CallLaws.{after-refused}
 
 pub beacon-in : (b : Beacon) (s : List ℕ) → beaconValues b ≡ valuesIn beacon s → b ≡ beaconIn s
 beacon-in b s e = ap beaconFrom e
@@ -44,10 +44,6 @@ beacon-in b s e = ap beaconFrom e
 pub copy-length : (t : Table) (delay : ℕ) (s : List ℕ) → length (copyOf t delay s) ≡ 34
 copy-length t delay s =
     frame-length (1 ∷ beacon .widths) (beacon .code ∷ beaconValues (passedBy (t .own) delay (beaconIn s))) [] [] 33 refl refl
-
-passing-numbered : (t : Table) (network : ℕ) (p : Passing) (delay time : ℕ) → Numbered (passingReasons t network p delay time)
-passing-numbered t network p delay time =
-    (numbered _ 6 (λ z. omega arith), (numbered _ 15 (λ z. omega arith), (numbered _ 8 (λ z. omega arith), (numbered _ 11 (λ z. omega arith), (numbered _ 16 (λ z. omega arith), (numbered _ 4 (λ z. omega arith), tt))))))
 
 module _ (t : Table) (network : ℕ) (s : List ℕ) (delay time room : ℕ) where
   abbrev p : Passing
@@ -58,7 +54,7 @@ module _ (t : Table) (network : ℕ) (s : List ℕ) (delay time room : ℕ) wher
       reason (not (withinRule t)) 14 ∷
       refusing (refusalAs beacon s) ∷
       reason (not (rules.network network)) 4 ∷
-      passingReasons t network p delay time ++ (reason (ltb room (length (copyOf t delay s))) 5 ∷ [])
+      tableReasons t network p delay time ++ (reason (ltb room (length (copyOf t delay s))) 5 ∷ [])
 
   -- what is known of a beacon that is forwarded
   pub record Onward : Type 0 where
@@ -75,9 +71,10 @@ module _ (t : Table) (network : ℕ) (s : List ℕ) (delay time room : ℕ) wher
       let n = refusalAs beacon s in
       let none = none-holds reasons
       (numbered _ 14 (λ z. omega arith), (refusing-numbered n, (numbered _ 4 (λ z. omega arith), (numbered _ 6 (λ z. omega arith), (numbered _ 15 (λ z. omega arith), (numbered _ 8 (λ z. omega arith), (numbered _ 11 (λ z. omega arith), (numbered _ 16 (λ z. omega arith), (numbered _ 4 (λ z. omega arith), (numbered _ 5 (λ z. omega arith), tt)))))))))) e in
-      let ours = not-false (toForward t p time) (none .1 .1 .1 .1 .1 .1 .1 .0) in
-      let (near, fresh) = and-eq-true-iff (eqb (forwards.ownHop t p time) (p .hop + 1) && ltb (p .hop) (p .«max_hops»)) (not (forwards.again t p)) .0 ours in
-      let (next, below) = and-eq-true-iff (eqb (forwards.ownHop t p time) (p .hop + 1)) (ltb (p .hop) (p .«max_hops»)) .0 near in
+      let found = lookupOf t (p .«original_source») time in
+      let ours = not-false (toForward (headOf t) found p) (none .1 .1 .1 .1 .1 .1 .1 .0) in
+      let (near, fresh) = and-eq-true-iff (eqb (ownHop found) (p .hop + 1) && ltb (p .hop) (p .«max_hops»)) (not (again (headOf t) p)) .0 ours in
+      let (next, below) = and-eq-true-iff (eqb (ownHop found) (p .hop + 1)) (ltb (p .hop) (p .«max_hops»)) .0 near in
       record {
         right = not-false (withinRule t) (none .0);
         unread = eqb-true n 0 (not-false (eqb n 0) (none .1 .0));
@@ -121,94 +118,93 @@ ruled b e =
 pub read-ruled : (s : List ℕ) → refusalAs beacon s ≡ 0 → Ruled (beaconIn s)
 read-ruled s e = ruled (beaconIn s) (passed _ _ _ s e .kept)
 
--- why a beacon that was read is not passed on, from the row for its original source
-module _ (t : Table) (network : ℕ) (p : Passing) (delay time : ℕ) where
-  abbrev from : ℕ
-  from = p .«original_source»
+-- ---- what the table says of the beacon, between what refuses the frame and the room for its copy
+module _ (t : Table) (network : ℕ) (s : List ℕ) (delay time room before behind : ℕ) (p : Passing) (q : p ≡ passingOf (beaconIn s))
+    (u : before ≡ first (refusing (refusalAs beacon s) ∷ reason (not (rules.network network)) 4 ∷ [])) (r : behind ≡ cond (ltb room 34) 5 0) where
+  abbrev front : List Reason
+  front = refusing (refusalAs beacon s) ∷ reason (not (rules.network network)) 4 ∷ []
 
-  -- the reasons before the row is asked for, and those behind: whether it leads there, and with how many hops
-  abbrev before : List Reason
-  before = reason (eqb (p .source) (t .own)) 6 ∷ reason (not (eqb (p .network) network)) 15 ∷ reason (not (inOrder (t .time) time)) 8 ∷ []
+  abbrev own : List Reason
+  own = tableReasons t network (passingOf (beaconIn s)) delay time
 
-  abbrev behind : Bool → ℕ → List Reason
-  behind leads hops =
-      reason (not leads) 11 ∷
-      reason (not (eqb hops (p .hop + 1) && ltb (p .hop) (p .«max_hops») && not (forwards.again t p))) 16 ∷
-      reason (ltb 0xFFFFFFFF (p .delay + delay)) 4 ∷
-      []
+  last-reason : first (own ++ (refusing behind ∷ [])) ≡ first (own ++ (reason (ltb room 34) 5 ∷ []))
+  last-reason = first-behind own (refusing behind ∷ []) (reason (ltb room 34) 5 ∷ []) (λ n. first-refusing behind ∙ r)
 
-  pub unpassed-is : (row : Row) → row ≡ rowFor from (rowsOf t) → withinRule t ≡ true → rules.address from ≡ true
-      → first (before ++ behind (leads from time row) (row .hops)) ≡ first (passingReasons t network p delay time)
-  unpassed-is row e w a =
-      let hops = rowFor from (rowsOf t) .hops in
-      let m = lookupOf t from time .refusal in
-      rw e
-      (first-behind before (behind (leadsTo t from time) hops) (behind (eqb m 0) (forwards.ownHop t p time))
-      (λ n. go (leadsTo t from time) (lookup-leads t from time w a (not-false _ (n .1 .1 .0)))))
-    where
-      go : (b : Bool) → eqb (lookupOf t from time .refusal) 0 ≡ b
-          → first (behind b (rowFor from (rowsOf t) .hops)) ≡ first (behind (eqb (lookupOf t from time .refusal) 0) (forwards.ownHop t p time))
-      go true q = rw (q, lookup-told t from time (eqb-true _ 0 q))
-      go false q = rw q
+  front-numbered : Numbered front
+  front-numbered = (refusing-numbered (refusalAs beacon s), (numbered _ 4 (λ z. omega arith), tt))
 
-module _ (t : Table) (network : ℕ) (s : List ℕ) (delay time room : ℕ) where
-  pub refusal-is : (b : Beacon) (q : Passing) (unread unpassed : ℕ) → b ≡ beaconIn s → q ≡ passingOf b → unread ≡ refusalAs beacon s
-      → (withinRule t ≡ true → rules.address (q .«original_source») ≡ true → unpassed ≡ first (passingReasons t network q delay time))
-      → first (reason (not (withinRule t)) 14 ∷ refusing unread ∷ reason (not (rules.network network)) 4 ∷ refusing unpassed ∷ reason (ltb room 34) 5 ∷ [])
-      ≡ forwardRefusal t network s delay time room
+  forward-number : first (passReasons t before network p delay time behind) ≡ forwardRefusal t network s delay time room
   unfolding forwardRefusal
-  refusal-is b q unread unpassed e c u l =
-      rw (u, copy-length t delay s)
-      (first-behind (reason (not (withinRule t)) 14 ∷ refusing (refusalAs beacon s) ∷ reason (not (rules.network network)) 4 ∷ [])
-      (refusing unpassed ∷ reason (ltb room 34) 5 ∷ []) (passingReasons t network (passingOf (beaconIn s)) delay time ++ (reason (ltb room 34) 5 ∷ []))
-      (λ n.
-      let known = read-ruled s (eqb-true (refusalAs beacon s) 0 (not-false _ (n .1 .0))) in
-      let why : unpassed ≡ first (passingReasons t network (passingOf (beaconIn s)) delay time) = rw (c, e) at (l (not-false _ (n .0)) (rw (c, e) (known .origin))) in
-      rw why (sym (first-append (passingReasons t network (passingOf (beaconIn s)) delay time) (reason (ltb room 34) 5 ∷ []) (passing-numbered t network (passingOf (beaconIn s)) delay time)))))
+  forward-number =
+      rw (u, q, copy-length t delay s)
+      (first-behind (reason (not (withinRule t)) 14 ∷ []) (refusing (first front) ∷ own ++ (refusing behind ∷ [])) (front ++ (own ++ (reason (ltb room 34) 5 ∷ [])))
+      (λ n. sym (first-append front (own ++ (refusing behind ∷ [])) front-numbered) ∙ first-behind front (own ++ (refusing behind ∷ [])) (own ++ (reason (ltb room 34) 5 ∷ [])) (λ m. last-reason)))
 
-module _ (t : Table) (network : ℕ) (s : List ℕ) (delay time : ℕ) (out : List ℕ) (b : Beacon) (n : ℕ) (e : n ≡ forwardRefusal t network s delay time (length out)) where
-  abbrev copy : Beacon
-  copy = passedBy (t .own) delay (beaconIn s)
+  -- the table when it was asked
+  pub passed-as : passOf t before network p delay time behind ≡ settled (forwardRefusal t network s delay time room) t (recorded t (passingOf (beaconIn s)) time)
+  unfolding passOf
+  passed-as = rw (forward-number, q)
 
-  -- the sums that the copy needs fit their fields
-  pub sums-fit : n ≡ 0 → beaconValues b ≡ valuesIn beacon s → (b .hop + 1 ≤ 255) × (b .delay + delay ≤ 0xFFFFFFFF)
-  sums-fit z v =
-      let o = onward t network s delay time (length out) (sym e ∙ z) in
-      let r = read-ruled s (o .unread) in
-      rw (beacon-in b s v) (omega (arith, o .below, r .few), o .sum)
+-- ---- the copy
+module _ (t : Table) (network : ℕ) (s : List ℕ) (delay time : ℕ) (out : List ℕ) (z : forwardRefusal t network s delay time (length out) ≡ 0) where
+  known : Onward t network s delay time (length out)
+  known = onward t network s delay time (length out) z
 
-  copied : n ≡ 0 → writeAs beacon (beaconValues copy) [] out ≡ record { said = accepted (length (copyOf t delay s) ∷ []); held = sets out 0 (copyOf t delay s) }
-  copied z =
-      let o = onward t network s delay time (length out) (sym e ∙ z) in
-      let r = read-ruled s (o .unread) in
-      written-whole 34 (beaconRule copy) (copyOf t delay s) out (record {
-        sized = copy-length t delay s;
-        short = omega (arith, copy-length t delay s);
-        kept = r .passes (t .own) delay (within t (o .right) .unit) (o .below);
-        fits = ltb-false (length out) (length (copyOf t delay s)) (o .fits);
-      })
+  -- the sums that it needs fit their fields, and it fits the buffer
+  pub sums-fit : (b : Beacon) → beaconValues b ≡ valuesIn beacon s → (b .hop + 1 ≤ 255) × (b .delay + delay ≤ 0xFFFFFFFF)
+  sums-fit b v = rw (beacon-in b s v) (omega (arith, known .below, read-ruled s (known .unread) .few), known .sum)
 
-  pub forwarded-on : (sent : Beacon) (w : Written) (kept part : List ℕ) (q : Passing) (new : Table) → n ≡ 0 → beaconValues b ≡ valuesIn beacon s
-      → sent ≡ passedBy (t .own) delay b → part ≡ [] → wrote w kept ≡ writeAs beacon (beaconValues sent) part out → q ≡ passingOf b
-      → (withinRule t ≡ true → new ≡ recorded t q time)
-      → forwards.passed (record { refused = n; written = 34; table = new }) kept ≡ forwardOf t network s delay time out
+  pub room-fits : 34 ≤ length out
+  room-fits = omega (arith, ltb-false (length out) (length (copyOf t delay s)) (known .fits), copy-length t delay s)
+
+-- ---- the answers
+module _ (t : Table) (network : ℕ) (s : List ℕ) (delay time : ℕ) (out : List ℕ) (c : Changed)
+    (e : c ≡ settled (forwardRefusal t network s delay time (length out)) t (recorded t (passingOf (beaconIn s)) time)) where
+  pub forwarded-off : (c .refused ≡ 0 → ⊥) → forwards.passed (record { refused = c .refused; written = 0; table = c .table }) out ≡ forwardOf t network s delay time out
   unfolding forwardOf
-  forwarded-on sent w kept part q new z v c y d m r =
-      let g = beacon-in b s v in
-      let o = onward t network s delay time (length out) (sym e ∙ z) in
-      let whole : wrote w kept ≡ record { said = accepted (length (copyOf t delay s) ∷ []); held = sets out 0 (copyOf t delay s) } = d ∙ rw (c, g, y) (copied z) in
-      let held-now : kept ≡ sets out 0 (copyOf t delay s) = ap (λ (x : Wrote). x .held) whole in
-      rw (r (o .right), m, g, ← e, z, held-now, copy-length t delay s)
+  forwarded-off z =
+      let n = ap (λ (x : Changed). x .refused) e in
+      rw (e, ne-eqb _ 0 (λ y. z (n ∙ y)))
 
-pub forwarded-off : (t : Table) (network : ℕ) (s : List ℕ) (delay time : ℕ) (out : List ℕ) (n : ℕ) → n ≡ forwardRefusal t network s delay time (length out)
-    → (n ≡ 0 → ⊥) → forwards.passed (record { refused = n; written = 0; table = t }) out ≡ forwardOf t network s delay time out
-unfolding forwardOf
-forwarded-off t network s delay time out n e z = rw (← e, ne-eqb n 0 z)
+  pub forwarded-on : (held : List ℕ) → c .refused ≡ 0 → held ≡ sets out 0 (copyOf t delay s)
+      → forwards.passed (record { refused = 0; written = 34; table = c .table }) held ≡ forwardOf t network s delay time out
+  unfolding forwardOf
+  forwarded-on held z h =
+      let n : forwardRefusal t network s delay time (length out) ≡ 0 = sym (ap (λ (x : Changed). x .refused) e) ∙ z in
+      rw (e, n, h, copy-length t delay s)
 
--- the table as the code builds it is the one that is recorded
-pub records : (t : Table) (q : Passing) (time : ℕ) (rows : List Row) → rows ≡ standingPlaces time (t .rows) → length (t .rows) ≡ 48 → withinRule t ≡ true
-    → record { own = t .own; time = time; forwarded = true; origin = q .«original_source»; sequence = q .sequence; rows = rows } ≡ recorded t q time
-records t q time rows m l e = rw (m ∙ standing-places time (t .rows) (held t l e))
+-- ---- by a table that lies in bytes
+module _ (table : List ℕ) (network : ℕ) (s : List ℕ) (delay time : ℕ) (out : List ℕ) (status : ℕ) (last : List ℕ) (call : Table → Changed)
+    (e : tableLeft status last ≡ changedBy table call)
+    (k : (t : Table) → call t ≡ settled (forwardRefusal t network s delay time (length out)) t (recorded t (passingOf (beaconIn s)) time)) where
+  abbrev t : Table
+  t = tableIn table
+
+  said : status ≡ storedTable table (forwardRefusal t network s delay time (length out))
+  unfolding changedBy
+  said = ap (λ (x : TableLeft). x .status) e ∙ rw (k t)
+
+  pub stored-off : (status ≡ 0 → ⊥) → forwardLeft status last out 0 ≡ forwardCall table network s delay time out 0
+  unfolding forwardCall forwardOf changedBy
+  stored-off z =
+      let kept : last ≡ table = ap (λ (x : TableLeft). x .table) e ∙ left in
+      rw (← said, ne-eqb status 0 z, kept)
+    where
+      left : changedBy table call .table ≡ table
+      left = after-refused (changedBy table call .status) table _ (λ y. z (ap (λ (x : TableLeft). x .status) e ∙ y))
+
+  pub stored-none : status ≡ 0 → forwardRefusal t network s delay time (length out) ≡ 0
+  stored-none z = CallLaws.stored-none (isTable table) (forwardRefusal t network s delay time (length out)) (sym said ∙ z) .1
+
+  pub stored-on : (held : List ℕ) → status ≡ 0 → held ≡ sets out 0 (copyOf t delay s) → forwardLeft 0 last held 34 ≡ forwardCall table network s delay time out 0
+  unfolding forwardCall forwardOf changedBy
+  stored-on held z h =
+      let (known, none) = CallLaws.stored-none (isTable table) (forwardRefusal t network s delay time (length out)) (sym said ∙ z) in
+      let new : last ≡ tableBytes (recorded t (passingOf (beaconIn s)) time) = ap (λ (x : TableLeft). x .table) e ∙ bytes-new known none in
+      rw (known, none, h, new, copy-length t delay s)
+    where
+      bytes-new : isTable table ≡ true → forwardRefusal t network s delay time (length out) ≡ 0 → changedBy table call .table ≡ tableBytes (recorded t (passingOf (beaconIn s)) time)
+      bytes-new y n = rw (k t, y, n)
 
 -- an accepted forward leaves a table within rule
 pub forward-within : (t : Table) (network : ℕ) (s : List ℕ) (delay time : ℕ) (out : List ℕ) → forwardOf t network s delay time out .answer .refused ≡ 0

@@ -1,23 +1,34 @@
-// Forwarding a beacon.
+// Forwarding a beacon, by a table by value or in bytes: whether it is passed on is the table's to say; here it is read, and its copy written.
 ghost use mathlib.Core.Path.{_≡_};
+ghost use mathlib.Core.Bool.{not};
+ghost use mathlib.Core.List.{[], _∷_};
 ghost use Prim.Native.Nat.{_+_, _≤_};
-ghost use Rattle.forwards.specs.Forwards.{passingOf, passedBy, forwardRefusal, passed, forwardOf};
-use crate::passing::Passing;
-use crate::passing::recorded;
-use crate::passing::why_not_passed;
+ghost use Rattle.octets.specs.Answers.{reason, refusing, first};
+ghost use Rattle.shapes.specs.Reading.{refusalAs};
+ghost use Rattle.shapes.specs.Rules as rules;
+ghost use Rattle.beacons.specs.Beacons as beacons;
+ghost use Rattle.forwards.specs.Forwards.{passingOf, passedBy, passed, forwardOf, forwardLeft, forwardCall};
+use crate::writing::put_beacon;
 use beacons::beacon::Beacon;
-use frames::answers::Frame;
+use in_place::changing;
 use octets::answers::refuse_if;
-use octets::parts::part;
+use octets::numbers::number16;
+use passing::Passing;
+use passing::pass;
 use readers::refusals;
 use routes::table::Table;
-use writers::writing::write;
 
-// What forwarding gives: the table, which is as it was where `refused` is not 0, and how many bytes were written.
+// What forwarding by a table by value gives: the table, which is as it was where `refused` is not 0, and how many bytes were written.
 pub struct Forwarded {
     pub refused: u8,
     pub written: u8,
     pub table: Table,
+}
+
+// What forwarding by a table in bytes gives.
+pub struct ForwardedIn {
+    pub refused: u8,
+    pub written: u8,
 }
 
 fn passing_of(beacon: Beacon) -> Passing
@@ -57,18 +68,12 @@ fn passed_by(own: u16, delay: u32, beacon: Beacon) -> Beacon
     }
 }
 
-// Why a frame is not forwarded; 0 where it is.
-fn refusal(table: Table, network: u16, frame: &[u8], delay: u32, time: u32, room: usize) -> u8
-    ensures { λ r. ⌜ r ≡ forwardRefusal table network (now (frame .entry)) delay time room ⌝ }
+// What refuses a frame before a table is asked: it is no beacon, or the caller has no network.
+fn unread(network: u16, frame: &[u8]) -> u8
+    ensures { λ r. ⌜ r ≡ first (refusing (refusalAs beacons.beacon (now (frame .entry))) ∷ reason (not (rules.network network)) 4 ∷ []) ⌝ }
 {
-    let unread = refusals::beacon(frame);
-    let beacon = Beacon::of(frame);
-    let unpassed = why_not_passed(table, network, passing_of(beacon), delay, time);
-    let refused = refuse_if(room < 34, 5, 0);
-    let refused = refuse_if(!(unpassed == 0), unpassed, refused);
-    let refused = refuse_if(!(1 <= network), 4, refused);
-    let refused = refuse_if(!(unread == 0), unread, refused);
-    refuse_if(!table.within_rule(), 14, refused)
+    let refused = refusals::beacon(frame);
+    refuse_if(!(refused == 0), refused, refuse_if(!(1 <= network), 4, 0))
 }
 
 // Writes the copy, and records its pair and the time; the rows that are gone are dropped.
@@ -82,20 +87,53 @@ pub fn forward(
 ) -> Forwarded
     ensures { λ r. ⌜ passed r (now (out .exit)) ≡ forwardOf table network (now (frame .entry)) delay time (now (out .entry)) ⌝ }
 {
-    let refused = refusal(table, network, frame, delay, time, out.len());
-    if refused != 0 {
+    let beacon = Beacon::of(frame);
+    let passing = passing_of(beacon);
+    let before = unread(network, frame);
+    let behind = refuse_if(out.len() < 34, 5, 0);
+    let changed = pass(table, before, network, passing, delay, time, behind);
+    let next = changed.table;
+    if changed.refused != 0 {
         return Forwarded {
-            refused,
+            refused: changed.refused,
             written: 0,
-            table,
+            table: next,
         };
     }
-    let beacon = Beacon::of(frame);
-    let copy = passed_by(table.own, delay, beacon);
-    write(Frame::Beacon(copy), part(frame, 0, 0), out);
+    put_beacon(out, passed_by(table.own, delay, beacon));
     Forwarded {
-        refused,
+        refused: 0,
         written: 34,
-        table: recorded(table, passing_of(beacon), time),
+        table: next,
+    }
+}
+
+// The same by the table that bytes hold.
+pub fn forward_in(
+    table: &mut [u8],
+    network: u16,
+    frame: &[u8],
+    delay: u32,
+    time: u32,
+    out: &mut [u8],
+) -> ForwardedIn
+    ensures { λ r. ⌜ forwardLeft (r .refused) (now (table .exit)) (now (out .exit)) (r .written) ≡ forwardCall (now (table .entry)) network (now (frame .entry)) delay time (now (out .entry)) 0 ⌝ }
+{
+    let own = number16(&table[..], 0);
+    let beacon = Beacon::of(frame);
+    let passing = passing_of(beacon);
+    let before = unread(network, frame);
+    let behind = refuse_if(out.len() < 34, 5, 0);
+    let refused = changing::pass(table, before, network, passing, delay, time, behind);
+    if refused != 0 {
+        return ForwardedIn {
+            refused,
+            written: 0,
+        };
+    }
+    put_beacon(out, passed_by(own, delay, beacon));
+    ForwardedIn {
+        refused: 0,
+        written: 34,
     }
 }

@@ -1,4 +1,4 @@
-// Merging an update into a table.
+// Merging an update into a table by value, and what this shares with merging into one that lies in bytes.
 ghost use mathlib.Core.Path.{_≡_};
 ghost use mathlib.Core.Bool.{true};
 ghost use Prim.Native.Nat.{_≤_, _<_};
@@ -32,15 +32,15 @@ pub struct Merged {
 }
 
 // The rows when every candidate has been learned, and how many were skipped.
-struct Rows {
-    rows: [Row; 48],
-    skipped: u8,
+pub(crate) struct Rows {
+    pub(crate) rows: [Row; 48],
+    pub(crate) skipped: u8,
 }
 
 // Every candidate of an update in turn: one loop on one array. A turn takes the search for the candidate's row one place on, or, where that stops,
 // does with the candidate and takes the next. The entries of a page ascend, so that all their searches together pass each row about once. Only a new
 // row is moved in by a call that copies the array.
-fn learn_all(
+pub(crate) fn learn_all(
     rows: [Row; 48],
     part: &[u8],
     count: u8,
@@ -88,7 +88,7 @@ fn learn_all(
 }
 
 // Why a table within rule of the unit `own`, with this last accepted time, does not merge an update; 0 where it does.
-fn why_unmerged(own: u16, last: u32, frame: &[u8], quality: u8, time: u32) -> u8
+pub(crate) fn why_unmerged(own: u16, last: u32, frame: &[u8], quality: u8, time: u32) -> u8
     ensures { λ r. ⌜ r ≡ first (unmergedReasons own last (now (frame .entry)) quality time) ⌝ }
 {
     let origin = UpdateHeader::of(frame).origin;

@@ -3,3 +3,4 @@ pub mod candidate;
 pub mod merging;
 mod moving;
 mod steps;
+pub mod stored;

@@ -1,11 +1,12 @@
-// Merging an update into a table.
+// Merging an update into a table by value, and what this shares with merging into one that lies in bytes.
 ghost use mathlib.Core.Path.{_≡_};
 ghost use mathlib.Core.Bool.{true};
 ghost use Prim.Native.Nat.{_≤_, _<_};
+ghost use Rattle.octets.specs.Answers.{first};
 ghost use Rattle.octets.specs.Lists.{every};
 ghost use Rattle.routes.specs.Rows.{ascending, inUse, pad};
 ghost use Rattle.merges.specs.Learning.{learned, learnAll};
-ghost use Rattle.merges.specs.Merges.{mergeRefusal, mergeOf};
+ghost use Rattle.merges.specs.Merges.{unmergedReasons, mergeOf};
 ghost use Rattle.merges.specs.Offering.{walked, fair};
 use crate::candidate::Candidate;
 use crate::moving::moved_in;
@@ -31,15 +32,15 @@ pub struct Merged {
 }
 
 // The rows when every candidate has been learned, and how many were skipped.
-struct Rows {
-    rows: [Row; 48],
-    skipped: u8,
+pub(crate) struct Rows {
+    pub(crate) rows: [Row; 48],
+    pub(crate) skipped: u8,
 }
 
 // Every candidate of an update in turn: one loop on one array. A turn takes the search for the candidate's row one place on, or, where that stops,
 // does with the candidate and takes the next. The entries of a page ascend, so that all their searches together pass each row about once. Only a new
 // row is moved in by a call that copies the array.
-fn learn_all(
+pub(crate) fn learn_all(
     rows: [Row; 48],
     part: &[u8],
     count: u8,
@@ -86,24 +87,24 @@ fn learn_all(
     Rows { rows: out, skipped }
 }
 
-// Why an update is not merged, 0 where it is.
-fn why_unmerged(table: Table, frame: &[u8], quality: u8, time: u32) -> u8
-    ensures { λ r. ⌜ r ≡ mergeRefusal table (now (frame .entry)) quality time ⌝ }
+// Why a table within rule of the unit `own`, with this last accepted time, does not merge an update; 0 where it does.
+pub(crate) fn why_unmerged(own: u16, last: u32, frame: &[u8], quality: u8, time: u32) -> u8
+    ensures { λ r. ⌜ r ≡ first (unmergedReasons own last (now (frame .entry)) quality time) ⌝ }
 {
     let origin = UpdateHeader::of(frame).origin;
     let unread = update(frame);
     let refused = refuse_if(quality < 40, 9, 0);
-    let refused = refuse_if(!in_order(table.time, time), 8, refused);
-    let refused = refuse_if(origin == table.own, 6, refused);
-    let refused = refuse_if(unread != 0, unread, refused);
-    refuse_if(!table.within_rule(), 14, refused)
+    let refused = refuse_if(!in_order(last, time), 8, refused);
+    let refused = refuse_if(origin == own, 6, refused);
+    refuse_if(unread != 0, unread, refused)
 }
 
 // Merges an update that was heard with this quality.
 pub fn merge(table: Table, frame: &[u8], quality: u8, time: u32) -> Merged
     ensures { λ r. ⌜ r ≡ mergeOf table (now (frame .entry)) quality time ⌝ }
 {
-    let refused = why_unmerged(table, frame, quality, time);
+    let refused = why_unmerged(table.own, table.time, frame, quality, time);
+    let refused = refuse_if(!table.within_rule(), 14, refused);
     if refused != 0 {
         return Merged {
             refused,

@@ -1,0 +1,46 @@
+-- `merge_in`: the bytes as they were, or every candidate learned over the rows that stand, and all of the table stored.
+-- Assumes nothing.
+use mathlib.Core.Path.{_≡_, ap}
+use denote.Ref.{now}
+use Rattle.octets.specs.Parts.{Lent}
+use Rattle.routes.specs.declared.table.Head.{Head}
+use Rattle.stores.specs.TableBytes.{tableIn}
+use Rattle.merges.specs.Merges.{updateIn}
+use Rattle.merges.proofs.MergeLaws.{Mergeable, header-in, learnable, merged-by}
+use Rattle.merges.proofs.StoredLaws.{bytes-stay, stored-able, bytes-written}
+use borrow.Author.Needs.{needs}
+use Rattle.merges.proofs.stored.merge_in.Statement.{statement}
+use Rattle.merges.proofs.stored.merge_in.Tie as tie
+
+returns : tie.Need-returns
+returns c = bytes-stay _ _ _ _ _ (c .before .why-unmerged-in .ensures) (c .if1 .taken)
+
+-- what is known once the entries are at hand
+able : (d : tie.After-entries) → Mergeable (tableIn (now (d .before .before .before .before .before .before .before .before .before .before .before .args .table))) (now (d .before .before .before .before .before .before .before .before .before .before .before .args .frame)) (d .before .before .before .before .before .before .before .before .before .before .before .args .quality) (d .before .before .before .before .before .before .before .before .before .before .before .args .time)
+able d =
+    let test = d .before .before .before .before .before .before in
+    stored-able _ _ _ _ _ (test .before .why-unmerged-in .ensures) (test .if1 .left)
+
+header : (d : tie.After-entries) → d .before .before .before .of .result ≡ updateIn (now (d .before .before .before .before .before .before .before .before .before .before .before .args .frame))
+header d = header-in (d .before .before .before .of .result) _ (d .before .before .before .of .ensures)
+
+own : (d : tie.After-entries) → d .before .before .before .before .head-of .result .own ≡ tableIn (now (d .before .before .before .before .before .before .before .before .before .before .before .args .table)) .own
+own d = ap (λ (h : Head). h .own) (d .before .before .before .before .head-of .ensures)
+
+learn-all-requires : tie.Need-learn-all-requires
+learn-all-requires c κs =
+    learnable _ _ _ _ (able c) _ (c .before .standing-rows .ensures) _ (c .before .before .before .of .result) _ (own c) (header c) (ap (λ (l : Lent). l .bytes) (c .entries .ensures))
+
+returns-2 : tie.Need-returns-2
+returns-2 c =
+    let put = c .before .before in
+    let learn = put .before .before .before in
+    let d = learn .before in
+    let head = d .before .before .before .before in
+    let test = head .before .before in
+    let whole = merged-by _ _ _ _ (able d) _ (d .before .standing-rows .ensures) _ (d .before .before .before .of .result) _ (own d) (header d) (ap (λ (l : Lent). l .bytes) (d .entries .ensures)) in
+    bytes-written _ _ _ _ _ (test .before .why-unmerged-in .ensures) (test .if1 .left) (head .head-of .result) (head .head-of .ensures) _ _ _ whole (learn .learn-all .ensures) _ (put .put-table .ensures)
+
+pub merge-in-spec : {M : Type 1} → statement M
+merge-in-spec =
+    tie.close (tie.spec (λ c κs. search needs) (λ c. search needs) returns (λ c κs. search needs) (λ c κs. search needs) (λ c κs. search needs) (λ c κs. search needs) learn-all-requires (λ c κs. search needs) (λ c. search needs) returns-2)

@@ -21,7 +21,9 @@ use Rattle.routes.proofs.KeepLaws.{fresh-within, forget-within}
 use Rattle.merges.proofs.KeepLaws.{merge-within, dropped-merge, dropped-merges}
 use Rattle.pages.specs.Pages.{pageFrame, pageOf, pageReasons}
 use Rattle.relays.specs.Relays.{dataIn, forUs, copyOf, relayRefusal, relayOf, relayReasons}
-use Rattle.relays.proofs.AlikeLaws.{relay-alike, page-alike, forward-refused, forward-written, forward-held, forward-table}
+use Rattle.pages.proofs.AlikeLaws.{page-alike}
+use Rattle.relays.proofs.AlikeLaws.{relay-alike}
+use Rattle.forwards.proofs.AlikeLaws.{forward-refused, forward-written, forward-held, forward-table}
 use Rattle.forwards.proofs.ForwardLaws.{forward-within}
 use Rattle.history.specs.TableCalls.{Call, merge, forget, forward, lookup, relay, page, next, answers, newTable, answer, Past, after, fresh}
 use Rattle.history.specs.TableLaws.{AnswersHeard, Freshness, Accounts, FreshnessFrom, KeepsRule, RefusedKeeps, StaysWithinRule, GoneRowsDoNotMatter}

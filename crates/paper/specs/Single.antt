@@ -36,9 +36,11 @@ use Rattle.braidlark.specs.ClockCalls.{clockLeft}
 use Rattle.braidlark.specs.EntryCalls.{entryLeft}
 use Rattle.braidlark.specs.FrameCalls.{readLeft}
 use Rattle.braidlark.specs.StateCalls.{stateLeft}
-use Rattle.router.specs.RelayCalls.{relayLeft, forwardLeft}
-use Rattle.router.specs.TableCalls.{tableLeft, lookupLeft}
-use Rattle.router.specs.UpdateCalls.{mergeLeft}
+use Rattle.forwards.specs.Forwards.{forwardLeft}
+use Rattle.router.specs.RelayCalls.{relayLeft}
+use Rattle.stores.specs.StoredTables.{tableLeft}
+use Rattle.router.specs.TableCalls.{lookupLeft}
+use Rattle.merges.specs.StoredMerges.{mergeLeft}
 use Rattle.manager.specs.BookCalls.{bookLeft}
 use Rattle.manager.specs.PlanCalls.{numbersLeft}
 use Rattle.admissions.specs.RequestCalls.{requestLeft}

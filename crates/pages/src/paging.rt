@@ -34,7 +34,7 @@ fn rows_in(rows: [Row; 48]) -> usize
 
 // The entries for the rows from one place up to another, behind an update's header.
 fn put_entries(out: &mut [u8], rows: [Row; 48], from: usize, to: usize, time: u32)
-    requires { ⌜ (from ≤ to) × (to ≤ 48) × (9 + 10 * (to - from) ≤ length (now out)) ⌝ }
+    requires { ⌜ (to ≤ 48) × (9 + 10 * (to - from) ≤ length (now out)) ⌝ }
     ensures { λ _. ⌜ now (out .exit) ≡ sets (now (out .entry)) 8 (entriesBytes (map (entryFor time) (drop from (take to rows)))) ⌝ }
 {
     let mut i = from;

@@ -5,7 +5,7 @@ use Prim.Native.Nat.{_+_, _-_, _≤_}
 use native.Mathlib.Omega.{arith}
 use lib.ListN.{length, drop}
 use Rattle.routes.specs.Rows.{inUse}
-use Rattle.pages.proofs.PageLaws.{count-end, count-turn, count-all}
+use Rattle.pages.proofs.PlaceLaws.{count-end, count-turn, count-all}
 use borrow.Author.Needs.{needs}
 use Rattle.pages.proofs.paging.rows_in.Statement.{statement}
 use Rattle.pages.proofs.paging.rows_in.Tie as tie

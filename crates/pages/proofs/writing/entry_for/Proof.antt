@@ -2,8 +2,8 @@
 -- Assumes nothing.
 use Rattle.pages.specs.Pages.{entryFor}
 use borrow.Author.Needs.{needs}
-use Rattle.pages.proofs.paging.entry_for.Statement.{statement}
-use Rattle.pages.proofs.paging.entry_for.Tie as tie
+use Rattle.pages.proofs.writing.entry_for.Statement.{statement}
+use Rattle.pages.proofs.writing.entry_for.Tie as tie
 
 returns : tie.Need-returns
 unfolding entryFor

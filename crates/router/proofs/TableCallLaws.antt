@@ -1,24 +1,27 @@
 -- The calls on a stored table, from what the core answers.
 -- Assumes nothing.
 use mathlib.Core.Path.{_≡_, refl, sym, ap, _∙_}
-use mathlib.Core.Bool.{Bool, true, false}
+use mathlib.Core.Bool.{Bool, true, false, not, cond}
 use mathlib.Core.List.{List, [], _∷_}
 use Prim.Native.Nat.{ℕ}
 use native.Mathlib.Omega.{arith}
+use borrow.Author.Tests.{eq-eqb, ne-eqb, eqb-true}
+use lib.Dec.{eqb}
 use lib.ListN.{length}
 use Rattle.octets.specs.Answers.{Said}
 use Rattle.octets.specs.Calls.{stored}
-use Rattle.octets.proofs.CallLaws.{after-accepted, after-refused, stored-none}
+use Rattle.octets.proofs.CallLaws.{after-refused, stored-none}
 use Rattle.routes.specs.declared.table.Changed.{Changed}
 use Rattle.routes.specs.declared.table.Found.{Found}
+use Rattle.routes.specs.declared.table.Head.{Head}
 use Rattle.routes.specs.declared.table.Hop.{Hop}
 use Rattle.routes.specs.declared.table.Table.{Table}
 use Rattle.frames.specs.declared.answers.Refusal.{Refusal}
-use Rattle.routes.specs.Rows.{inUse, rowFor}
+use Rattle.routes.specs.Rows.{inUse, pad, rowFor}
 use Rattle.routes.specs.Tables.{rowsOf, headOf, tableOf, lookupRefusal, freshOf, lookupOf}
 use Rattle.routes.specs.Told.{toldFound}
 use Rattle.stores.specs.StoredTables.{tableLeft}
-use Rattle.stores.specs.TableBytes.{tableIn, tableOver, isTable}
+use Rattle.stores.specs.TableBytes.{tableIn, tableBytes, tableOver, isTable}
 use Rattle.in_place.specs.Lookups.{lookupIn}
 use Rattle.router.specs.TableCalls.{freshCall, lookupLeft, lookupCall}
 use Rattle.shapes.proofs.AnsweredLaws.{Valued, valued, valued-unless, refused-by-some}
@@ -57,3 +60,28 @@ module _ (s : List ℕ) (destination time nextHop hops : ℕ) (found : Found) (e
           let z = refused-by-some (r .number) _ (lookup-valued (tableIn s) destination time) (sym (ap toldFound q) ∙ told y) in
           rw (y, ← told y, q, after-refused (r .number) nextHop 0 z, after-refused (r .number) hops 0 z)
       go false y = rw (y, (rw q at (untold y)))
+
+-- ---- a fresh table
+module _ (s : List ℕ) (own time : ℕ) (fresh : Changed) (e : fresh ≡ freshOf own time) (n : ℕ) (f : n ≡ cond (not (eqb (length s) 539)) 14 (fresh .refused)) where
+  status : n ≡ stored 539 s (freshOf own time .refused)
+  status = f ∙ (rw e (go (eqb (length s) 539)))
+    where
+      go : (b : Bool) → cond (not b) 14 (freshOf own time .refused) ≡ cond b (freshOf own time .refused) 14
+      go true = refl
+      go false = refl
+
+  pub fresh-refused : (n ≡ 0 → ⊥) → tableLeft n s ≡ freshCall s own time
+  unfolding freshCall
+  fresh-refused z = rw (← status, ne-eqb n 0 z)
+
+  -- its rows are zeros, as those behind the rows in use of any table
+  fresh-over : length s ≡ 539 → freshOf own time .refused ≡ 0
+      → tableOver s (tableOf (headOf (freshOf own time .table)) (inUse (freshOf own time .table .rows))) ≡ tableBytes (freshOf own time .table)
+  unfolding tableOver freshOf pad
+  fresh-over long none = rw (eq-eqb (length s) 539 long, none)
+
+  pub fresh-written : n ≡ 0 → (h : Head) → h ≡ headOf (fresh .table) → (last : List ℕ) → last ≡ tableOver s (tableOf h (inUse (fresh .table .rows))) → tableLeft 0 last ≡ freshCall s own time
+  unfolding freshCall
+  fresh-written z h q last l =
+      let (long, none) = stored-none (eqb (length s) 539) (freshOf own time .refused) (sym status ∙ z) in
+      rw (l, q, e, fresh-over (eqb-true (length s) 539 long) none, long, none)

@@ -11,7 +11,6 @@ use Rattle.stores.specs.StoredTables.{storedTable}
 use Rattle.stores.specs.TableBytes.{tableIn}
 use Rattle.relays.specs.Relays.{forUs, relayOf}
 
-
 -- ---- relaying: the status, the buffer, the next hop, and the place and the number of the bytes that count
 pub record RelayLeft : Type 0 where
   pub status : ℕ

@@ -20,6 +20,7 @@ use Rattle.passing.specs.Passes.{tableReasons, recorded}
 use Rattle.stores.specs.StoredTables.{storedTable}
 use Rattle.stores.specs.TableBytes.{tableIn, tableBytes}
 use Rattle.forwards.specs.declared.forwarding.Forwarded.{Forwarded}
+use Rattle.forwards.specs.declared.forwarding.ForwardedIn.{ForwardedIn}
 
 -- what a forwarder needs of a beacon: its transmitter, network, original source, hop, max hops, delay and sequence
 abbrev pub passingOf : Beacon → Passing
@@ -101,6 +102,11 @@ pub record ForwardLeft : Type 0 where
 abbrev pub forwardLeft : ℕ → List ℕ → List ℕ → ℕ → ForwardLeft
 forwardLeft status table out written = record { status = status; table = table; out = out; written = written }
 
+-- what forwarding answers and leaves of the table's bytes and of the buffer
+abbrev pub forwardedIn : ForwardedIn → List ℕ → List ℕ → ForwardLeft
+forwardedIn answer table out = forwardLeft (answer .refused) table out (answer .written)
+
+-- what forwarding by the table that the bytes s hold leaves of them, of the buffer, and of a number of bytes written
 unfoldable pub forwardCall : List ℕ → ℕ → List ℕ → ℕ → ℕ → List ℕ → ℕ → ForwardLeft
 forwardCall s network frame delay time out written =
     let passed = forwardOf (tableIn s) network frame delay time out in

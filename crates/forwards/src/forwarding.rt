@@ -7,7 +7,7 @@ ghost use Rattle.octets.specs.Answers.{reason, refusing, first};
 ghost use Rattle.shapes.specs.Reading.{refusalAs};
 ghost use Rattle.shapes.specs.Rules as rules;
 ghost use Rattle.beacons.specs.Beacons as beacons;
-ghost use Rattle.forwards.specs.Forwards.{passingOf, passedBy, passed, forwardOf, forwardLeft, forwardCall};
+ghost use Rattle.forwards.specs.Forwards.{passingOf, passedBy, passed, forwardOf, forwardedIn, forwardCall};
 use crate::writing::put_beacon;
 use beacons::beacon::Beacon;
 use in_place::changing;
@@ -117,7 +117,7 @@ pub fn forward_in(
     time: u32,
     out: &mut [u8],
 ) -> ForwardedIn
-    ensures { λ r. ⌜ forwardLeft (r .refused) (now (table .exit)) (now (out .exit)) (r .written) ≡ forwardCall (now (table .entry)) network (now (frame .entry)) delay time (now (out .entry)) 0 ⌝ }
+    ensures { λ r. ⌜ forwardedIn r (now (table .exit)) (now (out .exit)) ≡ forwardCall (now (table .entry)) network (now (frame .entry)) delay time (now (out .entry)) 0 ⌝ }
 {
     let own = number16(&table[..], 0);
     let beacon = Beacon::of(frame);

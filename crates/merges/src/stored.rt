@@ -3,7 +3,7 @@ ghost use mathlib.Core.Path.{_≡_};
 ghost use Rattle.stores.specs.StoredTables.{storedTable};
 ghost use Rattle.stores.specs.TableBytes.{tableIn};
 ghost use Rattle.merges.specs.Merges.{mergeRefusal};
-ghost use Rattle.merges.specs.StoredMerges.{mergeLeft, mergeCall};
+ghost use Rattle.merges.specs.StoredMerges.{mergedIn, mergeCall};
 use crate::merging::learn_all;
 use crate::merging::why_unmerged;
 use in_place::judging::holds_table;
@@ -33,7 +33,7 @@ fn why_unmerged_in(s: &[u8], frame: &[u8], quality: u8, time: u32) -> u8
 
 // Merges an update that was heard with this quality. Nothing is written before it is known that nothing refuses it.
 pub fn merge_in(table: &mut [u8], frame: &[u8], quality: u8, time: u32) -> MergedIn
-    ensures { λ r. ⌜ mergeLeft (r .refused) (now (table .exit)) (r .skipped) ≡ mergeCall (now (table .entry)) (now (frame .entry)) quality time 0 ⌝ }
+    ensures { λ r. ⌜ mergedIn r (now (table .exit)) ≡ mergeCall (now (table .entry)) (now (frame .entry)) quality time 0 ⌝ }
 {
     let refused = why_unmerged_in(&table[..], frame, quality, time);
     if refused != 0 {

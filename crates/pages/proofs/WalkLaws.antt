@@ -69,7 +69,6 @@ module _ (s : List ℕ) (count time place left : ℕ) (g : Passed s count time p
 
 -- ---- the rows that stand are counted, at most 24
 pub record Counted (s : List ℕ) (from time place count : ℕ) : Type 0 where
-  pub within : place ≤ 48
   pub few : count ≤ 24
   pub rest : count + length (take (24 - count) (standFrom time place s)) ≡ length (take 24 (standFrom time from s))
 
@@ -87,12 +86,12 @@ module _ (s : List ℕ) (from time place count : ℕ) (g : Counted s from time p
 
   module _ (h : place < 48) (r : Row) (here : r ≡ rowAt s place) (z : r .destination ≡ 0 → ⊥) where
     pub count-gone : stands time r ≡ false → Counted s from time (place + 1) count
-    count-gone q = record { within = omega arith; few = g .few; rest = rw (one-gone s time place h r here z q) at (g .rest) }
+    count-gone q = record { few = g .few; rest = rw (one-gone s time place h r here z q) at (g .rest) }
 
     pub count-one : count < 24 → stands time r ≡ true → Counted s from time (place + 1) (count + 1)
     count-one l q =
         let e : 24 - count ≡ suc (24 - (count + 1)) = omega arith in
-        record { within = omega arith; few = omega arith; rest = omega (arith, rw (e, one-stands s time place h r here z q) at (g .rest)) }
+        record { few = omega arith; rest = omega (arith, rw (e, one-stands s time place h r here z q) at (g .rest)) }
 
 -- ---- the rows that stand have their entries put: to store those of the rows left is to store all
 pub record PutBehind (out₀ s : List ℕ) (from count time : ℕ) (out : List ℕ) (place put : ℕ) : Type 0 where

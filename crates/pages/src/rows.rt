@@ -36,7 +36,6 @@ pub(crate) fn place_behind(s: &[u8], count: usize, time: u32) -> u8
 
 // How many rows stand from a place on, at most 24.
 pub(crate) fn standing_from(s: &[u8], from: u8, time: u32) -> usize
-    requires { ⌜ from ≤ 48 ⌝ }
     ensures { λ r. ⌜ (r ≡ length (take 24 (standing time (rowsFrom from (now (s .entry)))))) × (r ≤ 24) ⌝ }
 {
     let mut place = from;
@@ -60,7 +59,7 @@ pub(crate) fn standing_from(s: &[u8], from: u8, time: u32) -> usize
 
 // The entries for the first rows that stand from a place on, so many of them, behind an update's header.
 pub(crate) fn put_standing(out: &mut [u8], s: &[u8], from: u8, count: usize, time: u32)
-    requires { ⌜ (from ≤ 48) × (9 + 10 * count ≤ length (now out)) × (count ≤ length (standing time (rowsFrom from (now s)))) ⌝ }
+    requires { ⌜ (9 + 10 * count ≤ length (now out)) × (count ≤ length (standing time (rowsFrom from (now s)))) ⌝ }
     ensures { λ _. ⌜ now (out .exit) ≡ sets (now (out .entry)) 8 (entriesBytes (map (entryFor time) (take count (standing time (rowsFrom from (now (s .entry))))))) ⌝ }
 {
     let mut place = from;

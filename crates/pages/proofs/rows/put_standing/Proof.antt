@@ -16,7 +16,7 @@ abbrev μ-loop : tie.MeasureT-loop
 μ-loop out₀ s from count time place₀ put₀ out place put = 48 - place
 
 loop-holds : tie.Need-loop-holds Inv-loop μ-loop
-loop-holds c = put-first _ _ _ _ _ (c .before .before .pre .2)
+loop-holds c = put-first _ _ _ _ _ (c .before .before .pre .1)
 
 -- a place that is walked to is one of the 48
 inside : (d : tie.In-loop Inv-loop μ-loop) → d .before .loop .place < 48
@@ -41,7 +41,7 @@ loop-again c =
 part-put-entry-end : tie.Need-part-put-entry-end Inv-loop μ-loop
 part-put-entry-end c =
     let at = c .before .before .before .before in
-    omega (arith, at .loop .inv .long, at .before .before .before .pre .1)
+    omega (arith, at .loop .inv .long, at .before .before .before .pre .0)
 
 loop-less-2 : tie.Need-loop-less-2 Inv-loop μ-loop
 loop-less-2 c = omega (arith, inside (c .before .before .before .before .before .before .before .before))
@@ -55,7 +55,7 @@ loop-again-2 c =
     let at = row .before .before in
     let start = at .before .before .before in
     let a = start .args in
-    put-one (a .out .now) (a .s .now) (a .from) (a .count) (a .time) (at .loop .out) (at .loop .place) (at .loop .put) (at .loop .inv) (search needs) (row .row-at .result) (row .row-at .ensures) (sym (test .before .stands .ensures) ∙ not-false _ (test .if1 .left)) (start .pre .1)
+    put-one (a .out .now) (a .s .now) (a .from) (a .count) (a .time) (at .loop .out) (at .loop .place) (at .loop .put) (at .loop .inv) (search needs) (row .row-at .result) (row .row-at .ensures) (sym (test .before .stands .ensures) ∙ not-false _ (test .if1 .left)) (start .pre .0)
     (entry .entry-for .result) _ (entry .entry-for .ensures) (put .put-entry .ensures) _ refl (search needs)
 
 same-length : tie.Need-same-length Inv-loop μ-loop

@@ -16,7 +16,7 @@ abbrev μ-loop : tie.MeasureT-loop
 μ-loop s from time place₀ count₀ place count = 48 - place
 
 loop-holds : tie.Need-loop-holds Inv-loop μ-loop
-loop-holds c = record { within = search needs; few = omega arith; rest = omega arith }
+loop-holds c = record { few = omega arith; rest = omega arith }
 
 returns : tie.Need-returns Inv-loop μ-loop
 returns c =

@@ -56,7 +56,6 @@ put-standing-requires c κs =
     let count = d .before in
     let place = count .before in
     let a = start d .args in (
-      place .place-behind .ensures .1,
       omega (arith, page-room (here d) (test .if2 .left), header .put-header .kept .0),
       from-enough (a .table .now) (a .number) (a .time) (place .place-behind .result) (count .standing-from .result) (place .place-behind .ensures .0) (count .standing-from .ensures .0),
     )

@@ -27,10 +27,10 @@ use Rattle.passing.specs.declared.Passing.{Passing}
 use Rattle.passing.specs.Passes.{passedHead, passingReasons, passReasons, passOf}
 use Rattle.passing.proofs.PassLaws.{pass-number}
 use Rattle.stores.specs.StoredTables.{tableLeft, changedBy}
-use Rattle.stores.specs.TableBytes.{rowsBytes, headWidths, headValues, tableIn, tableBytes, isTable, holdsTable}
-use Rattle.stores.proofs.TableByteLaws.{rows-run, length-head, zeros-behind}
+use Rattle.stores.specs.TableBytes.{rowsBytes, headWidths, headValues, rowsIn, tableIn, tableBytes, isTable, holdsTable}
+use Rattle.stores.proofs.TableByteLaws.{rows-run, length-head, zeros-behind, rows-in}
 use Rattle.in_place.specs.Changes.{kept}
-use Rattle.in_place.proofs.JudgedLaws.{judged-table, judged-rule}
+use Rattle.in_place.proofs.JudgedLaws.{judged-table, judged-rule, judged-length}
 
 -- ---- the rows, the zeros behind them and then the head are all of a table
 module _ (l : List ℕ) (h : Head) (rs : List Row) (e : length l ≡ 539) (k : length (pad rs) ≡ 48) where
@@ -109,14 +109,14 @@ pub record Asked (s : List ℕ) (before network : ℕ) (p : Passing) (delay time
   pub found : Said
   pub why : ℕ
   pub headed : head ≡ headOf (tableIn s)
-  pub looked : row ≡ rowFor (p .«original_source») (rowsOf (tableIn s))
+  pub looked : row ≡ rowFor (p .«original_source») (rowsIn s)
   pub told : found ≡ foundBy (head .time) row (p .«original_source») time
   pub whyNot : why ≡ first (passingReasons head found network p delay time)
   pub number : n ≡ cond (not (eqb before 0)) before (cond (not (eqb why 0)) why behind)
 
 module _ (s : List ℕ) (before network : ℕ) (p : Passing) (delay time behind n : ℕ) (k : Asked s before network p delay time behind n) where
   first-reason : cond (not (withinRule (tableIn s))) 14 n ≡ first (passReasons (tableIn s) before network p delay time behind)
-  first-reason = rw (k .number) (pass-number (tableIn s) before network p delay time behind (k .why) (k .whyNot ∙ rw (k .told, k .looked, k .headed)))
+  first-reason = rw (k .number) (pass-number (tableIn s) before network p delay time behind (k .why) (k .whyNot ∙ rw (k .told, k .looked, rows-in s (judged-length s (k .holds)), k .headed)))
 
   pub pass-refusal : n ≡ passOf (tableIn s) before network p delay time behind .refused
   unfolding passOf

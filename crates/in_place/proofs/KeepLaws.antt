@@ -10,6 +10,7 @@ use lib.Dec.{eqb}
 use lib.ListN.{length, take, drop}
 use lib.Seq.{sets, drop-drop}
 use Rattle.octets.specs.Layouts.{fields, bytes, Bytes}
+use Rattle.octets.specs.Lists.{tab}
 use Rattle.octets.proofs.LayoutLaws.{fields-part, length-bytes}
 use Rattle.octets.proofs.RunLaws.{put-turn}
 use Rattle.octets.proofs.StoreLaws.{sets-append, sets-part, sets-same, drop-sets}
@@ -21,8 +22,12 @@ use Rattle.stores.specs.TableBytes.{rowWidths, rowValues, rowFrom, rowAt, rowsB
 use Rattle.stores.proofs.TableByteLaws.{rows-run}
 use Rattle.stores.proofs.TableTripLaws.{row-kept, flagged}
 use Rattle.in_place.specs.Changes.{kept}
-use Rattle.in_place.proofs.FindLaws.{places, at-place, a-place}
+use Rattle.in_place.proofs.FindLaws.{at-place, a-place}
 use Rattle.in_place.proofs.JudgedLaws.{judged-length, judged-flags, tab-past}
+
+-- the places of a table's bytes
+abbrev places : List ℕ → List Row
+places s = tab 48 (rowAt s)
 
 -- what the loop has: the rows kept of the places passed, with those that are left stored behind them, are all; and the places that are left are as they were
 pub record Keeping (s out : List ℕ) (unit time count place : ℕ) : Type 0 where
@@ -61,11 +66,11 @@ module _ (s : List ℕ) (j : holdsTable s ≡ true) (b : Bytes s) (out : List �
     lying = row-kept s b from (omega (arith, judged-length s j)) (flagged s b 48 (judged-flags s j) place h)
 
     pub keep-end : r .destination ≡ 0 → Kept s out unit time count
-    keep-end z = kept-all (in-use-end (places s) place (a-place s place h r same) (rw (at-place s place h r same) z))
+    keep-end z = kept-all (in-use-end (places s) place (a-place (rowAt s) place h) (rw (at-place (rowAt s) place h r same) z))
 
     module _ (z : r .destination ≡ 0 → ⊥) where
       turn : inUse (drop place (places s)) ≡ r ∷ inUse (drop (place + 1) (places s))
-      turn = rw (at-place s place h r same) at (in-use-turn (places s) place (a-place s place h r same) (rw (at-place s place h r same) z))
+      turn = rw (at-place (rowAt s) place h r same) at (in-use-turn (places s) place (a-place (rowAt s) place h) (rw (at-place (rowAt s) place h r same) z))
 
       further : drop (11 + 11 * (place + 1)) out ≡ drop (11 + 11 * (place + 1)) s
       further =

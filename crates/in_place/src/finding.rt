@@ -1,9 +1,8 @@
 // The row for a destination in a table that lies in bytes, and what a lookup answers.
 ghost use mathlib.Core.Path.{_≡_};
 ghost use Rattle.routes.specs.Rows.{rowFor};
-ghost use Rattle.routes.specs.Tables.{rowsOf};
 ghost use Rattle.routes.specs.Told.{toldFound};
-ghost use Rattle.stores.specs.TableBytes.{tableIn};
+ghost use Rattle.stores.specs.TableBytes.{rowsIn};
 ghost use Rattle.in_place.specs.Lookups.{lookupIn};
 use crate::judging::holds_table;
 use frames::answers::Refusal;
@@ -15,7 +14,7 @@ use stores::tables::row_at;
 
 // The row for a destination, or none.
 pub fn row_for(s: &[u8], destination: u16) -> Row
-    ensures { λ r. ⌜ r ≡ rowFor destination (rowsOf (tableIn (now (s .entry)))) ⌝ }
+    ensures { λ r. ⌜ r ≡ rowFor destination (rowsIn (now (s .entry))) ⌝ }
 {
     let mut place: u8 = 0;
     while place < 48 {

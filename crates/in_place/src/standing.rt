@@ -1,14 +1,13 @@
 // The rows of a table that lies in bytes, without those that are gone.
 ghost use mathlib.Core.Path.{_≡_};
 ghost use Rattle.routes.specs.Rows.{pad, standing};
-ghost use Rattle.routes.specs.Tables.{rowsOf};
-ghost use Rattle.stores.specs.TableBytes.{tableIn};
+ghost use Rattle.stores.specs.TableBytes.{rowsIn};
 use routes::row::Row;
 use stores::tables::row_at;
 
 // Nothing is read behind the rows in use.
 pub fn standing_rows(s: &[u8], time: u32) -> [Row; 48]
-    ensures { λ r. ⌜ r ≡ pad (standing time (rowsOf (tableIn (now (s .entry))))) ⌝ }
+    ensures { λ r. ⌜ r ≡ pad (standing time (rowsIn (now (s .entry)))) ⌝ }
 {
     let mut out = [Row {
         destination: 0,

@@ -1,27 +1,28 @@
 -- The bytes of a table: its rows one behind the other, with zeros behind them, how many they all are, the rows behind the head, and all of it stored.
 -- Assumes nothing.
 use mathlib.Core.Path.{_≡_, refl, sym, ap, _∙_}
-use mathlib.Core.Bool.{true, _&&_, and-eq-true-iff}
+use mathlib.Core.Bool.{true, _&&_, and-false, and-eq-true-iff}
 use mathlib.Core.List.{List, [], _∷_, _++_, append-assoc}
 use Prim.Native.Nat.{ℕ, zero, suc, _+_, _*_, _-_, _≤_, _<_}
 use native.Mathlib.Omega.{arith}
-use borrow.Author.Tests.{eq-eqb, ne-eqb, eqb-true}
+use borrow.Author.Tests.{eq-eqb, ne-eqb, eqb-true, lt-ltb, le-ltb}
 use lib.Dec.{eqb, leb}
 use lib.ListN.{length, getD, take, drop, replicate, length-append, drop-of-length-le}
 use lib.Seq.{sets}
-use Rattle.octets.specs.Layouts.{bytes}
+use Rattle.octets.specs.Layouts.{fields, bytes}
 use Rattle.octets.specs.Numbers.{num, digits}
 use Rattle.octets.proofs.StoreLaws.{sets-append, sets-whole}
-use Rattle.octets.proofs.LayoutLaws.{length-bytes}
+use Rattle.octets.proofs.LayoutLaws.{length-bytes, fields-part}
+use Rattle.octets.proofs.ListLaws.{tab-same}
 use Rattle.octets.proofs.RunLaws.{Run, run-length, put-turn}
 use Rattle.routes.specs.declared.row.Row.{Row}
 use Rattle.routes.specs.declared.table.Head.{Head}
 use Rattle.routes.specs.declared.table.Table.{Table}
 use Rattle.routes.specs.Rows.{none, inUse, pad}
-use Rattle.routes.specs.Tables.{headOf, tableOf}
+use Rattle.routes.specs.Tables.{rowsOf, headOf, tableOf}
 use Rattle.routes.proofs.RowLaws.{in-use-end, in-use-turn}
 use Rattle.routes.proofs.StandingLaws.{pad-length}
-use Rattle.stores.specs.TableBytes.{rowWidths, rowValues, rowsBytes, headWidths, headValues, tableBytes, tableOver, flagsOk, isTable}
+use Rattle.stores.specs.TableBytes.{rowWidths, rowValues, rowFrom, rowAt, rowsBytes, tableIn, headWidths, headValues, tableBytes, tableOver, placeOf, rowsIn, flagsOk, isTable}
 
 pub rows-run : Run rowWidths rowValues rowsBytes
 rows-run = record { none = refl; more = λ r rs. refl; full = λ r. refl }
@@ -118,3 +119,28 @@ unfolding isTable
 table-length s h =
     let front = and-eq-true-iff (eqb (length s) 539 && leb (num 1 s 6) 1) (flagsOk 48 s) .0 h .0 in
     eqb-true (length s) 539 (and-eq-true-iff (eqb (length s) 539) (leb (num 1 s 6) 1) .0 front .0)
+
+-- ---- a row at a place
+module _ (s : List ℕ) (i : ℕ) where
+  pub no-place : (length s ≡ 539 → ⊥) → none ≡ placeOf s i
+  unfolding placeOf
+  no-place n = rw (ne-eqb (length s) 539 n)
+
+  pub place-past : 48 ≤ i → none ≡ placeOf s i
+  unfolding placeOf
+  place-past h = rw (le-ltb i 48 h, and-false (eqb (length s) 539))
+
+  pub place-at : length s ≡ 539 → i < 48 → rowAt s i ≡ placeOf s i
+  unfolding placeOf
+  place-at l h = rw (eq-eqb (length s) 539 l, lt-ltb i 48 h)
+
+  pub place-part : length s ≡ 539 → i < 48 → rowFrom (fields rowWidths (take (11 + 11 * i + 11 - (11 + 11 * i)) (drop (11 + 11 * i) s)) 0) ≡ placeOf s i
+  unfolding rowAt
+  place-part l h =
+      let start = 11 + 11 * i in
+      ap rowFrom (fields-part rowWidths s start (start + 11 - start) (omega arith)) ∙ place-at l h
+
+-- the rows of the table that 539 bytes hold
+pub rows-in : (s : List ℕ) → length s ≡ 539 → rowsIn s ≡ rowsOf (tableIn s)
+unfolding tableIn
+rows-in s l = ap inUse (tab-same 48 (placeOf s) (rowAt s) (λ i h. sym (place-at s i l h)))

@@ -4,7 +4,7 @@
 use Prim.Native.Nat.{ℕ, _+_, _*_}
 use mathlib.Core.Bool.{Bool, _&&_, cond}
 use mathlib.Core.List.{List, [], _∷_, _++_}
-use lib.Dec.{eqb, leb}
+use lib.Dec.{eqb, leb, ltb}
 use lib.ListN.{length, getD}
 use Rattle.octets.specs.Layouts.{fields, bytes}
 use Rattle.octets.specs.Lists.{tab, every}
@@ -12,6 +12,7 @@ use Rattle.octets.specs.Numbers.{num}
 use Rattle.routes.specs.declared.row.Row.{Row}
 use Rattle.routes.specs.declared.table.Head.{Head}
 use Rattle.routes.specs.declared.table.Table.{Table}
+use Rattle.routes.specs.Rows.{none, inUse}
 use Rattle.routes.specs.Tables.{headOf, withinRule}
 
 -- a flag is a byte, 0 or 1
@@ -74,6 +75,13 @@ tableBytes t = bytes headWidths (headValues (headOf t)) ++ rowsBytes (t .rows)
 -- a buffer that has as many bytes as a table, with those of one; any other as it was
 unfoldable pub tableOver : List ℕ → Table → List ℕ
 tableOver s t = cond (eqb (length s) 539) (tableBytes t) s
+
+-- ---- the rows that bytes hold, looked at place by place: none in bytes of another number than a table has
+unfoldable pub placeOf : List ℕ → ℕ → Row
+placeOf s i = cond (eqb (length s) 539 && ltb i 48) (rowAt s i) none
+
+abbrev pub rowsIn : List ℕ → List Row
+rowsIn s = inUse (tab 48 (placeOf s))
 
 -- ---- bytes that are a table: 539, and each flag is 0 or 1
 -- the flags of the first n rows

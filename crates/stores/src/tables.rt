@@ -6,14 +6,13 @@ ghost use Prim.Native.Nat.{_≤_};
 ghost use Rattle.octets.specs.Layouts.{fields, bytes};
 ghost use Rattle.routes.specs.Rows.{inUse};
 ghost use Rattle.routes.specs.Tables.{headOf, tableOf};
-ghost use Rattle.stores.specs.TableBytes.{flag, rowWidths, rowValues, rowFrom, headWidths, headValues, rowAt, rowsBytes, tableIn, tableOver};
+ghost use Rattle.stores.specs.TableBytes.{flag, rowWidths, rowValues, rowFrom, headWidths, headValues, placeOf, rowsBytes, tableIn, tableOver};
 use octets::fixed::put8;
 use octets::fixed::put16;
 use octets::fixed::put32;
 use octets::numbers::number8;
 use octets::numbers::number16;
 use octets::numbers::number32;
-use octets::parts::part;
 use octets::zeros::put_zeros;
 use routes::row::Row;
 use routes::table::Head;
@@ -38,15 +37,18 @@ pub fn row_in(s: &[u8]) -> Row
     }
 }
 
-// The row at a place, counted from 0. A part of known length spares a test of the buffer's end before each field.
+// The row at a place, counted from 0. One test of the length spares those of the buffer's end before each field.
 pub fn row_at(s: &[u8], place: u8) -> Row
-    ensures { λ r. ⌜ r ≡ rowAt (now (s .entry)) place ⌝ }
+    ensures { λ r. ⌜ r ≡ placeOf (now (s .entry)) place ⌝ }
 {
+    if s.len() != 539 {
+        return Row::none();
+    }
+    if 48 <= place {
+        return Row::none();
+    }
     let start = 11 + 11 * (place as usize);
     let end = start + 11;
-    if s.len() < end {
-        return row_in(part(s, start, 11));
-    }
     row_in(&s[start..end])
 }
 

@@ -14,7 +14,7 @@ use Rattle.traffic.specs.Traffic.{entryWidths, entryValues}
 use Rattle.routes.specs.declared.row.Row.{Row}
 use Rattle.routes.specs.Rows.{stands, inUse, standing}
 use Rattle.routes.proofs.RowLaws.{in-use-end, in-use-turn}
-use Rattle.stores.specs.TableBytes.{rowAt}
+use Rattle.stores.specs.TableBytes.{placeOf}
 use Rattle.in_place.proofs.FindLaws.{places, at-place, a-place}
 use Rattle.in_place.proofs.JudgedLaws.{tab-past}
 use Rattle.pages.specs.Pages.{entryFor}
@@ -28,9 +28,9 @@ standFrom time place s = standing time (rowsFrom place s)
 -- ---- one place
 module _ (s : List ℕ) (time place : ℕ) where
   pub none-past : 48 ≤ place → standFrom time place s ≡ []
-  none-past h = ap (λ (rs : List Row). standing time (inUse rs)) (tab-past 48 (rowAt s) place h)
+  none-past h = ap (λ (rs : List Row). standing time (inUse rs)) (tab-past 48 (placeOf s) place h)
 
-  module _ (h : place < 48) (r : Row) (here : r ≡ rowAt s place) where
+  module _ (h : place < 48) (r : Row) (here : r ≡ placeOf s place) where
     pub none-left : r .destination ≡ 0 → standFrom time place s ≡ []
     none-left z = ap (standing time) (in-use-end (places s) place (a-place s place h r here) (rw (at-place s place h r here) z))
 
@@ -58,7 +58,7 @@ module _ (s : List ℕ) (count time place left : ℕ) (g : Passed s count time p
   pub pass-none : standFrom time place s ≡ [] → (standFrom time place s ≡ drop count (standFrom time 0 s)) × (place ≤ 48)
   pass-none e = (e ∙ (sym (drop-nil left) ∙ (rw e at (g .rest))), g .within)
 
-  module _ (h : place < 48) (r : Row) (here : r ≡ rowAt s place) (z : r .destination ≡ 0 → ⊥) where
+  module _ (h : place < 48) (r : Row) (here : r ≡ placeOf s place) (z : r .destination ≡ 0 → ⊥) where
     pub pass-gone : stands time r ≡ false → Passed s count time (place + 1) left
     pass-gone q = record { within = omega arith; rest = rw (one-gone s time place h r here z q) at (g .rest) }
 
@@ -84,7 +84,7 @@ module _ (s : List ℕ) (from time place count : ℕ) (g : Counted s from time p
   pub count-none : standFrom time place s ≡ [] → CountIs s from time count
   count-none e = (omega (arith, rw (e, take-nil {A = Row} (24 - count)) at (g .rest)), g .few)
 
-  module _ (h : place < 48) (r : Row) (here : r ≡ rowAt s place) (z : r .destination ≡ 0 → ⊥) where
+  module _ (h : place < 48) (r : Row) (here : r ≡ placeOf s place) (z : r .destination ≡ 0 → ⊥) where
     pub count-gone : stands time r ≡ false → Counted s from time (place + 1) count
     count-gone q = record { few = g .few; rest = rw (one-gone s time place h r here z q) at (g .rest) }
 
@@ -123,7 +123,7 @@ module _ (out₀ s : List ℕ) (from count time : ℕ) (out : List ℕ) (place p
         go (yes h) = absurd (some-left (none-past s time place h))
         go (no h) = omega arith
 
-    module _ (r : Row) (here : r ≡ rowAt s place) where
+    module _ (r : Row) (here : r ≡ placeOf s place) where
       -- .. and this one is in use
       in-use : r .destination ≡ 0 → ⊥
       in-use z = some-left (none-left s time place in-places r here z)

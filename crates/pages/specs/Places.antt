@@ -6,7 +6,7 @@ use lib.ListN.{drop}
 use Rattle.octets.specs.Lists.{tab}
 use Rattle.routes.specs.declared.row.Row.{Row}
 use Rattle.routes.specs.Rows.{inUse}
-use Rattle.stores.specs.TableBytes.{rowAt}
+use Rattle.stores.specs.TableBytes.{placeOf}
 
 abbrev pub rowsFrom : ℕ → List ℕ → List Row
-rowsFrom place s = inUse (drop place (tab 48 (rowAt s)))
+rowsFrom place s = inUse (drop place (tab 48 (placeOf s)))

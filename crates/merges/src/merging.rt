@@ -9,7 +9,6 @@ ghost use Rattle.merges.specs.Learning.{learned, learnAll};
 ghost use Rattle.merges.specs.Merges.{unmergedReasons, mergeOf};
 ghost use Rattle.merges.specs.Offering.{walked, fair};
 use crate::candidate::Candidate;
-use crate::moving::moved_in;
 use crate::steps::goes_on;
 use crate::steps::made;
 use crate::steps::skips;
@@ -38,8 +37,9 @@ pub(crate) struct Rows {
 }
 
 // Every candidate of an update in turn: one loop on one array. A turn takes the search for the candidate's row one place on, or, where that stops,
-// does with the candidate and takes the next. The entries of a page ascend, so that all their searches together pass each row about once. Only a new
-// row is moved in by a call that copies the array.
+// does with the candidate and takes the next. The entries of a page ascend, so that all their searches together pass each row about once. A row that is
+// stored takes the place of the row that is there for its destination, or is moved in: each row from there on moves up by one, as far as the first place
+// that is not in use. A function that did this would copy the array.
 pub(crate) fn learn_all(
     rows: [Row; 48],
     part: &[u8],
@@ -66,23 +66,21 @@ pub(crate) fn learn_all(
         let last = out[47];
         let there = row.destination == candidate.destination;
         let full = 0 < last.destination;
-        let stored = stores(origin, time, candidate, row, there, full);
-        let new = made(origin, time, candidate, row);
-        let place = at;
-        let sought = candidate.destination;
+        let mut moves = stores(origin, time, candidate, row, there, full);
         skipped += skips(candidate, there, full) as u8;
+        let mut hand = made(origin, time, candidate, row);
+        let mut i = at;
+        while moves {
+            let next = out[i];
+            out[i] = hand;
+            moves = !there & (0 < next.destination) & (i < 47);
+            hand = next;
+            i += 1;
+        }
+        let sought = candidate.destination;
         candidate = Candidate::at(part, done, own, origin, quality);
         done += 1;
-        at = starts(place, sought, candidate.destination);
-        if !stored {
-            continue;
-        }
-        if there {
-            out[place] = new;
-            continue;
-        }
-        let next = moved_in(out, place, new);
-        out = next;
+        at = starts(at, sought, candidate.destination);
     }
     Rows { rows: out, skipped }
 }

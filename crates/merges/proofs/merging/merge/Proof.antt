@@ -1,6 +1,7 @@
 -- `merge`: the table as it was, or every candidate learned over the rows that stand.
 -- Assumes nothing.
 use mathlib.Core.Path.{_≡_, refl, sym, ap, _∙_}
+use native.Mathlib.Omega.{arith}
 use denote.Ref.{now}
 use Rattle.octets.specs.Parts.{Lent}
 use Rattle.routes.specs.Rows.{pad, standing}
@@ -22,13 +23,17 @@ number d =
 returns : tie.Need-returns
 returns c =
     let a = c .before .before .before .before .before .args in
-    unmerged (a .table) (a .frame .now) (a .quality) (a .time) (c .before .refuse-if .result) (number (c .before)) (c .if1 .taken)
+    unmerged (a .table) (a .frame .now) (a .quality) (a .time) (c .before .refuse-if .result) (number (c .before)) (omega (arith, c .if1 .taken))
+
+-- none of the reasons holds behind the test
+accepted : (d : tie.Else1) → d .before .refuse-if .result ≡ 0
+accepted d = omega (arith, d .if1 .left)
 
 -- what is known once the entries are at hand
 able : (d : tie.After-entries) → Mergeable (d .before .before .before .before .before .before .before .before .before .args .table) (now (d .before .before .before .before .before .before .before .before .before .args .frame)) (d .before .before .before .before .before .before .before .before .before .args .quality) (d .before .before .before .before .before .before .before .before .before .args .time)
 able d =
     let test = d .before .before .before .before in
-    mergeable _ _ _ _ (sym (number (test .before)) ∙ test .if1 .left)
+    mergeable _ _ _ _ (sym (number (test .before)) ∙ accepted test)
 
 header : (d : tie.After-entries) → d .before .before .before .of .result ≡ updateIn (now (d .before .before .before .before .before .before .before .before .before .args .frame))
 header d = header-in (d .before .before .before .of .result) _ (d .before .before .before .of .ensures)
@@ -45,7 +50,7 @@ returns-2 c =
     let d = learn .before in
     let test = d .before .before .before .before in
     let whole = merged-by _ _ _ _ (able d) _ (stand d) _ (d .before .before .before .of .result) _ refl (header d) (ap (λ (l : Lent). l .bytes) (d .entries .ensures)) in
-    merges _ _ _ _ _ _ _ (sym (number (test .before)) ∙ test .if1 .left) whole (learn .learn-all .ensures)
+    merges _ _ _ _ _ _ _ (sym (number (test .before)) ∙ accepted test) whole (learn .learn-all .ensures)
 
 pub merge-spec : {M : Type 1} → statement M
 merge-spec =

@@ -1,6 +1,7 @@
 -- `merge_in`: the bytes as they were, or every candidate learned over the rows that stand, and all of the table stored.
 -- Assumes nothing.
 use mathlib.Core.Path.{_≡_, ap}
+use native.Mathlib.Omega.{arith}
 use denote.Ref.{now}
 use Rattle.octets.specs.Parts.{Lent}
 use Rattle.routes.specs.declared.table.Head.{Head}
@@ -13,13 +14,17 @@ use Rattle.merges.proofs.stored.merge_in.Statement.{statement}
 use Rattle.merges.proofs.stored.merge_in.Tie as tie
 
 returns : tie.Need-returns
-returns c = bytes-stay _ _ _ _ _ (c .before .why-unmerged-in .ensures) (c .if1 .taken)
+returns c = bytes-stay _ _ _ _ (c .before .why-unmerged-in .result) (c .before .why-unmerged-in .ensures) (omega (arith, c .if1 .taken))
+
+-- none of the reasons holds behind the test
+accepted : (d : tie.Else1) → d .before .why-unmerged-in .result ≡ 0
+accepted d = omega (arith, d .if1 .left)
 
 -- what is known once the entries are at hand
 able : (d : tie.After-entries) → Mergeable (tableIn (now (d .before .before .before .before .before .before .before .before .before .before .before .args .table))) (now (d .before .before .before .before .before .before .before .before .before .before .before .args .frame)) (d .before .before .before .before .before .before .before .before .before .before .before .args .quality) (d .before .before .before .before .before .before .before .before .before .before .before .args .time)
 able d =
     let test = d .before .before .before .before .before .before in
-    stored-able _ _ _ _ _ (test .before .why-unmerged-in .ensures) (test .if1 .left)
+    stored-able _ _ _ _ _ (test .before .why-unmerged-in .ensures) (accepted test)
 
 header : (d : tie.After-entries) → d .before .before .before .of .result ≡ updateIn (now (d .before .before .before .before .before .before .before .before .before .before .before .args .frame))
 header d = header-in (d .before .before .before .of .result) _ (d .before .before .before .of .ensures)
@@ -39,7 +44,7 @@ returns-2 c =
     let head = d .before .before .before .before in
     let test = head .before .before in
     let whole = merged-by _ _ _ _ (able d) _ (d .before .standing-rows .ensures) _ (d .before .before .before .of .result) _ (own d) (header d) (ap (λ (l : Lent). l .bytes) (d .entries .ensures)) in
-    bytes-written _ _ _ _ _ (test .before .why-unmerged-in .ensures) (test .if1 .left) (head .head-of .result) (head .head-of .ensures) _ _ _ whole (learn .learn-all .ensures) _ (put .put-table .ensures)
+    bytes-written _ _ _ _ _ (test .before .why-unmerged-in .ensures) (accepted test) (head .head-of .result) (head .head-of .ensures) _ _ _ whole (learn .learn-all .ensures) _ (put .put-table .ensures)
 
 pub merge-in-spec : {M : Type 1} → statement M
 merge-in-spec =

@@ -1,6 +1,6 @@
 -- Merging an update into a stored table, from what its parts say.
 -- Assumes nothing.
-use mathlib.Core.Path.{_≡_, refl, sym, _∙_}
+use mathlib.Core.Path.{_≡_, refl, sym, ap, _∙_}
 use mathlib.Core.Bool.{Bool, true, false, cond}
 use mathlib.Core.List.{List}
 use Prim.Native.Nat.{ℕ}
@@ -10,12 +10,12 @@ use Rattle.octets.specs.Answers.{first}
 use Rattle.octets.proofs.CallLaws.{stored-none}
 use Rattle.routes.specs.declared.row.Row.{Row}
 use Rattle.routes.specs.declared.table.Head.{Head}
-use Rattle.routes.specs.Rows.{inUse, pad}
-use Rattle.routes.specs.Tables.{headOf, tableOf, withinRule, withRows}
+use Rattle.routes.specs.Rows.{inUse, pad, standing}
+use Rattle.routes.specs.Tables.{rowsOf, headOf, tableOf, withinRule, withRows}
 use Rattle.routes.proofs.RuleLaws.{rows-of-pad}
 use Rattle.stores.specs.StoredTables.{storedTable}
-use Rattle.stores.specs.TableBytes.{tableIn, tableBytes, tableOver, isTable, holdsTable}
-use Rattle.stores.proofs.TableByteLaws.{table-length}
+use Rattle.stores.specs.TableBytes.{rowsIn, tableIn, tableBytes, tableOver, isTable, holdsTable}
+use Rattle.stores.proofs.TableByteLaws.{table-length, rows-in}
 use Rattle.in_place.proofs.JudgedLaws.{judged-table, judged-rule}
 use Rattle.merges.specs.Learning.{Learned}
 use Rattle.merges.specs.Merges.{unmergedReasons, mergeRefusal, mergedRows, mergeOf}
@@ -57,6 +57,10 @@ module _ (s frame : List ℕ) (quality time : ℕ) where
 
       pub stored-able : Mergeable (tableIn s) frame quality time
       stored-able = mergeable (tableIn s) frame quality time (accepted .1)
+
+      -- the rows that were read are those of the table that stand
+      pub stored-standing : (places : List Row) → places ≡ pad (standing time (rowsIn s)) → places ≡ pad (standing time (rowsOf (tableIn s)))
+      stored-standing places q = q ∙ ap (λ (rs : List Row). pad (standing time rs)) (rows-in s (table-length s (accepted .0)))
 
       -- the rows that are stored are those that were learned
       learned-rows : inUse (pad (mergedRows (tableIn s) frame quality time .rows)) ≡ mergedRows (tableIn s) frame quality time .rows

@@ -14,7 +14,8 @@ use Rattle.routes.specs.declared.row.Row.{Row}
 use Rattle.routes.specs.Rows.{standing}
 use Rattle.routes.specs.Tables.{rowsOf}
 use Rattle.stores.specs.TableBytes.{tableIn, isTable, holdsTable}
-use Rattle.in_place.proofs.JudgedLaws.{judged-table}
+use Rattle.stores.proofs.TableByteLaws.{rows-in}
+use Rattle.in_place.proofs.JudgedLaws.{judged-table, judged-length}
 use Rattle.pages.specs.Pages.{onPage, pageOf, pageIn}
 use Rattle.pages.proofs.PageLaws.{page-none}
 use Rattle.pages.proofs.WalkLaws.{standFrom}
@@ -34,13 +35,12 @@ module _ (s : List ℕ) (p time : ℕ) (out : List ℕ) where
   in-held e = rw (judged-table s e)
 
 -- ---- the rows of a page
-module _ (s : List ℕ) (p time place count : ℕ) (behind : standFrom time place s ≡ drop (24 * p) (standFrom time 0 s)) (counted : count ≡ length (take 24 (standFrom time place s))) where
+module _ (s : List ℕ) (e : holdsTable s ≡ true) (p time place count : ℕ) (behind : standFrom time place s ≡ drop (24 * p) (standFrom time 0 s)) (counted : count ≡ length (take 24 (standFrom time place s))) where
   abbrev rs : List Row
   rs = onPage (standing time (rowsOf (tableIn s))) p
 
   same : take 24 (standFrom time place s) ≡ rs
-  unfolding tableIn
-  same = ap (take 24) behind
+  same = ap (take 24) behind ∙ ap (λ (l : List Row). onPage (standing time l) p) (rows-in s (judged-length s e))
 
   pub from-count : count ≡ length rs
   from-count = counted ∙ ap length same

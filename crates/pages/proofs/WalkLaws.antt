@@ -32,11 +32,11 @@ module _ (s : List ℕ) (time place : ℕ) where
 
   module _ (h : place < 48) (r : Row) (here : r ≡ placeOf s place) where
     pub none-left : r .destination ≡ 0 → standFrom time place s ≡ []
-    none-left z = ap (standing time) (in-use-end (places s) place (a-place s place h r here) (rw (at-place s place h r here) z))
+    none-left z = ap (standing time) (in-use-end (places s) place (a-place (placeOf s) place h) (rw (at-place (placeOf s) place h r here) z))
 
     module _ (z : r .destination ≡ 0 → ⊥) where
       turn : rowsFrom place s ≡ r ∷ rowsFrom (place + 1) s
-      turn = rw (at-place s place h r here) at (in-use-turn (places s) place (a-place s place h r here) (rw (at-place s place h r here) z))
+      turn = rw (at-place (placeOf s) place h r here) at (in-use-turn (places s) place (a-place (placeOf s) place h) (rw (at-place (placeOf s) place h r here) z))
 
       pub one-gone : stands time r ≡ false → standFrom time place s ≡ standFrom time (place + 1) s
       one-gone q = rw (turn, q)

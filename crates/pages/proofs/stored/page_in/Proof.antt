@@ -36,7 +36,7 @@ here d =
     let a = start d .args in
     record {
       right = judged-rule _ (holds d);
-      counted = from-count (a .table .now) (a .number) (a .time) (place .place-behind .result) (count .standing-from .result) (place .place-behind .ensures .0) (count .standing-from .ensures .0);
+      counted = from-count (a .table .now) (holds d) (a .number) (a .time) (place .place-behind .result) (count .standing-from .result) (place .place-behind .ensures .0) (count .standing-from .ensures .0);
       last = place .before .head-of .result .time;
       accepted = ap (λ (h : Head). h .time) (place .before .head-of .ensures);
       why = d .refusal .ensures;
@@ -57,7 +57,7 @@ put-standing-requires c κs =
     let place = count .before in
     let a = start d .args in (
       omega (arith, page-room (here d) (test .if2 .left), header .put-header .kept .0),
-      from-enough (a .table .now) (a .number) (a .time) (place .place-behind .result) (count .standing-from .result) (place .place-behind .ensures .0) (count .standing-from .ensures .0),
+      from-enough (a .table .now) (holds d) (a .number) (a .time) (place .place-behind .result) (count .standing-from .result) (place .place-behind .ensures .0) (count .standing-from .ensures .0),
     )
 
 seal-requires : tie.Need-seal-requires
@@ -77,7 +77,7 @@ returns-3 c =
     let count = d .before in
     let place = count .before in
     let a = start d .args in
-    let rows = from-rows (a .table .now) (a .number) (a .time) (place .place-behind .result) (count .standing-from .result) (place .place-behind .ensures .0) (count .standing-from .ensures .0) in
+    let rows = from-rows (a .table .now) (holds d) (a .number) (a .time) (place .place-behind .result) (count .standing-from .result) (place .place-behind .ensures .0) (count .standing-from .ensures .0) in
     page-written (here d) (test .if2 .left) _ (ap (λ (h : Head). h .own) (place .before .head-of .ensures)) _ rows _ _ _ (header .put-header .ensures) (entries .put-standing .ensures) (sum .seal .ensures)
     ∙ in-held (a .table .now) (a .number) (a .time) (a .out .now) (holds d)
 

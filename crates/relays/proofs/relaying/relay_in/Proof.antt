@@ -3,7 +3,8 @@
 use mathlib.Core.Path.{sym, _∙_}
 use borrow.Author.Tests.{not-true, not-false}
 use Rattle.stores.specs.TableBytes.{tableIn}
-use Rattle.in_place.proofs.JudgedLaws.{judged-rule}
+use Rattle.stores.proofs.TableByteLaws.{rows-in}
+use Rattle.in_place.proofs.JudgedLaws.{judged-rule, judged-length}
 use Rattle.relays.proofs.RelayLaws.{header-in, relayed-by, stored-relayed, stored-none}
 use borrow.Author.Needs.{needs}
 use Rattle.relays.proofs.relaying.relay_in.Statement.{statement}
@@ -27,7 +28,7 @@ returns-2 c =
     let a = judged .before .before .before .before .args in
     let holds = sym (judged .holds-table .ensures) ∙ not-false _ (test .if1 .left) in
     call .relay-by .ensures ∙
-    rw (found .found-by .ensures, row .row-for .ensures, header-in (header .of .result) (a .frame .now) (header .of .ensures), head .head-of .ensures)
+    rw (found .found-by .ensures, row .row-for .ensures, rows-in (a .table .now) (judged-length (a .table .now) holds), header-in (header .of .result) (a .frame .now) (header .of .ensures), head .head-of .ensures)
     (relayed-by (tableIn (a .table .now)) (a .frame .now) (a .time) (a .out .now) (judged-rule (a .table .now) holds) ∙ stored-relayed (a .table .now) (a .frame .now) (a .time) (a .out .now) holds)
 
 pub relay-in-spec : {M : Type 1} → statement M

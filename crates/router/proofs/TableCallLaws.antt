@@ -74,13 +74,12 @@ module _ (s : List ℕ) (own time : ℕ) (fresh : Changed) (e : fresh ≡ freshO
   unfolding freshCall
   fresh-refused z = rw (← status, ne-eqb n 0 z)
 
-  -- its rows are zeros, as those behind the rows in use of any table
-  fresh-over : length s ≡ 539 → freshOf own time .refused ≡ 0
-      → tableOver s (tableOf (headOf (freshOf own time .table)) (inUse (freshOf own time .table .rows))) ≡ tableBytes (freshOf own time .table)
+  -- it has no rows
+  fresh-over : length s ≡ 539 → freshOf own time .refused ≡ 0 → tableOver s (tableOf (headOf (freshOf own time .table)) []) ≡ tableBytes (freshOf own time .table)
   unfolding tableOver freshOf pad
   fresh-over long none = rw (eq-eqb (length s) 539 long, none)
 
-  pub fresh-written : n ≡ 0 → (h : Head) → h ≡ headOf (fresh .table) → (last : List ℕ) → last ≡ tableOver s (tableOf h (inUse (fresh .table .rows))) → tableLeft 0 last ≡ freshCall s own time
+  pub fresh-written : n ≡ 0 → (h : Head) → h ≡ headOf (fresh .table) → (last : List ℕ) → last ≡ tableOver s (tableOf h []) → tableLeft 0 last ≡ freshCall s own time
   unfolding freshCall
   fresh-written z h q last l =
       let (long, none) = stored-none (eqb (length s) 539) (freshOf own time .refused) (sym status ∙ z) in

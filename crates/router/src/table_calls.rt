@@ -7,7 +7,7 @@ use in_place::finding::lookup;
 use octets::answers::refuse_if;
 use routes::table::Found;
 use routes::table::Table;
-use stores::tables::put_table;
+use stores::tables::put_empty;
 
 // Makes the empty table of a unit, with this time as last accepted.
 #[no_mangle]
@@ -20,8 +20,7 @@ pub extern "C" fn braidlark_table_fresh(table: &mut [u8], own: u16, time: u32) -
         return refused;
     }
     let next = fresh.table;
-    let rows = next.rows;
-    put_table(table, next.head(), rows);
+    put_empty(table, next.head());
     0
 }
 

@@ -76,6 +76,10 @@ whole-stored l h rows n k one two a b c d last e =
     let whole = all-stored l h (inUse rows) k (pad-length (inUse rows) (omega (arith, c, d))) in
     e ∙ (rw (b, zeros-behind one (inUse rows) n c d, a) whole)
 
+pub empty-stored : (l : List ℕ) (h : Head) → length l ≡ 539 → (one : List ℕ) → one ≡ sets l 0 (bytes headWidths (headValues h))
+    → (last : List ℕ) → last ≡ sets one 11 (replicate 528 0) → last ≡ tableOver l (tableOf h [])
+empty-stored l h k one a last e = e ∙ (zeros-behind one [] 0 refl (omega arith) ∙ rw a (all-stored l h [] k (pad-length [] (omega arith))))
+
 pub other-length : (l : List ℕ) (t : Table) → (length l ≡ 539 → ⊥) → l ≡ tableOver l t
 unfolding tableOver
 other-length l t n = rw (ne-eqb (length l) 539 n)

@@ -1,5 +1,6 @@
 // A table as 539 bytes, the lowest byte of a number first: a head of 11, then 48 rows of 11.
 ghost use mathlib.Core.Path.{_≡_};
+ghost use mathlib.Core.List.{[]};
 ghost use lib.ListN.{length};
 ghost use lib.Seq.{sets};
 ghost use Prim.Native.Nat.{_≤_};
@@ -117,4 +118,15 @@ pub fn put_table(out: &mut [u8], head: Head, rows: [Row; 48])
     put_head(out, head);
     let used = put_rows(out, rows) as usize;
     put_zeros(out, 11 + 11 * used, 528 - 11 * used);
+}
+
+// The table with this head and no rows.
+pub fn put_empty(out: &mut [u8], head: Head)
+    ensures { λ _. ⌜ now (out .exit) ≡ tableOver (now (out .entry)) (tableOf head []) ⌝ }
+{
+    if out.len() != 539 {
+        return;
+    }
+    put_head(out, head);
+    put_zeros(out, 11, 528);
 }

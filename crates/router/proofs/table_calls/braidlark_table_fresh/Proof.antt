@@ -16,11 +16,11 @@ returns-2 : tie.Need-returns-2
 returns-2 c =
     let put = c .before .before in
     let head = put .before in
-    let test = head .before .before .before .before in
+    let test = head .before .before .before in
     let refused = test .before in
     let fresh = refused .before in
     let a = fresh .before .before .args in
-    fresh-written (a .table .now) (a .own) (a .time) (fresh .fresh .result) (fresh .fresh .ensures) (refused .refuse-if .result) (refused .refuse-if .ensures) (test .if1 .left) (head .head .result) (head .head .ensures) _ (put .put-table .ensures)
+    fresh-written (a .table .now) (a .own) (a .time) (fresh .fresh .result) (fresh .fresh .ensures) (refused .refuse-if .result) (refused .refuse-if .ensures) (test .if1 .left) (head .head .result) (head .head .ensures) _ (put .put-empty .ensures)
 
 pub braidlark-table-fresh-spec : {M : Type 1} → statement M
 braidlark-table-fresh-spec =

@@ -5,7 +5,8 @@
 //! the same in both, and the difference is that of the calls alone.
 
 use crate::bench_calls::Buffers;
-use crate::bench_cases::{Case, CASES};
+use crate::bench_cases::{Case, ACCEPTED, CASES};
+use crate::refusal::Refusal;
 use std::time::Instant;
 
 /// How often both take their turn at a case.
@@ -93,9 +94,10 @@ fn repeat(case: &Case, who: Who, times: u64, buffers: &mut Buffers) {
         if let Some(before) = &buffers.before {
             buffers.kept.copy_from_slice(before);
         }
-        match who {
-            Who::Library => assert_eq!((case.library)(buffers), 0, "{}", case.name),
-            Who::Independent => assert_eq!((case.independent)(buffers), Ok(()), "{}", case.name),
-        }
+        let answer = match who {
+            Who::Library => (case.call.library)(buffers),
+            Who::Independent => (case.call.independent)(buffers).map_or_else(Refusal::number, |()| ACCEPTED),
+        };
+        assert_eq!(answer, case.answer, "{}", case.name);
     }
 }

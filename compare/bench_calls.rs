@@ -5,8 +5,14 @@ use crate::refusal::Refusal;
 
 /// When every call comes.
 pub const NOW: u32 = 100_000;
+/// The network of every site and beacon.
+pub const NETWORK: u16 = 0x0102;
 /// How well an update was heard.
 const QUALITY: u8 = 200;
+/// The page of an update that is asked for.
+const PAGE: u32 = 0;
+/// How much later than it was heard a beacon goes on, in ms.
+const DELAY: u32 = 5;
 /// The hop of a unit that asks for its schedule.
 const HOP: u32 = 1;
 
@@ -19,7 +25,7 @@ pub struct Buffers {
     pub before: Option<Vec<u8>>,
     /// The bytes of a frame or of an image.
     pub input: Vec<u8>,
-    /// Whom a lookup or a schedule is for.
+    /// Whom a lookup or a schedule is for, or who is forgotten.
     pub unit: u16,
     pub out: Vec<u8>,
     pub next_hop: u16,
@@ -34,6 +40,11 @@ impl Buffers {
         let (out, next_hop, hops, skipped, place, length) = (vec![0; 255], 0, 0, 0, 0, 0);
         Buffers { kept, before: None, input, unit, out, next_hop, hops, skipped, place, length }
     }
+
+    /// These buffers, of which `kept` is to be as it is now before each call.
+    pub fn reset_each_time(self) -> Buffers {
+        Buffers { before: Some(self.kept.clone()), ..self }
+    }
 }
 
 /// Each answers its status. In every call each address is that of a live buffer of the length given with it.
@@ -42,7 +53,9 @@ pub mod library {
     use super::*;
     use crate::book_calls::{braidlark_join, braidlark_schedule};
     use crate::image_calls::{braidlark_image, braidlark_restore};
-    use crate::routes_calls::{braidlark_lookup, braidlark_merge, braidlark_relay};
+    use crate::routes_calls::{
+        braidlark_forget, braidlark_forward, braidlark_lookup, braidlark_merge, braidlark_page, braidlark_relay,
+    };
 
     pub fn relay(buffers: &mut Buffers) -> u8 {
         let Buffers { kept, input, out, next_hop, place, length, .. } = buffers;
@@ -63,6 +76,27 @@ pub mod library {
         let Buffers { kept, input, skipped, .. } = buffers;
         // SAFETY: as above.
         unsafe { braidlark_merge(kept.as_mut_ptr(), kept.len(), input.as_ptr(), input.len(), QUALITY, NOW, skipped) }
+    }
+
+    pub fn page(buffers: &mut Buffers) -> u8 {
+        let Buffers { kept, out, length, .. } = buffers;
+        // SAFETY: as above.
+        unsafe { braidlark_page(kept.as_ptr(), kept.len(), PAGE, NOW, out.as_mut_ptr(), out.len(), length) }
+    }
+
+    pub fn forget(buffers: &mut Buffers) -> u8 {
+        let Buffers { kept, unit, .. } = buffers;
+        // SAFETY: as above.
+        unsafe { braidlark_forget(kept.as_mut_ptr(), kept.len(), *unit, NOW) }
+    }
+
+    pub fn forward(buffers: &mut Buffers) -> u8 {
+        let Buffers { kept, input, out, length, .. } = buffers;
+        // SAFETY: as above.
+        unsafe {
+            braidlark_forward(kept.as_mut_ptr(), kept.len(), NETWORK, input.as_ptr(), input.len(), DELAY, NOW,
+                              out.as_mut_ptr(), out.len(), length)
+        }
     }
 
     pub fn join(buffers: &mut Buffers) -> u8 {
@@ -121,6 +155,26 @@ pub mod independent {
     pub fn merge(buffers: &mut Buffers) -> Result<(), Refusal> {
         let mut table = Table::from_bytes(&buffers.kept)?;
         buffers.skipped = table.merge(&buffers.input, QUALITY, NOW)?;
+        table.to_bytes(&mut buffers.kept);
+        Ok(())
+    }
+
+    pub fn page(buffers: &mut Buffers) -> Result<(), Refusal> {
+        let table = Table::from_bytes(&buffers.kept)?;
+        buffers.length = table.page(PAGE, NOW, &mut buffers.out)? as u32;
+        Ok(())
+    }
+
+    pub fn forget(buffers: &mut Buffers) -> Result<(), Refusal> {
+        let mut table = Table::from_bytes(&buffers.kept)?;
+        table.forget(buffers.unit, NOW)?;
+        table.to_bytes(&mut buffers.kept);
+        Ok(())
+    }
+
+    pub fn forward(buffers: &mut Buffers) -> Result<(), Refusal> {
+        let mut table = Table::from_bytes(&buffers.kept)?;
+        buffers.length = table.forward(NETWORK, &buffers.input, DELAY, NOW, &mut buffers.out)? as u32;
         table.to_bytes(&mut buffers.kept);
         Ok(())
     }

@@ -1,12 +1,12 @@
 //! Cases of plans, books and schedules by name: what the paper says in examples and warnings, and each refusal of each
 //! call. The independent book is held to the paper's words here, and the library to the independent book.
 
+use crate::bodies::seal;
 use crate::book::*;
 use crate::book_calls::{Ask, BookAnswer};
 use crate::book_check::{Agreement, Check};
 use crate::book_drafts::{join_request, plan_bytes, slot_request};
 use crate::frames::{self, ACCEPTED, JOIN_RESPONSE};
-use crate::relays::seal;
 use crate::report::Difference;
 use crate::site::{self, *};
 

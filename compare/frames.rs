@@ -190,7 +190,7 @@ pub fn read(frame: &[u8], room: usize) -> Result<Reading, Refusal> {
 }
 
 /// Reads a frame of the one kind that a call wants: any other type is refused before its length is looked at.
-pub fn read_wanted(frame: &[u8], code: u8) -> Result<Reading, Refusal> {
+fn read_wanted(frame: &[u8], code: u8) -> Result<Reading, Refusal> {
     match frame.first() {
         Some(&first) if first != code && frame.len() <= LONGEST_FRAME => Err(Refusal::Type),
         _ => read(frame, usize::MAX),

@@ -3,9 +3,11 @@
 
 #![deny(warnings)]
 
+mod beacons;
 mod bench;
 mod bench_calls;
 mod bench_cases;
+mod bodies;
 mod book;
 mod book_calls;
 mod book_cases;
@@ -27,6 +29,7 @@ mod image_drafts;
 mod image_files;
 mod life;
 mod life_check;
+mod pages;
 mod random;
 mod refusal;
 mod relays;

@@ -1,7 +1,8 @@
 //! The independent table of routes, from the paper's section on routes alone: its rows and their ages, looking up,
 //! forgetting and merging. It works in place, and is also what the library's merge is measured against.
 
-use crate::frames::{checksum, ENTRY_LENGTH, LONGEST_FRAME, ROUTING_UPDATE};
+use crate::bodies::body_of;
+use crate::frames::{ENTRY_LENGTH, ROUTING_UPDATE};
 use crate::refusal::Refusal;
 
 pub const MOST_ROWS: usize = 48;
@@ -14,6 +15,8 @@ pub const USABLE_AGE: u32 = 300_000;
 pub const STANDING_AGE: u32 = 360_000;
 pub const WITHDRAWN_AGE: u32 = 60_000;
 
+/// Where an update says how many entries it has.
+const UPDATE_COUNT: usize = 3;
 /// What stands before the entries of an update: type, origin, count and time.
 pub const UPDATE_HEAD: usize = 8;
 /// An update with no entries: the head and the checksum.
@@ -266,19 +269,8 @@ struct Update<'a> {
 
 impl<'a> Update<'a> {
     fn read(frame: &'a [u8]) -> Result<Update<'a>, Refusal> {
-        if frame.is_empty() || frame.len() > LONGEST_FRAME {
-            return Err(Refusal::Length);
-        }
-        if frame[0] != ROUTING_UPDATE {
-            return Err(Refusal::Type);
-        }
-        if frame.len() < SHORTEST_UPDATE || frame.len() != SHORTEST_UPDATE + ENTRY_LENGTH * usize::from(frame[3]) {
-            return Err(Refusal::Length);
-        }
-        let (body, sum) = frame.split_at(frame.len() - 1);
-        if checksum(body) != sum[0] {
-            return Err(Refusal::Checksum);
-        }
+        let entries_length = |frame: &[u8]| ENTRY_LENGTH * usize::from(frame[UPDATE_COUNT]);
+        let body = body_of(frame, ROUTING_UPDATE, SHORTEST_UPDATE, entries_length)?;
         let update = Update { origin: word(body, 1), entries: &body[UPDATE_HEAD..] };
         let mut entries = update.entries.chunks_exact(ENTRY_LENGTH);
         match is_unit(update.origin) && entries.all(|bytes| Entry::read(bytes).is_in_rule()) {

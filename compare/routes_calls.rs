@@ -22,7 +22,7 @@ extern "C" {
         hops: *mut u8,
     ) -> u8;
 
-    fn braidlark_forget(table: *mut u8, table_length: usize, unit: u16, time: u32) -> u8;
+    pub fn braidlark_forget(table: *mut u8, table_length: usize, unit: u16, time: u32) -> u8;
 
     pub fn braidlark_merge(
         table: *mut u8,
@@ -34,7 +34,7 @@ extern "C" {
         skipped: *mut u8,
     ) -> u8;
 
-    fn braidlark_page(
+    pub fn braidlark_page(
         table: *const u8,
         table_length: usize,
         page: u32,
@@ -57,7 +57,7 @@ extern "C" {
         length: *mut u32,
     ) -> u8;
 
-    fn braidlark_forward(
+    pub fn braidlark_forward(
         table: *mut u8,
         table_length: usize,
         network: u16,

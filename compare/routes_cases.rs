@@ -1,7 +1,7 @@
 //! Cases of tables of routes by name: what the paper says in examples and warnings, and each refusal of each call.
 //! The independent table is held to the paper's words here, and the library to the independent table.
 
-use crate::relays::seal;
+use crate::bodies::seal;
 use crate::report::Difference;
 use crate::routes::*;
 use crate::routes_calls::{Ask, TableAnswer};

@@ -6,7 +6,7 @@ use Prim.Native.Nat.{ℕ}
 use lib.ListN.{length}
 use Rattle.octets.proofs.CallLaws.{stored-whole, stored-other, after-refused}
 use Rattle.life.specs.declared.state.Lived.{Lived}
-use Rattle.stores.specs.StateBytes.{stateSize, stateOver}
+use Rattle.life.specs.StateBytes.{stateSize, stateOver}
 use Rattle.braidlark.specs.StateCalls.{stateLeft, leaves}
 
 module _ (held : List ℕ) (lived : Lived) where

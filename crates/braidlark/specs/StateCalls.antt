@@ -5,7 +5,7 @@ use mathlib.Core.List.{List}
 use Rattle.octets.specs.Calls.{after, stored}
 use Rattle.life.specs.declared.state.Lived.{Lived}
 use Rattle.life.specs.Calls.{freshState, onEvent, onTick}
-use Rattle.stores.specs.StateBytes.{stateSize, stateIn, stateOver}
+use Rattle.life.specs.StateBytes.{stateSize, stateIn, stateOver}
 
 -- the status, and the buffer that holds the state
 pub record StateLeft : Type 0 where

@@ -3,8 +3,8 @@ ghost use mathlib.Core.Path.{_≡_};
 ghost use Rattle.braidlark.specs.StateCalls.{stateLeft, leaves, freshCall, eventCall, tickCall};
 use life::state::Lived;
 use life::state::State;
-use stores::states::put_state;
-use stores::states::state_of;
+use life::state_bytes::put_state;
+use life::state_bytes::state_of;
 
 const STATE_SIZE: usize = 13;
 

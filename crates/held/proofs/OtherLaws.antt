@@ -11,8 +11,8 @@ use Rattle.stores.specs.TableBytes.{tableIn, tableBytes, isTable}
 use Rattle.stores.proofs.SizeLaws.{sized-read}
 use Rattle.stores.proofs.TableTripLaws.{reads-back}
 use Rattle.history.specs.TableCalls.{merge}
-use Rattle.router.specs.TableCalls.{storedTable}
-use Rattle.router.specs.UpdateCalls.{mergeCall}
+use Rattle.stores.specs.StoredTables.{storedTable}
+use Rattle.merges.specs.StoredMerges.{mergeCall}
 use Rattle.held.specs.TableLaws.{OthersUnchangedInC}
 use Rattle.held.proofs.KeptLaws.{sized-next}
 

@@ -16,9 +16,9 @@ use Rattle.life.specs.Calls.{freshState, onEvent, onTick}
 use Rattle.life.specs.Histories.{Call, event, tick, answer, run, allAt, early, quiet}
 use Rattle.life.proofs.HistoryLaws.{stays-within-rule, only-for-superframes, run-stopped, no-other-trap, notices-silence, event-leads}
 use Rattle.life.proofs.LifeLaws.{starts-anew}
-use Rattle.stores.specs.StateBytes.{stateSize, stateIn, stateBytes}
-use Rattle.stores.specs.StateTrips.{StateSized}
-use Rattle.stores.proofs.StateTripLaws.{state-reads-back, state-sized, state-writes-back}
+use Rattle.life.specs.StateBytes.{stateSize, stateIn, stateBytes}
+use Rattle.life.specs.StateTrips.{StateSized}
+use Rattle.life.proofs.StateTripLaws.{state-reads-back, state-sized, state-writes-back}
 use Rattle.braidlark.specs.StateCalls.{eventCall, tickCall}
 use Rattle.held.specs.HeldStates.{bufferAfter, AllMachine, quietInC}
 use Rattle.held.specs.StateLaws.{OnlyForSuperframesInC, StaysStoppedInC, NoOtherTrapInC, NoticesSilenceInC, StartsAnewInC}

@@ -5,7 +5,7 @@ use Rattle.octets.specs.Numbers.{num, digits}
 use Rattle.moments.specs.Moments.{ageAt, inOrder}
 use Rattle.life.specs.States.{leadsTo, tickTo}
 use Rattle.life.specs.Calls.{gone, onEvent, onTick}
-use Rattle.stores.specs.StateBytes.{stateIn, stateOver}
+use Rattle.life.specs.StateBytes.{stateIn, stateOver}
 use Rattle.braidlark.specs.StateCalls.{freshCall, eventCall, tickCall}
 use Rattle.held.specs.StateWitness.{FindsSilence}
 

@@ -6,7 +6,7 @@ use Prim.Native.Nat.{ℕ}
 use lib.ListN.{replicate}
 use Rattle.life.specs.States.{Normal, Recovery, ready, beacon, accepted}
 use Rattle.life.specs.Histories.{Call, event, tick}
-use Rattle.stores.specs.StateBytes.{stateIn}
+use Rattle.life.specs.StateBytes.{stateIn}
 use Rattle.braidlark.specs.StateCalls.{freshCall, tickCall}
 use Rattle.held.specs.HeldStates.{bufferAfter}
 

@@ -28,8 +28,8 @@ use Rattle.merges.proofs.CandidateLaws.{each-all}
 use Rattle.merges.proofs.KeepLaws.{merged-able, merge-rules, merge-gives, merge-within}
 use Rattle.merges.proofs.LearnLaws.{Kept, learn-all-every}
 use Rattle.merges.proofs.MergeLaws.{some-origin}
-use Rattle.relays.specs.Forwards.{forwardRefusal, forwardOf}
-use Rattle.relays.proofs.ForwardLaws.{onward, forward-within}
+use Rattle.forwards.specs.Forwards.{forwardRefusal, forwardOf}
+use Rattle.forwards.proofs.ForwardLaws.{onward, forward-within}
 use Rattle.history.specs.TableCalls.{Call, merge, forget, forward, lookup, relay, page, next, Update, logged, Past, after, fresh}
 use Rattle.history.specs.TableLaws.{borne, Accounts}
 use Rattle.history.proofs.FreshLaws.{borne-on, borne-new, borne-kept, borne-forgotten, logged-on}

@@ -19,10 +19,12 @@ use Rattle.routes.specs.Tables.{withinRule, freshOf, lookupOf}
 use Rattle.routes.proofs.DroppedLaws.{dropped-lookup, dropped-forget, dropped-forgets}
 use Rattle.routes.proofs.KeepLaws.{fresh-within, forget-within}
 use Rattle.merges.proofs.KeepLaws.{merge-within, dropped-merge, dropped-merges}
-use Rattle.relays.specs.Pages.{pageFrame, pageOf, pageReasons}
+use Rattle.pages.specs.Pages.{pageFrame, pageOf, pageReasons}
 use Rattle.relays.specs.Relays.{dataIn, forUs, copyOf, relayRefusal, relayOf, relayReasons}
-use Rattle.relays.proofs.AlikeLaws.{relay-alike, page-alike, forward-refused, forward-written, forward-held, forward-table}
-use Rattle.relays.proofs.ForwardLaws.{forward-within}
+use Rattle.pages.proofs.AlikeLaws.{page-alike}
+use Rattle.relays.proofs.AlikeLaws.{relay-alike}
+use Rattle.forwards.proofs.AlikeLaws.{forward-refused, forward-written, forward-held, forward-table}
+use Rattle.forwards.proofs.ForwardLaws.{forward-within}
 use Rattle.history.specs.TableCalls.{Call, merge, forget, forward, lookup, relay, page, next, answers, newTable, answer, Past, after, fresh}
 use Rattle.history.specs.TableLaws.{AnswersHeard, Freshness, Accounts, FreshnessFrom, KeepsRule, RefusedKeeps, StaysWithinRule, GoneRowsDoNotMatter}
 use Rattle.history.proofs.FreshLaws.{heard}

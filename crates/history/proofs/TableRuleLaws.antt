@@ -14,8 +14,8 @@ use Rattle.routes.specs.declared.table.Table.{Table}
 use Rattle.routes.specs.Rows.{standing}
 use Rattle.routes.specs.Tables.{rowsOf, withinRule, lookupRefusal, lookupOf, forgetOf, forgetReasons, lookupReasons}
 use Rattle.merges.specs.Merges.{mergeRefusal, mergeOf, mergeReasons}
-use Rattle.relays.specs.Forwards.{forwardRefusal, forwardOf, forwardReasons}
-use Rattle.relays.specs.Pages.{pageThere, pageRefusal, pageOf, pageReasons}
+use Rattle.forwards.specs.Forwards.{forwardRefusal, forwardOf, forwardReasons}
+use Rattle.pages.specs.Pages.{pageThere, pageRefusal, pageOf, pageReasons}
 use Rattle.relays.specs.Relays.{relayRefusal, relayReasons}
 use Rattle.history.specs.TableCalls.{Call, merge, forget, forward, lookup, relay, page, answer, after, fresh}
 use Rattle.history.specs.TableLaws.{wrongPage, OnlyForPages}

@@ -8,8 +8,8 @@ use Rattle.octets.specs.Answers.{Said, accepted, unless}
 use Rattle.routes.specs.declared.table.Table.{Table}
 use Rattle.routes.specs.Tables.{freshOf, lookupOf, forgetOf}
 use Rattle.merges.specs.Merges.{updateIn, mergeOf}
-use Rattle.relays.specs.Forwards.{forwardOf}
-use Rattle.relays.specs.Pages.{pageOf}
+use Rattle.forwards.specs.Forwards.{forwardOf}
+use Rattle.pages.specs.Pages.{pageOf}
 use Rattle.relays.specs.Relays.{relayOf}
 
 -- a call with its arguments: any bytes, any numbers, any times

@@ -11,7 +11,7 @@ use Rattle.routes.specs.declared.row.Row.{Row}
 use Rattle.routes.specs.declared.table.Table.{Table}
 use Rattle.routes.specs.Rows.{standing}
 use Rattle.routes.specs.Tables.{rowsOf, withinRule, dropped, freshOf, lookupOf}
-use Rattle.relays.specs.Pages.{pageThere}
+use Rattle.pages.specs.Pages.{pageThere}
 use Rattle.relays.specs.Relays.{relayOf}
 use Rattle.history.specs.TableCalls.{Call, merge, forget, forward, lookup, relay, page, timeOf, next, answer, Update, Past, after, fresh, timesFrom}
 

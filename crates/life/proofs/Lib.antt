@@ -1,4 +1,5 @@
 pub mod HistoryLaws
 pub mod LifeLaws
+pub mod StateTripLaws
 pub mod StepLaws
 pub mod TableLaws

@@ -1,16 +1,18 @@
 -- Candidates, good and bad, and those of an update's entries.
 -- Assumes nothing.
-use mathlib.Core.Path.{_≡_, refl, sym}
+use mathlib.Core.Path.{_≡_, refl, sym, ap}
 use mathlib.Core.Bool.{Bool, true, false, _&&_, _||_, cond, and-eq-true-iff, false≢true}
 use mathlib.Core.List.{List, [], _∷_}
-use Prim.Native.Nat.{ℕ, _≤_, _<_}
+use Prim.Native.Nat.{ℕ, _*_, _≤_, _<_}
 use borrow.Author.Tests.{ltb-false}
 use lib.Dec.{eqb, leb, ltb}
+use lib.ListN.{take, drop}
 use Rattle.octets.specs.Lists.{every}
+use Rattle.octets.proofs.LayoutLaws.{fields-part}
 use Rattle.shapes.specs.Rules.{address}
 use Rattle.shapes.proofs.RuleLaws.{address-least}
 use Rattle.traffic.specs.declared.entry.Entry.{Entry}
-use Rattle.traffic.specs.Traffic.{entryRule}
+use Rattle.traffic.specs.Traffic.{entryWidths, entryFrom, entryRule, entryAt}
 use Rattle.merges.specs.declared.candidate.Candidate.{Candidate}
 use Rattle.merges.specs.Candidates.{offered, passedOver, offers, bad}
 use Rattle.merges.specs.Offering.{nothing, offerOf}
@@ -35,6 +37,11 @@ entry-unit e r =
 
 pub entry-some : (e : Entry) → entryRule e ≡ true → 0 < e .destination
 entry-some e r = address-least (e .destination) (entry-unit e r)
+
+-- an entry in a part that has all its bytes
+pub entry-part : (s : List ℕ) (position k : ℕ) → 10 ≤ k → entryAt (take k (drop (10 * position) s)) 0 ≡ entryAt s position
+unfolding entryAt
+entry-part s position k h = ap entryFrom (fields-part entryWidths s (10 * position) k h)
 
 -- what an entry offers, by whether it is passed over
 module _ (own origin quality : ℕ) (e : Entry) where

@@ -12,3 +12,4 @@ pub mod PutLaws
 pub mod RankLaws
 pub mod SearchLaws
 pub mod StepLaws
+pub mod StoredLaws

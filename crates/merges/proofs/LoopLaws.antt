@@ -1,15 +1,15 @@
 -- The loop over an update's candidates: what is learned so far, with what is left to learn, is the whole.
 -- Assumes nothing.
 use mathlib.Core.Path.{_≡_, refl, sym, ap, _∙_}
-use mathlib.Core.Bool.{Bool, true, false, not, cond}
+use mathlib.Core.Bool.{Bool, true, false, cond}
 use mathlib.Core.List.{List, []}
 use Prim.Native.Nat.{ℕ, suc, _+_, _-_, _*_, _≤_, _<_}
 use native.Mathlib.Nat.{add-zero}
 use native.Mathlib.Numerals.{add-one}
 use native.Mathlib.Omega.{arith}
-use borrow.Author.Tests.{not-true, not-false, ltb-true}
+use borrow.Author.Tests.{ltb-true}
 use lib.Dec.{eqb, ltb}
-use lib.ListN.{length, getD, take, drop, set, drop-of-length-le}
+use lib.ListN.{length, getD, take, drop, drop-of-length-le}
 use lib.Seq.{drop-cons}
 use mir.Val.{boolByte}
 use Rattle.octets.specs.Lists.{every}
@@ -20,7 +20,8 @@ use Rattle.routes.proofs.StandingLaws.{pad-length}
 use Rattle.merges.specs.declared.candidate.Candidate.{Candidate}
 use Rattle.merges.specs.Learning.{put, learned, learn, learnAll}
 use Rattle.merges.specs.Offering.{nothing, offerAt, candidateNo, walked, fair}
-use Rattle.merges.specs.Searching.{goesOn, startsAt, stores, skips, made, movedIn}
+use Rattle.merges.specs.Searching.{goesOn, startsAt, stores, skips, made}
+use Rattle.merges.proofs.MoveLaws.{storedAt}
 use Rattle.merges.proofs.PadLaws.{pad-at, used-within}
 use Rattle.merges.proofs.SearchLaws.{Searched, searched-start, searched-on, put-keeps, searched-next}
 use Rattle.merges.proofs.StepLaws.{Sound, Stored, stored-sound, step-off, step-set, step-move}
@@ -140,8 +141,8 @@ module _ (part : List ℕ) (count own origin quality time : ℕ) (rows₀ : List
       this-fair : fair c ≡ true
       this-fair = rw (← this) (every-at fair all done nothing (m .fairly) fit)
 
-      turned : learnAll origin time (drop (done + 1) all) (learn origin time c (learned (m .rows) skipped)) ≡ learnAll origin time all (learned rows₀ 0)
-      turned = rw add-one (ap (λ x. learnAll origin time (drop (suc done) all) (learn origin time x (learned (m .rows) skipped))) (sym this) ∙ (rw (drop-cons all done nothing fit) at (m .rest)))
+      learned-on : learnAll origin time (drop (done + 1) all) (learn origin time c (learned (m .rows) skipped)) ≡ learnAll origin time all (learned rows₀ 0)
+      learned-on = rw add-one (ap (λ x. learnAll origin time (drop (suc done) all) (learn origin time x (learned (m .rows) skipped))) (sym this) ∙ (rw (drop-cons all done nothing fit) at (m .rest)))
 
       from-place : from ≤ 47
       from-place = rw starts (go (ltb (c′ .destination) (c .destination)))
@@ -166,7 +167,7 @@ module _ (part : List ℕ) (count own origin quality time : ℕ) (rows₀ : List
             next = next′ ∙ numbered own origin quality part done;
             place = from-place;
             search = rw starts (searched-next (c .destination) (m .rows) at (m .search) (c′ .destination) rows′ kept);
-            rest = rw (← e) turned;
+            rest = rw (← e) learned-on;
           }
 
       -- what was decided, said of the list of rows
@@ -194,21 +195,18 @@ module _ (part : List ℕ) (count own origin quality time : ℕ) (rows₀ : List
           one-more (put new′ (m .rows)) out′ held′ (stored-sound (c .destination) new′ _ (m .rows) skipped (m .sound) s)
           (put-keeps (c .destination) (m .rows) at (m .search) new′ (s .leads)) (s .learns ∙ rw (none-skipped, add-zero))
 
-      pub turn-off : not stored ≡ true → Merging out c′ (done + 1) (skipped + boolByte skip) from
-      turn-off t =
-          one-more (m .rows) out (m .held) (m .sound) (refl, m .search .within)
-          (step-off origin time c (m .rows) skipped at (m .sound) (m .search) (m .place) halted (m .via) this-fair (decided ∙ not-true stored t) ∙ rw no-room)
-
-      module _ (t : not stored ≡ false) where
-        taken : stores origin time c seen (eqb (seen .destination) (c .destination)) (ltb 0 (getD (pad (m .rows)) 47 none .destination)) ≡ true
-        taken = decided ∙ not-false stored t
-
-        pub turn-set : there ≡ true → Merging (set out at new) c′ (done + 1) (skipped + boolByte skip) from
-        turn-set y =
-            let (s, placed, unskipped) = step-set origin time c (m .rows) skipped at (m .sound) (m .search) (m .place) halted (m .via) this-fair taken (is-there ∙ y) in
-            stored-more (set out at new) (made origin time c seen) s (rw (m .held, ← same-row) placed) (sym no-room ∙ unskipped)
-
-        pub turn-move : there ≡ false → (moved : List Row) → moved ≡ movedIn out at new → Merging moved c′ (done + 1) (skipped + boolByte skip) from
-        turn-move y moved e =
-            let (s, placed, unskipped) = step-move origin time c (m .rows) skipped at (m .sound) (m .search) (m .place) halted (m .via) this-fair taken (is-there ∙ y) in
-            stored-more moved (made origin time c seen) s (e ∙ rw (m .held, ← same-row) placed) (sym no-room ∙ unskipped)
+      -- by what is stored: nothing, a row in place of the one there, or a new one
+      pub turned : (moved : List Row) → moved ≡ storedAt stored there new at out → Merging moved c′ (done + 1) (skipped + boolByte skip) from
+      turned moved e = go stored there decided is-there e
+        where
+          go : (b y : Bool) → stores origin time c seen (eqb (seen .destination) (c .destination)) (ltb 0 (getD (pad (m .rows)) 47 none .destination)) ≡ b → eqb (seen .destination) (c .destination) ≡ y
+              → moved ≡ storedAt b y new at out → Merging moved c′ (done + 1) (skipped + boolByte skip) from
+          go false y d q e =
+              one-more (m .rows) moved (e ∙ m .held) (m .sound) (refl, m .search .within)
+              (step-off origin time c (m .rows) skipped at (m .sound) (m .search) (m .place) halted (m .via) this-fair d ∙ rw no-room)
+          go true true d q e =
+              let (s, placed, unskipped) = step-set origin time c (m .rows) skipped at (m .sound) (m .search) (m .place) halted (m .via) this-fair d q in
+              stored-more moved (made origin time c seen) s (e ∙ rw (m .held, ← same-row) placed) (sym no-room ∙ unskipped)
+          go true false d q e =
+              let (s, placed, unskipped) = step-move origin time c (m .rows) skipped at (m .sound) (m .search) (m .place) halted (m .via) this-fair d q in
+              stored-more moved (made origin time c seen) s (e ∙ rw (m .held, ← same-row) placed) (sym no-room ∙ unskipped)

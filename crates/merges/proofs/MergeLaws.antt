@@ -1,13 +1,14 @@
 -- Merging an update, from what its parts say.
 -- Assumes nothing.
 use mathlib.Core.Path.{_≡_, sym, ap, _∙_}
-use mathlib.Core.Bool.{true, false, and-eq-true-iff}
+use mathlib.Core.Bool.{Bool, true, false, not, cond, and-eq-true-iff}
 use mathlib.Core.List.{List}
 use Prim.Native.Nat.{ℕ, _≤_, _<_}
 use native.Mathlib.Omega.{arith}
 use borrow.Author.Tests.{eqb-true, ne-eqb, not-false, ltb-false}
 use lib.Dec.{eqb}
 use lib.ListN.{length}
+use Rattle.octets.specs.Answers.{first}
 use Rattle.octets.specs.Lists.{every}
 use Rattle.octets.proofs.AnswerLaws.{numbered, refusing-numbered, none-holds}
 use Rattle.moments.specs.Moments.{inOrder}
@@ -24,8 +25,8 @@ use Rattle.routes.specs.Rows.{ascending, inUse, pad, standing, standingPlaces}
 use Rattle.routes.specs.Tables.{rowsOf, withinRule}
 use Rattle.routes.proofs.StandingLaws.{used, in-use-used, in-use-pad, standing-every, standing-ascending, standing-places}
 use Rattle.routes.proofs.TableLaws.{held, within}
-use Rattle.merges.specs.Learning.{learned, learnAll}
-use Rattle.merges.specs.Merges.{updateIn, mergeRefusal, mergedRows, mergeOf, mergeReasons}
+use Rattle.merges.specs.Learning.{Learned, learned, learnAll}
+use Rattle.merges.specs.Merges.{updateIn, mergeRefusal, mergedRows, mergeOf, unmergedReasons, mergeReasons}
 use Rattle.merges.specs.Offering.{walked, fair}
 use Rattle.merges.proofs.OfferLaws.{walked-fair, walked-same}
 
@@ -67,7 +68,11 @@ mergeable t s quality time e =
 pub some-origin : (t : Table) (s : List ℕ) (quality time : ℕ) → Mergeable t s quality time → 0 < updateIn s .origin
 some-origin t s quality time m = address-least (updateIn s .origin) (m .origin)
 
-module _ (t : Table) (s : List ℕ) (quality time : ℕ) (long : length (t .rows) ≡ 48) (m : Mergeable t s quality time) where
+-- the places of a table within rule, without the rows that are gone, hold the rows that stand
+pub stand-places : (t : Table) (time : ℕ) → length (t .rows) ≡ 48 → withinRule t ≡ true → (places : List Row) → places ≡ standingPlaces time (t .rows) → places ≡ pad (standing time (rowsOf t))
+stand-places t time long rule places e = e ∙ standing-places time (t .rows) (held t long rule)
+
+module _ (t : Table) (s : List ℕ) (quality time : ℕ) (m : Mergeable t s quality time) where
   abbrev u : UpdateHeader
   u = updateIn s
 
@@ -78,10 +83,7 @@ module _ (t : Table) (s : List ℕ) (quality time : ℕ) (long : length (t .rows
   standing-used = standing-every used time (rowsOf t) (in-use-used (t .rows))
 
   -- the places that are handed on hold the rows that stand
-  module _ (places : List Row) (e : places ≡ standingPlaces time (t .rows)) where
-    stand : places ≡ pad (standing time (rowsOf t))
-    stand = e ∙ standing-places time (t .rows) (held t long (m .rule))
-
+  module _ (places : List Row) (stand : places ≡ pad (standing time (rowsOf t))) where
     stand-rows : inUse places ≡ standing time (rowsOf t)
     stand-rows = ap inUse stand ∙ in-use-pad (standing time (rowsOf t)) standing-used
 
@@ -99,27 +101,32 @@ module _ (t : Table) (s : List ℕ) (quality time : ℕ) (long : length (t .rows
     merged-same =
         rw stand-rows (walked-same (t .own) (u .origin) quality (u .count) (partIn update s) time (learned (standing time (rowsOf t)) 0) some (m .entries) standing-used)
 
-    -- the same, of the header and the entries that were read
-    module _ (h : UpdateHeader) (part : List ℕ) (eh : h ≡ updateIn s) (ep : part ≡ partIn update s) where
+    -- the same, of the unit, the header and the entries that were read
+    module _ (own : ℕ) (h : UpdateHeader) (part : List ℕ) (eo : own ≡ t .own) (eh : h ≡ updateIn s) (ep : part ≡ partIn update s) where
       pub learnable :
           (places ≡ pad (inUse places)) × (ascending (inUse places) ≡ true) × (h .count ≤ 24) × (0 < h .origin)
-          × (every fair (walked (t .own) (h .origin) quality (h .count) part) ≡ true)
-      learnable = rw (eh, ep) (stand-held, stand-ascends, m .few, some, walk-fair)
+          × (every fair (walked own (h .origin) quality (h .count) part) ≡ true)
+      learnable = rw (eo, eh, ep) (stand-held, stand-ascends, m .few, some, walk-fair)
 
-      pub merged-by : learnAll (h .origin) time (walked (t .own) (h .origin) quality (h .count) part) (learned (inUse places) 0) ≡ mergedRows t s quality time
-      merged-by = rw (eh, ep) merged-same
+      pub merged-by : learnAll (h .origin) time (walked own (h .origin) quality (h .count) part) (learned (inUse places) 0) ≡ mergedRows t s quality time
+      merged-by = rw (eo, eh, ep) merged-same
 
 -- ---- the answer
 module _ (t : Table) (s : List ℕ) (quality time : ℕ) where
+  -- 14 where the table is not within rule, else why such a table does not merge it
+  pub refused-by : (rule : Bool) (why n : ℕ) → rule ≡ withinRule t → why ≡ first (unmergedReasons (t .own) (t .time) s quality time) → n ≡ cond (not rule) 14 why → n ≡ mergeRefusal t s quality time
+  unfolding mergeRefusal
+  refused-by rule why n r w e = e ∙ rw (r, w)
+
   pub unmerged : (n : ℕ) → n ≡ mergeRefusal t s quality time → (n ≡ 0 → ⊥) → record { refused = n; skipped = 0; table = t } ≡ mergeOf t s quality time
   unfolding mergeOf
   unmerged n e z = rw (← e, ne-eqb n 0 z)
 
-  pub merges : (skipped : ℕ) (rows : List Row) → mergeRefusal t s quality time ≡ 0 → skipped ≡ mergedRows t s quality time .skipped → rows ≡ pad (mergedRows t s quality time .rows)
+  pub merges : (skipped : ℕ) (rows : List Row) (all : Learned) → mergeRefusal t s quality time ≡ 0 → all ≡ mergedRows t s quality time → (rows ≡ pad (all .rows)) × (skipped ≡ all .skipped)
       → record {
         refused = 0;
         skipped = skipped;
         table = record { own = t .own; time = time; forwarded = t .forwarded; origin = t .origin; sequence = t .sequence; rows = rows };
       } ≡ mergeOf t s quality time
   unfolding mergeOf
-  merges skipped rows z k r = rw (z, k, r)
+  merges skipped rows all z same (r, k) = rw (z, ← same, k, r)

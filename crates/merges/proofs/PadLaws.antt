@@ -15,7 +15,7 @@ use Rattle.octets.proofs.ListLaws.{every-drop}
 use Rattle.routes.specs.declared.row.Row.{Row}
 use Rattle.routes.specs.Rows.{none, pad}
 use Rattle.routes.proofs.StandingLaws.{used}
-use Rattle.merges.specs.Searching.{pushed, movedIn}
+use Rattle.merges.proofs.MoveLaws.{pushed, movedIn}
 
 pub used-at : (rs : List Row) (at : ℕ) → every used rs ≡ true → at < length rs → 0 < getD rs at none .destination
 unfolding every

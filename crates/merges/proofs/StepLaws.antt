@@ -18,7 +18,8 @@ use Rattle.routes.proofs.StandingLaws.{used}
 use Rattle.merges.specs.declared.candidate.Candidate.{Candidate}
 use Rattle.merges.specs.Candidates.{bad}
 use Rattle.merges.specs.Learning.{put, rowBy, Learned, learned, met, newTo, learn}
-use Rattle.merges.specs.Searching.{goesOn, changes, stores, skips, made, movedIn}
+use Rattle.merges.specs.Searching.{goesOn, changes, stores, skips, made}
+use Rattle.merges.proofs.MoveLaws.{movedIn}
 use Rattle.merges.proofs.PadLaws.{pad-at, used-within, within-used, full, set-pad, moved-pad}
 use Rattle.merges.proofs.PutLaws.{put-every, put-length, put-ascending}
 use Rattle.merges.proofs.SearchLaws.{Searched, searched-on, stop-end, put-end, stop-same, set-same, put-higher, stop-higher}

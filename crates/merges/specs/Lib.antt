@@ -4,3 +4,4 @@ pub mod Learning
 pub mod Merges
 pub mod Offering
 pub mod Searching
+pub mod StoredMerges

@@ -22,15 +22,18 @@ use Rattle.merges.specs.Learning.{Learned, learned, learnAll}
 abbrev pub updateIn : List ℕ → UpdateHeader
 updateIn s = updateFrom (valuesIn update s)
 
--- 14 1 2 1 3 4 6 8 9
-abbrev pub mergeReasons : Table → List ℕ → ℕ → ℕ → List Reason
-mergeReasons t s quality time =
-    reason (not (withinRule t)) 14 ∷
+-- why a table within rule, of this unit and with this last accepted time, does not merge an update: 1 2 1 3 4 6 8 9
+abbrev pub unmergedReasons : ℕ → ℕ → List ℕ → ℕ → ℕ → List Reason
+unmergedReasons own last s quality time =
     refusing (refusalAs update s) ∷
-    reason (eqb (updateIn s .origin) (t .own)) 6 ∷
-    reason (not (inOrder (t .time) time)) 8 ∷
+    reason (eqb (updateIn s .origin) own) 6 ∷
+    reason (not (inOrder last time)) 8 ∷
     reason (ltb quality 40) 9 ∷
     []
+
+-- merge: 14, then these
+abbrev pub mergeReasons : Table → List ℕ → ℕ → ℕ → List Reason
+mergeReasons t s quality time = reason (not (withinRule t)) 14 ∷ unmergedReasons (t .own) (t .time) s quality time
 
 unfoldable pub mergeRefusal : Table → List ℕ → ℕ → ℕ → ℕ
 mergeRefusal t s quality time = first (mergeReasons t s quality time)

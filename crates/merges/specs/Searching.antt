@@ -3,9 +3,7 @@
 -- Assumes nothing.
 use Prim.Native.Nat.{ℕ}
 use mathlib.Core.Bool.{Bool, not, _&&_, _||_, cond}
-use mathlib.Core.List.{List, [], _∷_, _++_}
-use lib.Dec.{eqb, ltb}
-use lib.ListN.{take, drop}
+use lib.Dec.{ltb}
 use Rattle.routes.specs.declared.row.Row.{Row}
 use Rattle.routes.specs.Rows.{withdrawnAt}
 use Rattle.merges.specs.declared.candidate.Candidate.{Candidate}
@@ -35,11 +33,3 @@ skips c there full = not there && not (bad c) && full
 -- what it makes of that row, or of none
 abbrev pub made : ℕ → ℕ → Candidate → Row → Row
 made via time c r = cond (bad c) (withdrawnAt time r) (rowBy via time c)
-
--- a row pushed in at the first of some places: each row moves up by one, as far as the first place that is not in use
-abbrev pub pushed : Row → List Row → List Row
-pushed w [] = []
-pushed w (r ∷ rs) = w ∷ cond (eqb (r .destination) 0) rs (pushed r rs)
-
-abbrev pub movedIn : List Row → ℕ → Row → List Row
-movedIn places at w = take at places ++ pushed w (drop at places)

@@ -47,11 +47,10 @@ impl Candidate {
         }
     }
 
-    // The candidate that an entry of an update is, or nothing.
-    pub(crate) fn at(part: &[u8], position: u8, own: u16, origin: u16, quality: u8) -> Candidate
-        ensures { λ r. ⌜ r ≡ offerAt own origin quality (now (part .entry)) position ⌝ }
+    // The candidate that an entry is, or nothing.
+    fn from_entry(entry: Entry, own: u16, origin: u16, quality: u8) -> Candidate
+        ensures { λ r. ⌜ r ≡ offerOf own origin quality entry ⌝ }
     {
-        let entry = Entry::of(part, position);
         let passed_over = (entry.destination == own)
             | (entry.destination == origin)
             | (entry.next_hop == own);
@@ -59,6 +58,18 @@ impl Candidate {
             return Candidate::nothing();
         }
         Candidate::offered(quality, entry)
+    }
+
+    // That of the entry of an update at a position. A part of known length spares a test of the end before each field.
+    pub(crate) fn at(part: &[u8], position: u8, own: u16, origin: u16, quality: u8) -> Candidate
+        ensures { λ r. ⌜ r ≡ offerAt own origin quality (now (part .entry)) position ⌝ }
+    {
+        let start = 10 * (position as usize);
+        let end = start + 10;
+        if part.len() < end {
+            return Candidate::from_entry(Entry::of(part, position), own, origin, quality);
+        }
+        Candidate::from_entry(Entry::of(&part[start..end], 0), own, origin, quality)
     }
 
     pub(crate) fn bad(self) -> bool

@@ -1,5 +1,5 @@
 // Merges: what a table learns from the routing updates of its neighbours.
 pub mod candidate;
 pub mod merging;
-mod moving;
 mod steps;
+pub mod stored;

@@ -1,14 +1,14 @@
-// Merging an update into a table.
+// Merging an update into a table by value, and what this shares with merging into one that lies in bytes.
 ghost use mathlib.Core.Path.{_≡_};
 ghost use mathlib.Core.Bool.{true};
 ghost use Prim.Native.Nat.{_≤_, _<_};
+ghost use Rattle.octets.specs.Answers.{first};
 ghost use Rattle.octets.specs.Lists.{every};
 ghost use Rattle.routes.specs.Rows.{ascending, inUse, pad};
 ghost use Rattle.merges.specs.Learning.{learned, learnAll};
-ghost use Rattle.merges.specs.Merges.{mergeRefusal, mergeOf};
+ghost use Rattle.merges.specs.Merges.{unmergedReasons, mergeOf};
 ghost use Rattle.merges.specs.Offering.{walked, fair};
 use crate::candidate::Candidate;
-use crate::moving::moved_in;
 use crate::steps::goes_on;
 use crate::steps::made;
 use crate::steps::skips;
@@ -31,15 +31,16 @@ pub struct Merged {
 }
 
 // The rows when every candidate has been learned, and how many were skipped.
-struct Rows {
-    rows: [Row; 48],
-    skipped: u8,
+pub(crate) struct Rows {
+    pub(crate) rows: [Row; 48],
+    pub(crate) skipped: u8,
 }
 
 // Every candidate of an update in turn: one loop on one array. A turn takes the search for the candidate's row one place on, or, where that stops,
-// does with the candidate and takes the next. The entries of a page ascend, so that all their searches together pass each row about once. Only a new
-// row is moved in by a call that copies the array.
-fn learn_all(
+// does with the candidate and takes the next. The entries of a page ascend, so that all their searches together pass each row about once. A row that is
+// stored takes the place of the row that is there for its destination, or is moved in: each row from there on moves up by one, as far as the first place
+// that is not in use. A function that did this would copy the array.
+pub(crate) fn learn_all(
     rows: [Row; 48],
     part: &[u8],
     count: u8,
@@ -65,45 +66,43 @@ fn learn_all(
         let last = out[47];
         let there = row.destination == candidate.destination;
         let full = 0 < last.destination;
-        let stored = stores(origin, time, candidate, row, there, full);
-        let new = made(origin, time, candidate, row);
-        let place = at;
-        let sought = candidate.destination;
+        let mut moves = stores(origin, time, candidate, row, there, full);
         skipped += skips(candidate, there, full) as u8;
+        let mut hand = made(origin, time, candidate, row);
+        let mut i = at;
+        while moves {
+            let next = out[i];
+            out[i] = hand;
+            moves = !there & (0 < next.destination) & (i < 47);
+            hand = next;
+            i += 1;
+        }
+        let sought = candidate.destination;
         candidate = Candidate::at(part, done, own, origin, quality);
         done += 1;
-        at = starts(place, sought, candidate.destination);
-        if !stored {
-            continue;
-        }
-        if there {
-            out[place] = new;
-            continue;
-        }
-        let next = moved_in(out, place, new);
-        out = next;
+        at = starts(at, sought, candidate.destination);
     }
     Rows { rows: out, skipped }
 }
 
-// Why an update is not merged, 0 where it is.
-fn why_unmerged(table: Table, frame: &[u8], quality: u8, time: u32) -> u8
-    ensures { λ r. ⌜ r ≡ mergeRefusal table (now (frame .entry)) quality time ⌝ }
+// Why a table within rule of the unit `own`, with this last accepted time, does not merge an update; 0 where it does.
+pub(crate) fn why_unmerged(own: u16, last: u32, frame: &[u8], quality: u8, time: u32) -> u8
+    ensures { λ r. ⌜ r ≡ first (unmergedReasons own last (now (frame .entry)) quality time) ⌝ }
 {
     let origin = UpdateHeader::of(frame).origin;
     let unread = update(frame);
     let refused = refuse_if(quality < 40, 9, 0);
-    let refused = refuse_if(!in_order(table.time, time), 8, refused);
-    let refused = refuse_if(origin == table.own, 6, refused);
-    let refused = refuse_if(unread != 0, unread, refused);
-    refuse_if(!table.within_rule(), 14, refused)
+    let refused = refuse_if(!in_order(last, time), 8, refused);
+    let refused = refuse_if(origin == own, 6, refused);
+    refuse_if(unread != 0, unread, refused)
 }
 
 // Merges an update that was heard with this quality.
 pub fn merge(table: Table, frame: &[u8], quality: u8, time: u32) -> Merged
     ensures { λ r. ⌜ r ≡ mergeOf table (now (frame .entry)) quality time ⌝ }
 {
-    let refused = why_unmerged(table, frame, quality, time);
+    let refused = why_unmerged(table.own, table.time, frame, quality, time);
+    let refused = refuse_if(!table.within_rule(), 14, refused);
     if refused != 0 {
         return Merged {
             refused,

@@ -19,9 +19,10 @@ use Rattle.frames.specs.Told.{told, wrote}
 use Rattle.entries.specs.declared.reader.Entries.{Entries}
 use Rattle.entries.specs.Walks.{toldWalked}
 use Rattle.routes.specs.Told.{toldFound}
-use Rattle.relays.specs.declared.forwarding.Forwarded.{Forwarded}
+use Rattle.forwards.specs.declared.forwarding.Forwarded.{Forwarded}
+use Rattle.forwards.specs.declared.forwarding.ForwardedIn.{ForwardedIn}
 use Rattle.relays.specs.declared.relaying.Relayed.{Relayed}
-use Rattle.relays.specs.Forwards.{passed}
+use Rattle.forwards.specs.Forwards.{passed, forwardLeft, forwardedIn}
 use Rattle.relays.specs.Relays.{relayed}
 use Rattle.site.specs.Plans.{toldPlan}
 use Rattle.members.specs.declared.census.Census.{Census}
@@ -36,9 +37,11 @@ use Rattle.braidlark.specs.ClockCalls.{clockLeft}
 use Rattle.braidlark.specs.EntryCalls.{entryLeft}
 use Rattle.braidlark.specs.FrameCalls.{readLeft}
 use Rattle.braidlark.specs.StateCalls.{stateLeft}
-use Rattle.router.specs.RelayCalls.{relayLeft, forwardLeft}
-use Rattle.router.specs.TableCalls.{tableLeft, lookupLeft}
-use Rattle.router.specs.UpdateCalls.{mergeLeft}
+use Rattle.router.specs.RelayCalls.{relayLeft}
+use Rattle.stores.specs.StoredTables.{tableLeft}
+use Rattle.router.specs.TableCalls.{lookupLeft}
+use Rattle.merges.specs.declared.stored.MergedIn.{MergedIn}
+use Rattle.merges.specs.StoredMerges.{mergeLeft, mergedIn}
 use Rattle.manager.specs.BookCalls.{bookLeft}
 use Rattle.manager.specs.PlanCalls.{numbersLeft}
 use Rattle.admissions.specs.RequestCalls.{requestLeft}
@@ -118,6 +121,8 @@ pub record ViewsTellApart : Type 1 where
   pub lookups : TellsApart any (λ (a : ℕ × ℕ × ℕ). lookupLeft (a .0) (a .1) (a .2))
   pub merges : TellsApart any (λ (a : ℕ × List ℕ × ℕ). mergeLeft (a .0) (a .1) (a .2))
   pub relays : TellsApart any (λ (a : ℕ × List ℕ × ℕ × ℕ × ℕ). relayLeft (a .0) (a .1) (a .2) (a .3) (a .4))
+  pub mergesIn : TellsApart any (λ (a : MergedIn × List ℕ). mergedIn (a .0) (a .1))
+  pub forwardsIn : TellsApart any (λ (a : ForwardedIn × List ℕ × List ℕ). forwardedIn (a .0) (a .1) (a .2))
   pub forwards : TellsApart any (λ (a : ℕ × List ℕ × List ℕ × ℕ). forwardLeft (a .0) (a .1) (a .2) (a .3))
   pub states : TellsApart any (λ (a : ℕ × List ℕ). stateLeft (a .0) (a .1))
   pub clocks : TellsApart any (λ (a : ℕ × ℤ). clockLeft (a .0) (a .1))

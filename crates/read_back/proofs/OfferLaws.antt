@@ -9,7 +9,7 @@ use Rattle.traffic.specs.Traffic.{update, updateFrom, entriesOf}
 use Rattle.frames.proofs.KindLaws.{an-update}
 use Rattle.frames.proofs.WholeLaws.{taken-as-read}
 use Rattle.merges.specs.Merges.{updateIn, mergeRefusal, mergedRows}
-use Rattle.relays.specs.Pages.{entryFor}
+use Rattle.pages.specs.Pages.{entryFor}
 use Rattle.read_back.specs.FramesRead.{PagesOffer}
 
 pub pages-offer : PagesOffer

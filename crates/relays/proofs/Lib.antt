@@ -1,7 +1,3 @@
 pub mod AlikeLaws
-pub mod EntryLaws
-pub mod ForwardLaws
-pub mod PageLaws
-pub mod ReasonLaws
 pub mod RelayLaws
 pub mod ToldLaws

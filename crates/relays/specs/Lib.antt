@@ -1,3 +1,1 @@
-pub mod Forwards
-pub mod Pages
 pub mod Relays

@@ -1,5 +1,2 @@
-// Relays: what a table does with frames: the pages of its own updates, relaying data, forwarding beacons.
-pub mod forwarding;
-pub mod paging;
-pub mod passing;
+// Relays: what a table, by value or in bytes, does with a data frame: it is handed back, or goes on to the next hop.
 pub mod relaying;

@@ -4,14 +4,16 @@ ghost use mathlib.Core.List.{[], _∷_};
 ghost use lib.ListN.{length};
 ghost use lib.Seq.{sets};
 ghost use Prim.Native.Nat.{_+_, _-_, _≤_};
-ghost use Rattle.octets.specs.Answers.{accepted, unless};
+ghost use Rattle.octets.specs.Answers.{accepted, first, unless};
 ghost use Rattle.octets.specs.Layouts.{bytes};
 ghost use Rattle.octets.specs.Parts.{lent};
 ghost use Rattle.shapes.specs.Shape.{frameOf};
 ghost use Rattle.traffic.specs.Traffic.{dataKind, dataValues};
-ghost use Rattle.routes.specs.Tables.{withinRule, leadsTo};
-ghost use Rattle.relays.specs.Relays.{dataIn, passedOn, relayRefusal, relayOf, handedBack, toldRelayed, relayed};
+ghost use Rattle.routes.specs.Told.{toldFound};
+ghost use Rattle.relays.specs.Relays.{passedOn, unrelayedReasons, relayOf, relayBy, relayIn, handedBack, toldRelayed, relayed};
 use frames::answers::Refusal;
+use in_place::finding;
+use in_place::judging::holds_table;
 use moments::in_order;
 use octets::answers::refuse_if;
 use octets::fixed::put8;
@@ -21,8 +23,11 @@ use octets::parts::put_bytes;
 use octets::sums::xor_of;
 use readers::parts::payload;
 use readers::refusals;
+use routes::table::Found;
 use routes::table::Table;
+use routes::table::found_by;
 use routes::table::row_for;
+use stores::tables::head_of;
 use traffic::data_frame::DataHeader;
 
 // A copy that was written: the neighbour it goes to, and its size in bytes.
@@ -56,22 +61,21 @@ fn passed_on(header: DataHeader) -> DataHeader
     }
 }
 
-// Why a frame is not relayed by a table that is within rule or not, where a row for its destination leads there or not; 0 where it is.
-fn refusal(table: Table, within: bool, leads: bool, frame: &[u8], time: u32, room: usize) -> u8
-    requires { ⌜ (within ≡ withinRule table) × (leads ≡ leadsTo table (dataIn (now frame) .destination) time) ⌝ }
-    ensures { λ r. ⌜ r ≡ relayRefusal table (now (frame .entry)) time room ⌝ }
+// Why a frame is not relayed by a table within rule, of which this is known: its unit, its last accepted time, and what it answers to a lookup of the
+// frame's destination; 0 where it is.
+fn refusal(own: u16, last: u32, found: Found, frame: &[u8], time: u32, room: usize) -> u8
+    ensures { λ r. ⌜ r ≡ first (unrelayedReasons own last (toldFound found) (now (frame .entry)) time room) ⌝ }
 {
     let header = DataHeader::of(frame);
     let unread = refusals::data_frame(frame);
-    let other = !(header.destination == table.own);
+    let other = !(header.destination == own);
     let size = payload(frame).len() + 10;
     let refused = refuse_if(other & (room < size), 5, 0);
-    let refused = refuse_if(other & !leads, 11, refused);
+    let refused = refuse_if(other & !(found.refusal() == 0), 11, refused);
     let refused = refuse_if(other & (header.ttl <= 1), 10, refused);
-    let refused = refuse_if(!in_order(table.time, time), 8, refused);
-    let refused = refuse_if(header.source == table.own, 6, refused);
-    let refused = refuse_if(!(unread == 0), unread, refused);
-    refuse_if(!within, 14, refused)
+    let refused = refuse_if(!in_order(last, time), 8, refused);
+    let refused = refuse_if(header.source == own, 6, refused);
+    refuse_if(!(unread == 0), unread, refused)
 }
 
 // What is said of a frame of which nothing is written.
@@ -108,35 +112,61 @@ fn put_frame(out: &mut [u8], header: DataHeader, part: &[u8])
     out[end] = sum;
 }
 
-// A payload for this unit is told and nothing is written; any other frame is written with its ttl one less.
-pub fn relay(table: Table, frame: &[u8], time: u32, out: &mut [u8]) -> Relayed
-    ensures { λ r. ⌜ relayed r (now (out .exit)) ≡ relayOf table (now (frame .entry)) time (now (out .entry)) ⌝ }
+// Relays by a table within rule, of which this is known. A payload for this unit is told and nothing is written; any other frame is written with its ttl
+// one less.
+fn relay_by(own: u16, last: u32, found: Found, frame: &[u8], time: u32, out: &mut [u8]) -> Relayed
+    ensures { λ r. ⌜ relayed r (now (out .exit)) ≡ relayBy own last (toldFound found) (now (frame .entry)) time (now (out .entry)) ⌝ }
 {
     let header = DataHeader::of(frame);
-    let rows = table.rows;
-    let row = row_for(rows, header.destination);
-    let leads = row.leads(header.destination, time);
-    let refused = refusal(table, table.within_rule(), leads, frame, time, out.len());
-    if (refused == 0) & !(header.destination == table.own) {
+    let refused = refusal(own, last, found, frame, time, out.len());
+    if (refused == 0) & !(header.destination == own) {
         let part = payload(frame);
         put_frame(out, passed_on(header), part);
         return Relayed::Passed(Passage {
-            next_hop: row.next_hop,
+            next_hop: found.hop().next_hop,
             size: part.len() + 10,
         });
     }
     unwritten(refused, header.count)
 }
 
+pub fn relay(table: Table, frame: &[u8], time: u32, out: &mut [u8]) -> Relayed
+    ensures { λ r. ⌜ relayed r (now (out .exit)) ≡ relayOf table (now (frame .entry)) time (now (out .entry)) ⌝ }
+{
+    if !table.within_rule() {
+        return Relayed::Refused(Refusal { number: 14 });
+    }
+    let to = DataHeader::of(frame).destination;
+    let rows = table.rows;
+    let found = found_by(table.time, row_for(rows, to), to, time);
+    relay_by(table.own, table.time, found, frame, time, out)
+}
+
+// Relays by the table that bytes hold.
+pub fn relay_in(table: &[u8], frame: &[u8], time: u32, out: &mut [u8]) -> Relayed
+    ensures { λ r. ⌜ relayed r (now (out .exit)) ≡ relayIn (now (table .entry)) (now (frame .entry)) time (now (out .entry)) ⌝ }
+{
+    if !holds_table(table) {
+        return Relayed::Refused(Refusal { number: 14 });
+    }
+    let head = head_of(table);
+    let to = DataHeader::of(frame).destination;
+    let found = found_by(head.time, finding::row_for(table, to), to, time);
+    relay_by(head.own, head.time, found, frame, time, out)
+}
+
 // The payload of a frame that is relayed to this unit, as its part of the frame; nothing of any other.
 pub fn handed_back(table: Table, frame: &[u8], time: u32) -> &[u8]
     ensures { λ r. ⌜ lent r ≡ handedBack table (lent (frame .entry)) time ⌝ }
 {
-    let header = DataHeader::of(frame);
+    if !table.within_rule() {
+        return part(frame, 0, 0);
+    }
+    let to = DataHeader::of(frame).destination;
     let rows = table.rows;
-    let leads = row_for(rows, header.destination).leads(header.destination, time);
-    let refused = refusal(table, table.within_rule(), leads, frame, time, 0);
-    if (refused == 0) & (header.destination == table.own) {
+    let found = found_by(table.time, row_for(rows, to), to, time);
+    let refused = refusal(table.own, table.time, found, frame, time, 0);
+    if (refused == 0) & (to == table.own) {
         return payload(frame);
     }
     part(frame, 0, 0)

@@ -9,22 +9,19 @@ use borrow.Author.Tests.{ne-eqb, eqb-true}
 use lib.Dec.{eqb}
 use lib.ListN.{length, getD}
 use Rattle.octets.specs.Answers.{Said, accepted, refused}
-use Rattle.octets.specs.Calls.{after}
-use Rattle.octets.proofs.CallLaws.{after-accepted, after-refused, WrittenBack, filled}
 use Rattle.shapes.specs.Writing.{Wrote}
 use Rattle.frames.specs.declared.answers.Refusal.{Refusal}
 use Rattle.routes.specs.declared.table.Table.{Table}
 use Rattle.routes.specs.Tables.{lookupOf}
-use Rattle.relays.specs.declared.forwarding.Forwarded.{Forwarded}
+use Rattle.forwards.specs.declared.forwarding.ForwardedIn.{ForwardedIn}
 use Rattle.relays.specs.declared.relaying.Passage.{Passage}
 use Rattle.relays.specs.declared.relaying.Relayed.{Relayed}
-use Rattle.relays.specs.Forwards.{Passed, passed, forwardOf}
-use Rattle.relays.specs.Relays.{dataIn, forUs, copyOf, relayRefusal, relayOf, relayed}
+use Rattle.forwards.specs.Forwards.{ForwardLeft, forwardLeft, forwardCall}
+use Rattle.relays.specs.Relays.{dataIn, forUs, copyOf, relayRefusal, relayOf, relayIn, toldRelayed, relayed}
 use Rattle.relays.proofs.RelayLaws.{copy-short}
-use Rattle.stores.specs.TableBytes.{tableIn, tableBytes, isTable}
-use Rattle.router.specs.RelayCalls.{relayLeft, relayCall, forwardLeft, forwardCall}
+use Rattle.stores.specs.TableBytes.{tableIn, isTable}
+use Rattle.router.specs.RelayCalls.{relayLeft, relayCall}
 use Rattle.shapes.proofs.AnsweredLaws.{Valued, Answered, valued, answered, unwritten}
-use Rattle.router.proofs.TableCallLaws.{table-length}
 
 -- ---- relaying: one value is said of a payload for this unit, two of a copy
 abbrev Saying : Bool → ℕ → ℕ → ℕ → Said
@@ -67,62 +64,81 @@ module _ (t : Table) (frame : List ℕ) (time : ℕ) (out : List ℕ) where
   unfolding relayOf
   relay-others = said-two (eqb number 0) (forUs t frame) number (dataIn frame .count) hop (length (copyOf frame))
 
-module _ (s frame : List ℕ) (time : ℕ) (out : List ℕ) (nextHop place extent : ℕ) where
-  pub relay-no-table : isTable s ≡ false → relayLeft 14 out nextHop place extent ≡ relayCall s frame time out nextHop place extent
+module _ (s frame : List ℕ) (time : ℕ) (out : List ℕ) (nextHop place extent : ℕ) (r : Relayed) (held : List ℕ) (e : relayed r held ≡ relayIn s frame time out) where
+  -- the bytes are a table, and it relays so; or they are none
+  told : isTable s ≡ true → relayed r held ≡ relayOf (tableIn s) frame time out
+  unfolding relayIn
+  told q = rw q at e
+
+  untold : isTable s ≡ false → relayed r held ≡ record { said = refused 14; held = out }
+  unfolding relayIn
+  untold q = rw q at e
+
+  as-case : isTable s ≡ true → (x : Relayed) → r ≡ x → relayed x held ≡ relayOf (tableIn s) frame time out
+  as-case y x q = ap (λ (x : Relayed). relayed x held) (sym q) ∙ told y
+
+  two : isTable s ≡ true → (p : Passage) → r ≡ Relayed.Passed p → length (relayOf (tableIn s) frame time out .said .values) ≡ 2
+  two y p q = sym (ap (λ (x : Wrote). length (x .said .values)) (as-case y (Relayed.Passed p) q))
+
+  -- an answer with values is of a table
+  valued-told : (length (toldRelayed r .values) ≡ 0 → ⊥) → isTable s ≡ true
+  valued-told n = go (isTable s) refl
+    where
+      go : (b : Bool) → isTable s ≡ b → isTable s ≡ true
+      go true y = y
+      go false y = absurd (n (ap (λ (x : Wrote). length (x .said .values)) (untold y)))
+
+  is-passed : (p : Passage) → r ≡ Relayed.Passed p → isTable s ≡ true
+  is-passed p q = valued-told (λ z. omega (arith, rw q at z))
+
+  is-ours : (count : ℕ) → r ≡ Relayed.ForUs count → isTable s ≡ true
+  is-ours count q = valued-told (λ z. omega (arith, rw q at z))
+
+  pub passage-size : (p : Passage) → r ≡ Relayed.Passed p → p .size ≤ 255
+  passage-size p q =
+      let y = is-passed p q in
+      let (other, none, same) = relay-others (tableIn s) frame time out (two y p q) in
+      let size = ap (λ (x : Wrote). getD (x .said .values) 1 0) (as-case y (Relayed.Passed p) q) ∙ same in
+      rw size (copy-short (tableIn s) frame time out (eqb-true _ 0 none) other)
+
+  pub relay-for-us : (count : ℕ) → r ≡ Relayed.ForUs count → relayLeft 0 held 0 9 count ≡ relayCall s frame time out nextHop place extent
   unfolding relayCall
-  relay-no-table e = rw e
+  relay-for-us count q =
+      let y = is-ours count q in
+      let one = sym (ap (λ (x : Wrote). length (x .said .values)) (as-case y (Relayed.ForUs count) q)) in
+      rw (y, relay-ours (tableIn s) frame time out one, ← told y, q)
 
-  module _ (r : Relayed) (held : List ℕ) (e : relayed r held ≡ relayOf (tableIn s) frame time out) where
-    as-case : (x : Relayed) → r ≡ x → relayed x held ≡ relayOf (tableIn s) frame time out
-    as-case x q = ap (λ (x : Relayed). relayed x held) (sym q) ∙ e
+  pub relay-passed : (p : Passage) → r ≡ Relayed.Passed p → relayLeft 0 held (p .«next_hop») 0 (p .size) ≡ relayCall s frame time out nextHop place extent
+  unfolding relayCall
+  relay-passed p q =
+      let y = is-passed p q in
+      rw (y, relay-others (tableIn s) frame time out (two y p q) .0, ← told y, q)
 
-    two : (p : Passage) → r ≡ Relayed.Passed p → length (relayOf (tableIn s) frame time out .said .values) ≡ 2
-    two p q = sym (ap (λ (x : Wrote). length (x .said .values)) (as-case (Relayed.Passed p) q))
+  pub relay-refused : (x : Refusal) → r ≡ Relayed.Refused x → relayLeft (x .number) held nextHop place extent ≡ relayCall s frame time out nextHop place extent
+  unfolding relayCall
+  relay-refused x q = go (isTable s) refl
+    where
+      go : (b : Bool) → isTable s ≡ b → relayLeft (x .number) held nextHop place extent ≡ relayCall s frame time out nextHop place extent
+      go true y =
+          let (z, k) = unwritten out _ (relay-answered (tableIn s) frame time out) (x .number) held (as-case y (Relayed.Refused x) q) in
+          rw (y, ← told y, q, k, ne-eqb (x .number) 0 z)
+      go false y =
+          let none = rw q at (untold y) in
+          rw (y, ap (λ (w : Wrote). w .said .refusal) none, ap (λ (w : Wrote). w .held) none)
 
-    pub passage-size : (p : Passage) → r ≡ Relayed.Passed p → p .size ≤ 255
-    passage-size p q =
-        let (other, none, same) = relay-others (tableIn s) frame time out (two p q) in
-        let size = ap (λ (x : Wrote). getD (x .said .values) 1 0) (as-case (Relayed.Passed p) q) ∙ same in
-        rw size (copy-short (tableIn s) frame time out (eqb-true _ 0 none) other)
-
-    module _ (known : isTable s ≡ true) where
-      pub relay-for-us : (count : ℕ) → r ≡ Relayed.ForUs count → relayLeft 0 held 0 9 count ≡ relayCall s frame time out nextHop place extent
-      unfolding relayCall
-      relay-for-us count q =
-          let one = sym (ap (λ (x : Wrote). length (x .said .values)) (as-case (Relayed.ForUs count) q)) in
-          rw (known, relay-ours (tableIn s) frame time out one, ← e, q)
-
-      pub relay-passed : (p : Passage) → r ≡ Relayed.Passed p → relayLeft 0 held (p .«next_hop») 0 (p .size) ≡ relayCall s frame time out nextHop place extent
-      unfolding relayCall
-      relay-passed p q = rw (known, relay-others (tableIn s) frame time out (two p q) .0, ← e, q)
-
-      pub relay-refused : (x : Refusal) → r ≡ Relayed.Refused x → relayLeft (x .number) held nextHop place extent ≡ relayCall s frame time out nextHop place extent
-      unfolding relayCall
-      relay-refused x q =
-          let (z, k) = unwritten out _ (relay-answered (tableIn s) frame time out) (x .number) held (as-case (Relayed.Refused x) q) in
-          rw (known, ← e, q, k, ne-eqb (x .number) 0 z)
-
--- ---- forwarding
-module _ (s : List ℕ) (network : ℕ) (frame : List ℕ) (delay time : ℕ) (out : List ℕ) (written : ℕ) where
-  pub forward-no-table : isTable s ≡ false → forwardLeft 14 s out written ≡ forwardCall s network frame delay time out written
+-- ---- forwarding: the call on the bytes says no number where it is refused
+module _ (s : List ℕ) (network : ℕ) (frame : List ℕ) (delay time : ℕ) (out : List ℕ) (written : ℕ) (a : ForwardedIn) (last held : List ℕ)
+    (e : forwardLeft (a .refused) last held (a .written) ≡ forwardCall s network frame delay time out 0) where
+  status : a .refused ≡ forwardCall s network frame delay time out written .status
   unfolding forwardCall
-  forward-no-table e = rw e
+  status = ap (λ (x : ForwardLeft). x .status) e
 
-  forward-kept : (t : Table) → (forwardOf t network frame delay time out .answer .refused ≡ 0 → ⊥) → forwardOf t network frame delay time out .held ≡ out
-  unfolding forwardOf
-  forward-kept t z = after-refused _ out _ z
+  pub unforwarded : (a .refused ≡ 0 → ⊥) → forwardLeft (a .refused) last held written ≡ forwardCall s network frame delay time out written
+  unfolding forwardCall
+  unforwarded z =
+      rw (ap (λ (x : ForwardLeft). x .table) e, ap (λ (x : ForwardLeft). x .out) e, ← status, ne-eqb (a .refused) 0 z)
 
-  module _ (known : isTable s ≡ true) (t : Table) (a : Forwarded) (held last : List ℕ) (status : ℕ) (r : t ≡ tableIn s)
-      (e : passed a held ≡ forwardOf t network frame delay time out) (w : WrittenBack 539 s last status (a .refused) (tableBytes (a .table))) where
-    left : (said : ℕ) → said ≡ after (a .refused) written (a .written) → forwardLeft status last held said ≡ forwardCall s network frame delay time out written
-    unfolding forwardCall
-    left said q =
-        let of-table : passed a held ≡ forwardOf (tableIn s) network frame delay time out = rw r at e in
-        let kept : (a .refused ≡ 0 → ⊥) → held ≡ out = λ z. ap (λ (x : Passed). x .held) e ∙ forward-kept t (λ y. z (ap (λ (x : Passed). x .answer .refused) e ∙ y)) in
-        rw (← of-table) (filled forwardLeft s out written (isTable s) 539 last held status (a .refused) (tableBytes (a .table)) (a .written) known (table-length s known) w kept said q)
-
-    pub unforwarded : (status ≡ 0 → ⊥) → forwardLeft status last held written ≡ forwardCall s network frame delay time out written
-    unforwarded z = left written (sym (after-refused (a .refused) written (a .written) (λ q. z (w .0 ∙ q))))
-
-    pub forwarded : status ≡ 0 → forwardLeft 0 last held (a .written) ≡ forwardCall s network frame delay time out written
-    forwarded z = rw z at (left (a .written) (sym (after-accepted (a .refused) written (a .written) (sym (w .0) ∙ z))))
+  pub forwarded : a .refused ≡ 0 → forwardLeft 0 last held (a .written) ≡ forwardCall s network frame delay time out written
+  unfolding forwardCall
+  forwarded z =
+      rw (ap (λ (x : ForwardLeft). x .table) e, ap (λ (x : ForwardLeft). x .out) e, ap (λ (x : ForwardLeft). x .written) e, ← status, z)

@@ -1,4 +1,4 @@
--- What the calls on frames that go on return and leave.
+-- What relaying returns and leaves.
 -- Assumes nothing.
 use Prim.Native.Nat.{ℕ}
 use mathlib.Core.Bool.{cond}
@@ -7,10 +7,9 @@ use lib.ListN.{getD}
 use Rattle.octets.specs.Calls.{after}
 use Rattle.shapes.specs.Shape.{placeOf}
 use Rattle.traffic.specs.Traffic.{dataKind}
-use Rattle.stores.specs.TableBytes.{tableIn, tableBytes}
-use Rattle.relays.specs.Forwards.{forwardOf}
+use Rattle.stores.specs.StoredTables.{storedTable}
+use Rattle.stores.specs.TableBytes.{tableIn}
 use Rattle.relays.specs.Relays.{forUs, relayOf}
-use Rattle.router.specs.TableCalls.{storedTable}
 
 -- ---- relaying: the status, the buffer, the next hop, and the place and the number of the bytes that count
 pub record RelayLeft : Type 0 where
@@ -33,20 +32,3 @@ relayCall s frame time out nextHop place extent =
     let ours = forUs (tableIn s) frame in
     relayLeft status (after status out (wrote .held)) (after status nextHop (cond ours 0 (getD vs 0 0)))
     (after status place (cond ours (placeOf dataKind) 0)) (after status extent (cond ours (getD vs 0 0) (getD vs 1 0)))
-
--- ---- forwarding: the status, the table's bytes, the buffer, and the number of bytes written
-pub record ForwardLeft : Type 0 where
-  pub status : ℕ
-  pub table : List ℕ
-  pub out : List ℕ
-  pub written : ℕ
-
-abbrev pub forwardLeft : ℕ → List ℕ → List ℕ → ℕ → ForwardLeft
-forwardLeft status table out written = record { status = status; table = table; out = out; written = written }
-
-unfoldable pub forwardCall : List ℕ → ℕ → List ℕ → ℕ → ℕ → List ℕ → ℕ → ForwardLeft
-forwardCall s network frame delay time out written =
-    let passed = forwardOf (tableIn s) network frame delay time out in
-    let status = storedTable s (passed .answer .refused) in
-    forwardLeft status (after status s (tableBytes (passed .answer .table))) (after status out (passed .held))
-    (after status written (passed .answer .written))

@@ -1,29 +1,12 @@
 -- What the calls on a stored table return and leave.
 -- Assumes nothing.
 use Prim.Native.Nat.{ℕ}
-use mathlib.Core.Bool.{cond}
 use mathlib.Core.List.{List}
 use lib.ListN.{getD}
 use Rattle.octets.specs.Calls.{after, stored}
-use Rattle.routes.specs.declared.table.Changed.{Changed}
 use Rattle.routes.specs.Tables.{freshOf, lookupOf, forgetOf}
-use Rattle.stores.specs.TableBytes.{tableIn, tableBytes, isTable}
-
--- the status of a call over a stored table: 14 where the bytes are none, else what the call says of the table
-abbrev pub storedTable : List ℕ → ℕ → ℕ
-storedTable s said = cond (isTable s) said 14
-
--- ---- a changing call: the status, and the table's bytes
-pub record TableLeft : Type 0 where
-  pub status : ℕ
-  pub table : List ℕ
-
-abbrev pub tableLeft : ℕ → List ℕ → TableLeft
-tableLeft status table = record { status = status; table = table }
-
--- what is left of the bytes s by a call of this status that gives this table
-abbrev pub changedTo : List ℕ → ℕ → Changed → TableLeft
-changedTo s status changed = tableLeft status (after status s (tableBytes (changed .table)))
+use Rattle.stores.specs.StoredTables.{storedTable, TableLeft, changedTo, changedBy}
+use Rattle.stores.specs.TableBytes.{tableIn}
 
 -- a fresh table: only the number of bytes matters, not what they were
 unfoldable pub freshCall : List ℕ → ℕ → ℕ → TableLeft
@@ -32,9 +15,7 @@ freshCall s own time =
     changedTo s (stored 539 s (fresh .refused)) fresh
 
 unfoldable pub forgetCall : List ℕ → ℕ → ℕ → TableLeft
-forgetCall s unit time =
-    let changed = forgetOf (tableIn s) unit time in
-    changedTo s (storedTable s (changed .refused)) changed
+forgetCall s unit time = changedBy s (λ t. forgetOf t unit time)
 
 -- ---- looking up: the status, the next hop and the hops
 pub record LookupLeft : Type 0 where

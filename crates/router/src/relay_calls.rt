@@ -1,12 +1,10 @@
 // Frames that go on by a table of 539 bytes: data is handed back or relayed, a beacon is forwarded.
 ghost use mathlib.Core.Path.{_≡_};
-ghost use Rattle.router.specs.RelayCalls.{relayLeft, relayCall, forwardLeft, forwardCall};
-use relays::forwarding::forward;
+ghost use Rattle.forwards.specs.Forwards.{forwardLeft, forwardCall};
+ghost use Rattle.router.specs.RelayCalls.{relayLeft, relayCall};
+use forwards::forwarding::forward_in;
 use relays::relaying::Relayed;
-use relays::relaying::relay;
-use stores::tables::is_table;
-use stores::tables::table_of;
-use stores::tables::write_back;
+use relays::relaying::relay_in;
 
 // Relays a data frame. For this unit: next hop 0, and where the payload starts in the frame and how long it is. Else: the next hop, place 0, and
 // how many bytes were written.
@@ -22,10 +20,7 @@ pub extern "C" fn braidlark_relay(
 ) -> u8
     ensures { λ r. ⌜ relayLeft r (now (out .exit)) (now («next_hop» .exit)) (now (place .exit)) (now (length .exit)) ≡ relayCall (now (table .entry)) (now (frame .entry)) time (now (out .entry)) (now («next_hop» .entry)) (now (place .entry)) (now (length .entry)) ⌝ }
 {
-    if !is_table(table) {
-        return 14;
-    }
-    match relay(table_of(table), frame, time, out) {
+    match relay_in(table, frame, time, out) {
         Relayed::ForUs(count) => {
             *next_hop = 0;
             *place = 9;
@@ -42,7 +37,7 @@ pub extern "C" fn braidlark_relay(
     }
 }
 
-// Forwards a beacon with this delay added, and says how many bytes were written. Bytes that are no table are found out before anything is written.
+// Forwards a beacon with this delay added, and says how many bytes were written.
 #[no_mangle]
 pub extern "C" fn braidlark_forward(
     table: &mut [u8],
@@ -55,15 +50,10 @@ pub extern "C" fn braidlark_forward(
 ) -> u8
     ensures { λ r. ⌜ forwardLeft r (now (table .exit)) (now (out .exit)) (now (written .exit)) ≡ forwardCall (now (table .entry)) network (now (frame .entry)) delay time (now (out .entry)) (now (written .entry)) ⌝ }
 {
-    if !is_table(&table[..]) {
-        return 14;
+    let forwarded = forward_in(table, network, frame, delay, time, out);
+    if forwarded.refused != 0 {
+        return forwarded.refused;
     }
-    let passed = forward(table_of(&table[..]), network, frame, delay, time, out);
-    let next = passed.table;
-    let status = write_back(table, passed.refused, next);
-    if status != 0 {
-        return status;
-    }
-    *written = passed.written as u32;
+    *written = forwarded.written as u32;
     0
 }

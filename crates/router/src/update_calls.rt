@@ -1,14 +1,11 @@
 // Routing updates over a table of 539 bytes: one that was heard is merged, and this unit's own are written, page by page.
 ghost use mathlib.Core.Path.{_≡_};
 ghost use Rattle.octets.specs.Calls.{writeLeft};
-ghost use Rattle.router.specs.UpdateCalls.{mergeLeft, mergeCall, pageCall};
+ghost use Rattle.merges.specs.StoredMerges.{mergeLeft, mergeCall};
+ghost use Rattle.router.specs.UpdateCalls.{pageCall};
 use frames::answers::Written;
-use merges::merging::merge;
-use octets::answers::refuse_if;
-use relays::paging;
-use stores::tables::is_table;
-use stores::tables::table_of;
-use stores::tables::write_back;
+use merges::stored::merge_in;
+use pages::stored::page_in;
 
 // Merges an update that was heard with this quality, and says how many candidates found no room.
 #[no_mangle]
@@ -21,13 +18,9 @@ pub extern "C" fn braidlark_merge(
 ) -> u8
     ensures { λ r. ⌜ mergeLeft r (now (table .exit)) (now (skipped .exit)) ≡ mergeCall (now (table .entry)) (now (frame .entry)) quality time (now (skipped .entry)) ⌝ }
 {
-    let known = is_table(&table[..]);
-    let merged = merge(table_of(&table[..]), frame, quality, time);
-    let next = merged.table;
-    let refused = refuse_if(!known, 14, merged.refused);
-    let status = write_back(table, refused, next);
-    if status != 0 {
-        return status;
+    let merged = merge_in(table, frame, quality, time);
+    if merged.refused != 0 {
+        return merged.refused;
     }
     *skipped = merged.skipped;
     0
@@ -44,10 +37,7 @@ pub extern "C" fn braidlark_page(
 ) -> u8
     ensures { λ r. ⌜ writeLeft r (now (out .exit)) (now (written .exit)) ≡ pageCall (now (table .entry)) page time (now (out .entry)) (now (written .entry)) ⌝ }
 {
-    if !is_table(table) {
-        return 14;
-    }
-    match paging::page(table_of(table), page, time, out) {
+    match page_in(table, page, time, out) {
         Written::Done(size) => {
             *written = size as u32;
             0

@@ -5,17 +5,26 @@ use mathlib.Core.Bool.{Bool, true, false, not, cond}
 use mathlib.Core.List.{List, [], _∷_}
 use Prim.Native.Nat.{ℕ}
 use lib.Dec.{eqb}
-use Rattle.octets.specs.Answers.{Said, accepted, unless}
+use Rattle.octets.specs.Answers.{Said, accepted, refused, unless}
 use Rattle.octets.proofs.AnswerLaws.{unless-none, unless-number}
 use Rattle.moments.specs.Moments.{inOrder}
 use Rattle.shapes.specs.Rules.{address}
 use Rattle.routes.specs.declared.table.Table.{Table}
 use Rattle.routes.specs.Rows.{rowFor}
-use Rattle.routes.specs.Tables.{rowsOf, withinRule, leadsTo, lookupRefusal, lookupOf}
+use Rattle.routes.specs.Tables.{rowsOf, withinRule, leadsTo, foundBy, lookupRefusal, lookupOf}
 
 module _ (t : Table) (d time : ℕ) where
   abbrev hop : List ℕ
   hop = rowFor d (rowsOf t) .«next_hop» ∷ rowFor d (rowsOf t) .hops ∷ []
+
+  -- of a table within rule it is what the row for the destination answers
+  pub looked-up : withinRule t ≡ true → lookupOf t d time ≡ foundBy (t .time) (rowFor d (rowsOf t)) d time
+  unfolding lookupOf foundBy
+  looked-up w = rw w
+
+  pub not-looked-up : withinRule t ≡ false → lookupOf t d time ≡ refused 14
+  unfolding lookupOf
+  not-looked-up w = rw w
 
   -- one that is accepted tells the row
   pub lookup-told : lookupOf t d time .refusal ≡ 0 → lookupOf t d time .values ≡ hop

@@ -47,9 +47,13 @@ abbrev pub withdrawnAt : ℕ → Row → Row
 withdrawnAt time r =
     record { destination = r .destination; «next_hop» = r .«next_hop»; hops = r .hops; quality = r .quality; time = time; withdrawn = true }
 
--- a row when a unit is forgotten: withdrawn if it is usable and leads to it or through it
+-- a row is lost when a unit is forgotten: it is usable, and leads to it or through it
+abbrev pub lost : ℕ → ℕ → Row → Bool
+lost unit time r = usable time r && (eqb (r .destination) unit || eqb (r .«next_hop») unit)
+
+-- a row when a unit is forgotten: withdrawn if it is lost
 abbrev pub forgotten : ℕ → ℕ → Row → Row
-forgotten unit time r = cond (usable time r && (eqb (r .destination) unit || eqb (r .«next_hop») unit)) (withdrawnAt time r) r
+forgotten unit time r = cond (lost unit time r) (withdrawnAt time r) r
 
 -- ---- all rows
 

@@ -12,11 +12,20 @@ use Rattle.shapes.specs.Rules.{address}
 use Rattle.routes.specs.declared.row.Row.{Row}
 use Rattle.routes.specs.declared.table.Table.{Table}
 use Rattle.routes.specs.declared.table.Changed.{Changed}
+use Rattle.routes.specs.declared.table.Head.{Head}
 use Rattle.routes.specs.Rows.{none, usable, leads, rowRule, isNone, forgotten, ascending, inUse, pad, standing, rowFor}
 
 -- the rows of a table, in order
 abbrev pub rowsOf : Table → List Row
 rowsOf t = inUse (t .rows)
+
+-- a table without its rows
+abbrev pub headOf : Table → Head
+headOf t = record { own = t .own; time = t .time; forwarded = t .forwarded; origin = t .origin; sequence = t .sequence }
+
+-- the table with this head and these rows
+abbrev pub tableOf : Head → List Row → Table
+tableOf h rs = record { own = h .own; time = h .time; forwarded = h .forwarded; origin = h .origin; sequence = h .sequence; rows = pad rs }
 
 -- the last pair forwarded: its original source is an address; where there is none, its fields are zero
 abbrev pub pairOk : Bool → ℕ → ℕ → Bool
@@ -54,33 +63,42 @@ emptyTable own time = record { own = own; time = time; forwarded = false; origin
 unfoldable pub freshOf : ℕ → ℕ → Changed
 freshOf own time = settled (first (reason (not (address own)) 4 ∷ [])) (emptyTable 0 0) (emptyTable own time)
 
--- lookup: 14 4 8 11, ..
-abbrev pub lookupReasons : Table → ℕ → ℕ → List Reason
-lookupReasons t d time =
-    let r = rowFor d (rowsOf t) in
-    reason (not (withinRule t)) 14 ∷
+-- why a table within rule does not answer the lookup of a destination, with this last accepted time and this row for it: 4 8 11, ..
+abbrev pub foundReasons : ℕ → Row → ℕ → ℕ → List Reason
+foundReasons last r d time =
     reason (not (address d)) 4 ∷
-    reason (not (inOrder (t .time) time)) 8 ∷
-    reason (not (eqb (r .destination) d && usable time r)) 11 ∷
+    reason (not (inOrder last time)) 8 ∷
+    reason (not (leads d time r)) 11 ∷
     []
+
+-- .. else the next hop and the hops of the usable row
+unfoldable pub foundBy : ℕ → Row → ℕ → ℕ → Said
+foundBy last r d time = unless (first (foundReasons last r d time)) (accepted (r .«next_hop» ∷ r .hops ∷ []))
+
+-- lookup: 14, then these, of the table's own row, ..
+abbrev pub lookupReasons : Table → ℕ → ℕ → List Reason
+lookupReasons t d time = reason (not (withinRule t)) 14 ∷ foundReasons (t .time) (rowFor d (rowsOf t)) d time
 
 abbrev pub lookupRefusal : Table → ℕ → ℕ → ℕ
 lookupRefusal t d time = first (lookupReasons t d time)
 
--- .. else the next hop and the hops of the usable row
+-- .. else its next hop and its hops
 unfoldable pub lookupOf : Table → ℕ → ℕ → Said
 lookupOf t d time =
     let r = rowFor d (rowsOf t) in
     unless (lookupRefusal t d time) (accepted (r .«next_hop» ∷ r .hops ∷ []))
 
--- forget: 14 4 6 8
-abbrev pub forgetReasons : Table → ℕ → ℕ → List Reason
-forgetReasons t unit time =
-    reason (not (withinRule t)) 14 ∷
+-- why a table within rule, of this unit and with this last accepted time, does not forget another: 4 6 8
+abbrev pub unforgottenReasons : ℕ → ℕ → ℕ → ℕ → List Reason
+unforgottenReasons own last unit time =
     reason (not (address unit)) 4 ∷
-    reason (eqb unit (t .own)) 6 ∷
-    reason (not (inOrder (t .time) time)) 8 ∷
+    reason (eqb unit own) 6 ∷
+    reason (not (inOrder last time)) 8 ∷
     []
+
+-- forget: 14, then these
+abbrev pub forgetReasons : Table → ℕ → ℕ → List Reason
+forgetReasons t unit time = reason (not (withinRule t)) 14 ∷ unforgottenReasons (t .own) (t .time) unit time
 
 unfoldable pub forgetOf : Table → ℕ → ℕ → Changed
 forgetOf t unit time = settled (first (forgetReasons t unit time)) t (withRows t time (map (forgotten unit time) (standing time (rowsOf t))))

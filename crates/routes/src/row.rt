@@ -2,7 +2,7 @@
 ghost use mathlib.Core.Path.{_≡_};
 ghost use mathlib.Core.Bool.{cond};
 ghost use Rattle.routes.specs.Places.{okRow};
-ghost use Rattle.routes.specs.Rows.{none, usable, leads, stands, rowRule, isNone, withdrawnAt, forgotten};
+ghost use Rattle.routes.specs.Rows.{none, usable, leads, stands, rowRule, isNone, withdrawnAt, lost, forgotten};
 use moments::age;
 use moments::in_order;
 
@@ -30,7 +30,7 @@ fn either(test: bool, first: Row, second: Row) -> Row
 
 impl Row {
     // A place that is not in use.
-    pub(crate) fn none() -> Row
+    pub fn none() -> Row
         ensures { λ r. ⌜ r ≡ none ⌝ }
     {
         Row {
@@ -58,14 +58,14 @@ impl Row {
     }
 
     // Whether it is not gone at this time.
-    pub(crate) fn stands(self, time: u32) -> bool
+    pub fn stands(self, time: u32) -> bool
         ensures { λ r. ⌜ r ≡ stands time self ⌝ }
     {
         age(time, self.time) <= lifetime(self.withdrawn)
     }
 
     // Whether it keeps the rules in the table of a unit, at its last accepted time.
-    fn good(self, own: u16, last: u32) -> bool
+    pub fn good(self, own: u16, last: u32) -> bool
         ensures { λ r. ⌜ r ≡ rowRule own last self ⌝ }
     {
         ((1 <= self.destination) & (self.destination <= 0xFFFE))
@@ -98,8 +98,15 @@ impl Row {
         }
     }
 
+    // Whether it is withdrawn when a unit is forgotten.
+    pub fn lost(self, unit: u16, time: u32) -> bool
+        ensures { λ r. ⌜ r ≡ lost unit time self ⌝ }
+    {
+        self.usable(time) & ((self.destination == unit) | (self.next_hop == unit))
+    }
+
     // The row when a unit is forgotten.
-    pub(crate) fn forgotten(self, unit: u16, time: u32) -> Row
+    pub fn forgotten(self, unit: u16, time: u32) -> Row
         ensures { λ r. ⌜ r ≡ forgotten unit time self ⌝ }
     {
         let withdrawn = Row {
@@ -110,7 +117,6 @@ impl Row {
             time,
             withdrawn: true,
         };
-        let lost = self.usable(time) & ((self.destination == unit) | (self.next_hop == unit));
-        either(lost, withdrawn, self)
+        either(self.lost(unit, time), withdrawn, self)
     }
 }

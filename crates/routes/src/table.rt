@@ -5,8 +5,9 @@ ghost use lib.ListN.{length};
 ghost use Rattle.routes.specs.Places.{okPlaces};
 ghost use Rattle.routes.specs.Rows.{forgotten, inUse, rowFor};
 ghost use Rattle.octets.specs.Answers.{accepted, unless};
-ghost use Rattle.routes.specs.Tables.{pairOk, withinRule, settled, emptyTable, freshOf, lookupOf, forgetOf};
-ghost use Rattle.routes.specs.Told.{toldFound};
+ghost use Rattle.octets.specs.Answers.{first};
+ghost use Rattle.routes.specs.Tables.{headOf, pairOk, withinRule, settled, emptyTable, freshOf, foundBy, lookupOf, unforgottenReasons, forgetOf};
+ghost use Rattle.routes.specs.Told.{toldFound, hopOf};
 use crate::row::Row;
 use crate::standing::standing_places;
 use frames::answers::Refusal;
@@ -21,6 +22,15 @@ pub struct Table {
     pub origin: u16,
     pub sequence: u16,
     pub rows: [Row; 48],
+}
+
+// A table without its rows.
+pub struct Head {
+    pub own: u16,
+    pub time: u32,
+    pub forwarded: bool,
+    pub origin: u16,
+    pub sequence: u16,
 }
 
 // What a changing call gives: the table, which is as it was where `refused` is not 0.
@@ -56,7 +66,7 @@ fn places_ok(own: u16, last: u32, rows: [Row; 48]) -> bool
 }
 
 // The pair of the last beacon forwarded, or zeros.
-fn pair_ok(forwarded: bool, origin: u16, sequence: u16) -> bool
+pub fn pair_ok(forwarded: bool, origin: u16, sequence: u16) -> bool
     ensures { λ r. ⌜ r ≡ pairOk forwarded origin sequence ⌝ }
 {
     if forwarded {
@@ -115,7 +125,7 @@ fn zeros(own: u16, time: u32) -> Table
 }
 
 // The table that a call gives: the new one, or the old one with the number that refuses the call.
-fn settled(refused: u8, old: Table, new: Table) -> Changed
+pub fn settled(refused: u8, old: Table, new: Table) -> Changed
     ensures { λ r. ⌜ r ≡ settled refused old new ⌝ }
 {
     if refused == 0 {
@@ -142,6 +152,52 @@ fn answered(refused: u8, row: Row) -> Found
     Found::Refused(Refusal { number: refused })
 }
 
+// What a table within rule answers to a lookup, where it has this last accepted time and this row for the destination: a table by value and one that
+// lies in bytes find the row in their own ways.
+pub fn found_by(last: u32, row: Row, destination: u16, time: u32) -> Found
+    ensures { λ r. ⌜ toldFound r ≡ foundBy last row destination time ⌝ }
+{
+    let address = (1 <= destination) & (destination <= 0xFFFE);
+    let refused = refuse_if(!row.leads(destination, time), 11, 0);
+    let refused = refuse_if(!in_order(last, time), 8, refused);
+    answered(refuse_if(!address, 4, refused), row)
+}
+
+// Why a table within rule of the unit `own`, with this last accepted time, does not forget a unit; 0 where it does.
+pub fn why_unforgotten(own: u16, last: u32, unit: u16, time: u32) -> u8
+    ensures { λ r. ⌜ r ≡ first (unforgottenReasons own last unit time) ⌝ }
+{
+    let address = (1 <= unit) & (unit <= 0xFFFE);
+    let refused = refuse_if(!in_order(last, time), 8, 0);
+    let refused = refuse_if(unit == own, 6, refused);
+    refuse_if(!address, 4, refused)
+}
+
+impl Found {
+    // The number that refuses it, 0 where there is a hop.
+    pub fn refusal(self) -> u8
+        ensures { λ r. ⌜ r ≡ toldFound self .refusal ⌝ }
+    {
+        match self {
+            Found::Hop(_) => 0,
+            Found::Refused(refusal) => refusal.number,
+        }
+    }
+
+    // The next hop and how far it is, none where it is refused.
+    pub fn hop(self) -> Hop
+        ensures { λ r. ⌜ r ≡ hopOf (toldFound self) ⌝ }
+    {
+        match self {
+            Found::Hop(hop) => hop,
+            Found::Refused(_) => Hop {
+                next_hop: 0,
+                hops: 0,
+            },
+        }
+    }
+}
+
 impl Table {
     // An empty table; a unit that is no address is refused, with zeros.
     pub fn fresh(own: u16, time: u32) -> Changed
@@ -149,6 +205,18 @@ impl Table {
     {
         let address = (1 <= own) & (own <= 0xFFFE);
         settled(refuse_if(!address, 4, 0), zeros(0, 0), zeros(own, time))
+    }
+
+    pub fn head(self) -> Head
+        ensures { λ r. ⌜ r ≡ headOf self ⌝ }
+    {
+        Head {
+            own: self.own,
+            time: self.time,
+            forwarded: self.forwarded,
+            origin: self.origin,
+            sequence: self.sequence,
+        }
     }
 
     // Whether it is a table as document 01 says.
@@ -165,13 +233,11 @@ impl Table {
     pub fn lookup(self, destination: u16, time: u32) -> Found
         ensures { λ r. ⌜ toldFound r ≡ lookupOf self destination time ⌝ }
     {
+        if !self.within_rule() {
+            return Found::Refused(Refusal { number: 14 });
+        }
         let rows = self.rows;
-        let row = row_for(rows, destination);
-        let address = (1 <= destination) & (destination <= 0xFFFE);
-        let refused = refuse_if(!row.leads(destination, time), 11, 0);
-        let refused = refuse_if(!in_order(self.time, time), 8, refused);
-        let refused = refuse_if(!address, 4, refused);
-        answered(refuse_if(!self.within_rule(), 14, refused), row)
+        found_by(self.time, row_for(rows, destination), destination, time)
     }
 
     // Withdraws all usable rows to a unit or through it.
@@ -179,10 +245,7 @@ impl Table {
         ensures { λ r. ⌜ r ≡ forgetOf self unit time ⌝ }
     {
         let rows = self.rows;
-        let address = (1 <= unit) & (unit <= 0xFFFE);
-        let refused = refuse_if(!in_order(self.time, time), 8, 0);
-        let refused = refuse_if(unit == self.own, 6, refused);
-        let refused = refuse_if(!address, 4, refused);
+        let refused = why_unforgotten(self.own, self.time, unit, time);
         let refused = refuse_if(!self.within_rule(), 14, refused);
         let next = forgotten_rows(standing_places(rows, time), unit, time);
         settled(

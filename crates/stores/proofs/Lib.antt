@@ -1,4 +1,3 @@
 pub mod SizeLaws
-pub mod StateTripLaws
 pub mod TableByteLaws
 pub mod TableTripLaws

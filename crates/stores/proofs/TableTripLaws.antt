@@ -18,6 +18,7 @@ use Rattle.octets.proofs.ListLaws.{length-tab, getD-tab, every-at}
 use Rattle.octets.proofs.RunLaws.{run-read, run-kept}
 use Rattle.routes.specs.declared.row.Row.{Row}
 use Rattle.routes.specs.declared.table.Table.{Table}
+use Rattle.routes.specs.Tables.{headOf}
 use Rattle.stores.specs.TableBytes.{flag, rowWidths, rowValues, rowFrom, rowAt, rowsBytes, headWidths, headValues, tableFrom, tableIn, tableBytes, flagsOk, isTable}
 use Rattle.stores.specs.TableTrips.{RowsFit, Sized, ReadsBack, WritesTables, WritesBack}
 use Rattle.stores.proofs.TableByteLaws.{rows-run, length-head, length-table}
@@ -55,15 +56,15 @@ flags-small [] = refl
 flags-small (r ∷ rs) = rw (flag-small (r .withdrawn)) (flags-small rs)
 
 module _ (t : Table) (z : Sized t) where
-  head-read : fields headWidths (tableBytes t) 0 ≡ headValues t
+  head-read : fields headWidths (tableBytes t) 0 ≡ headValues (headOf t)
   unfolding tableBytes
-  head-read = fields-bytes headWidths (headValues t) [] (rowsBytes (t .rows)) 0 refl (z .head)
+  head-read = fields-bytes headWidths (headValues (headOf t)) [] (rowsBytes (t .rows)) 0 refl (z .head)
 
   all-read : {A : Type 0} (say : List ℕ → A) (f : ℕ → A) → ((i : ℕ) → f i ≡ say (fields rowWidths (tableBytes t) (11 + 11 * i)))
       → tab 48 f ≡ map (λ r. say (rowValues r)) (t .rows)
   unfolding tableBytes
   all-read say f e =
-      rw (z .places) at (run-read rows-run RowsFit (λ r rs h. h) say f (t .rows) (bytes headWidths (headValues t)) 11 (length-head t) (z .fit) e)
+      rw (z .places) at (run-read rows-run RowsFit (λ r rs h. h) say f (t .rows) (bytes headWidths (headValues (headOf t))) 11 (length-head (headOf t)) (z .fit) e)
 
 pub reads-back : ReadsBack
 unfolding tableIn rowAt
@@ -80,11 +81,11 @@ writes-tables t z =
 
 -- ---- what was read, written
 module _ (s : List ℕ) (b : Bytes s) where
-  row-kept : (at : ℕ) → at + 11 ≤ length s → leb (getD (fields rowWidths s at) 5 0) 1 ≡ true
+  pub row-kept : (at : ℕ) → at + 11 ≤ length s → leb (getD (fields rowWidths s at) 5 0) 1 ≡ true
       → bytes rowWidths (rowValues (rowFrom (fields rowWidths s at))) ≡ take 11 (drop at s)
   row-kept at l h = rw (flag-kept (getD (fields rowWidths s at) 5 0) h) (bytes-fields s b rowWidths at l)
 
-  flagged : (n : ℕ) → flagsOk n s ≡ true → (i : ℕ) → i < n → leb (getD (fields rowWidths s (11 + 11 * i)) 5 0) 1 ≡ true
+  pub flagged : (n : ℕ) → flagsOk n s ≡ true → (i : ℕ) → i < n → leb (getD (fields rowWidths s (11 + 11 * i)) 5 0) 1 ≡ true
   flagged n h i l =
       let flags : ℕ → ℕ = λ i. num 1 s (21 + 11 * i) in
       rw (getD-tab n flags i 0 l, flag-place s i) at (every-at (λ v. leb v 1) (tab n flags) i 0 h (rw (length-tab n flags) l))

@@ -1,4 +1,3 @@
-pub mod StateBytes
-pub mod StateTrips
+pub mod StoredTables
 pub mod TableBytes
 pub mod TableTrips

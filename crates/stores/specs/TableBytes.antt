@@ -4,13 +4,16 @@
 use Prim.Native.Nat.{ℕ, _+_, _*_}
 use mathlib.Core.Bool.{Bool, _&&_, cond}
 use mathlib.Core.List.{List, [], _∷_, _++_}
-use lib.Dec.{eqb, leb}
+use lib.Dec.{eqb, leb, ltb}
 use lib.ListN.{length, getD}
 use Rattle.octets.specs.Layouts.{fields, bytes}
 use Rattle.octets.specs.Lists.{tab, every}
 use Rattle.octets.specs.Numbers.{num}
 use Rattle.routes.specs.declared.row.Row.{Row}
+use Rattle.routes.specs.declared.table.Head.{Head}
 use Rattle.routes.specs.declared.table.Table.{Table}
+use Rattle.routes.specs.Rows.{none, inUse}
+use Rattle.routes.specs.Tables.{headOf, withinRule}
 
 -- a flag is a byte, 0 or 1
 abbrev pub flag : Bool → ℕ
@@ -47,8 +50,8 @@ rowsBytes (r ∷ rs) = bytes rowWidths (rowValues r) ++ rowsBytes rs
 abbrev pub headWidths : List ℕ
 headWidths = 2 ∷ 4 ∷ 1 ∷ 2 ∷ 2 ∷ []
 
-abbrev pub headValues : Table → List ℕ
-headValues t = t .own ∷ t .time ∷ flag (t .forwarded) ∷ t .origin ∷ t .sequence ∷ []
+abbrev pub headValues : Head → List ℕ
+headValues h = h .own ∷ h .time ∷ flag (h .forwarded) ∷ h .origin ∷ h .sequence ∷ []
 
 -- the table with the values vs in its head, and these rows
 abbrev pub tableFrom : List ℕ → List Row → Table
@@ -67,7 +70,18 @@ unfoldable pub tableIn : List ℕ → Table
 tableIn s = tableFrom (fields headWidths s 0) (tab 48 (rowAt s))
 
 unfoldable pub tableBytes : Table → List ℕ
-tableBytes t = bytes headWidths (headValues t) ++ rowsBytes (t .rows)
+tableBytes t = bytes headWidths (headValues (headOf t)) ++ rowsBytes (t .rows)
+
+-- a buffer that has as many bytes as a table, with those of one; any other as it was
+unfoldable pub tableOver : List ℕ → Table → List ℕ
+tableOver s t = cond (eqb (length s) 539) (tableBytes t) s
+
+-- ---- the rows that bytes hold, looked at place by place: none in bytes of another number than a table has
+unfoldable pub placeOf : List ℕ → ℕ → Row
+placeOf s i = cond (eqb (length s) 539 && ltb i 48) (rowAt s i) none
+
+abbrev pub rowsIn : List ℕ → List Row
+rowsIn s = inUse (tab 48 (placeOf s))
 
 -- ---- bytes that are a table: 539, and each flag is 0 or 1
 -- the flags of the first n rows
@@ -76,3 +90,7 @@ flagsOk n s = every (λ v. leb v 1) (tab n (λ i. num 1 s (21 + 11 * i)))
 
 unfoldable pub isTable : List ℕ → Bool
 isTable s = eqb (length s) 539 && leb (num 1 s 6) 1 && flagsOk 48 s
+
+-- bytes that hold a table within rule
+unfoldable pub holdsTable : List ℕ → Bool
+holdsTable s = isTable s && withinRule (tableIn s)

@@ -8,6 +8,7 @@ use lib.ListN.{length}
 use Rattle.octets.specs.Layouts.{Fit, Bytes}
 use Rattle.routes.specs.declared.row.Row.{Row}
 use Rattle.routes.specs.declared.table.Table.{Table}
+use Rattle.routes.specs.Tables.{headOf}
 use Rattle.stores.specs.TableBytes.{rowWidths, rowValues, headWidths, headValues, tableIn, tableBytes, isTable}
 
 -- the numbers of every row fit their bytes
@@ -18,7 +19,7 @@ RowsFit (r ∷ rs) = Fit rowWidths (rowValues r) × RowsFit rs
 -- a table as the code can have it: 48 places, and every number fits its bytes
 pub record Sized (t : Table) : Type 0 where
   pub places : length (t .rows) ≡ 48
-  pub head : Fit headWidths (headValues t)
+  pub head : Fit headWidths (headValues (headOf t))
   pub fit : RowsFit (t .rows)
 
 -- reading what was written gives the table

@@ -1,3 +1,2 @@
 // Stores: what a C caller keeps for us between two calls, as bytes of a fixed length.
-pub mod states;
 pub mod tables;

@@ -1,26 +1,27 @@
 -- `braidlark_table_fresh`: the fresh table, over as many bytes as it has.
 -- Assumes nothing.
-use mathlib.Core.Path.{ap₂}
-use borrow.Author.Tests.{eqb-true}
-use lib.Dec.{eqb}
-use lib.ListN.{length}
-use Rattle.router.specs.TableCalls.{tableLeft, freshCall}
-use Rattle.octets.proofs.CallLaws.{written-back}
+use Rattle.router.proofs.TableCallLaws.{fresh-refused, fresh-written}
 use borrow.Author.Needs.{needs}
 use Rattle.router.proofs.table_calls.braidlark_table_fresh.Statement.{statement}
 use Rattle.router.proofs.table_calls.braidlark_table_fresh.Tie as tie
 
 returns : tie.Need-returns
-unfolding freshCall
 returns c =
-    let back = c .before .before in
-    let fresh = back .before .before .before .before in
-    let s = fresh .before .before .args .table .now in
-    let (status, table) =
-    written-back 539 s _ _ _ _ (back .write-back .ensures) (eqb (length s) 539) (fresh .fresh .result .refused)
-    (eqb-true (length s) 539) (back .before .before .refuse-if .ensures) in
-    rw (← fresh .fresh .ensures) (ap₂ tableLeft status table)
+    let refused = c .before in
+    let fresh = refused .before in
+    let a = fresh .before .before .args in
+    fresh-refused (a .table .now) (a .own) (a .time) (fresh .fresh .result) (fresh .fresh .ensures) (refused .refuse-if .result) (refused .refuse-if .ensures) (c .if1 .taken)
+
+returns-2 : tie.Need-returns-2
+returns-2 c =
+    let put = c .before .before in
+    let head = put .before in
+    let test = head .before .before .before in
+    let refused = test .before in
+    let fresh = refused .before in
+    let a = fresh .before .before .args in
+    fresh-written (a .table .now) (a .own) (a .time) (fresh .fresh .result) (fresh .fresh .ensures) (refused .refuse-if .result) (refused .refuse-if .ensures) (test .if1 .left) (head .head .result) (head .head .ensures) _ (put .put-empty .ensures)
 
 pub braidlark-table-fresh-spec : {M : Type 1} → statement M
 braidlark-table-fresh-spec =
-    tie.close (tie.spec (λ c κs. search needs) (λ c κs. search needs) (λ c κs. search needs) (λ c. search needs) returns)
+    tie.close (tie.spec (λ c κs. search needs) (λ c κs. search needs) returns (λ c κs. search needs) (λ c κs. search needs) (λ c. search needs) returns-2)

@@ -1,4 +1,4 @@
--- `braidlark_merge`: what merging gives of the stored table.
+-- `braidlark_merge`: what merging leaves of the stored table.
 -- Assumes nothing.
 use Rattle.router.proofs.UpdateCallLaws.{unmerged, merged}
 use borrow.Author.Needs.{needs}
@@ -7,22 +7,16 @@ use Rattle.router.proofs.update_calls.braidlark_merge.Tie as tie
 
 returns : tie.Need-returns
 returns c =
-    let back = c .before .before .before in
-    let call = back .before .before .before .before in
-    let known = call .before .before .before in
-    let a = known .before .before .before .before .args in
-    unmerged (a .table .now) (a .frame .now) (a .quality) (a .time) _ _ (known .is-table .result) (call .before .table-of .result) (call .merge .result) _ _ (known .is-table .ensures)
-    (call .before .table-of .ensures) (call .merge .ensures) (back .before .before .refuse-if .ensures) (back .write-back .ensures) (c .if1 .taken)
+    let d = c .before .before .before .before in
+    let a = d .before .before .before .before .args in
+    unmerged (a .table .now) (a .frame .now) (a .quality) (a .time) _ (d .merge-in .result) _ (d .merge-in .ensures) (c .if1 .taken)
 
 returns-2 : tie.Need-returns-2
 returns-2 c =
-    let back = c .before .before .before in
-    let call = back .before .before .before .before in
-    let known = call .before .before .before in
-    let a = known .before .before .before .before .args in
-    merged (a .table .now) (a .frame .now) (a .quality) (a .time) _ _ (known .is-table .result) (call .before .table-of .result) (call .merge .result) _ _ (known .is-table .ensures)
-    (call .before .table-of .ensures) (call .merge .ensures) (back .before .before .refuse-if .ensures) (back .write-back .ensures) (c .if1 .left)
+    let d = c .before .before .before .before in
+    let a = d .before .before .before .before .args in
+    merged (a .table .now) (a .frame .now) (a .quality) (a .time) _ (d .merge-in .result) _ (d .merge-in .ensures) (c .if1 .left)
 
 pub braidlark-merge-spec : {M : Type 1} → statement M
 braidlark-merge-spec =
-    tie.close (tie.spec (λ c κs. search needs) (λ c κs. search needs) (λ c κs. search needs) (λ c κs. search needs) (λ c κs. search needs) (λ c. search needs) returns (λ c. search needs) returns-2)
+    tie.close (tie.spec (λ c κs. search needs) (λ c. search needs) returns (λ c. search needs) returns-2)

@@ -16,7 +16,7 @@ returns c =
     let time = forwarded .before .before .before .before .before in
     let own = time .before .before .before .before in
     let a = own .before .before .before .args in
-    all-put (now (a .out)) 0 headWidths (headValues (a .table)) _
+    all-put (now (a .out)) 0 headWidths (headValues (a .head)) _
     (put (own .put16 .ensures) refl
     (put (time .put32 .ensures) refl
     (put (rw (forwarded .before .flag .ensures) at (forwarded .put8 .ensures)) refl (put (origin .put162 .ensures) refl (put (sequence .put163 .ensures) refl done)))))

@@ -1,57 +1,50 @@
--- `put_rows`'s loop: to write the rows that are left is to write them all.
+-- `put_rows`'s loop: to store the rows in use that are left is to store them all.
 -- Assumes nothing.
-use mathlib.Core.Path.{_≡_, refl, _∙_}
-use Prim.Native.Nat.{_+_, _*_, _≤_, _-_}
+use mathlib.Core.Path.{refl, sym, _∙_}
+use Prim.Native.Nat.{_-_}
 use native.Mathlib.Omega.{arith}
-use lib.ListN.{length, drop, drop-of-length-le}
-use lib.Seq.{sets}
-use Rattle.octets.proofs.RunLaws.{part-turn, cut-turn}
-use Rattle.stores.specs.TableBytes.{rowsBytes}
-use Rattle.stores.proofs.TableByteLaws.{rows-run}
+use Rattle.stores.proofs.TableByteLaws.{Storing, stored-end, stored-last, stored-on}
 use borrow.Author.Needs.{needs}
 use Rattle.stores.proofs.tables.put_rows.Statement.{statement}
 use Rattle.stores.proofs.tables.put_rows.Tie as tie
 
 abbrev Inv-loop : tie.InvT-loop
-Inv-loop out₀ rows written₀ out written = (written ≤ 48) × (length out ≡ length out₀) × (sets out (11 + 11 * written) (rowsBytes (drop written rows)) ≡ sets out₀ 11 (rowsBytes rows))
+Inv-loop out₀ rows used₀ out used = Storing out₀ out rows used
 
 abbrev μ-loop : tie.MeasureT-loop
-μ-loop out₀ rows written₀ out written = 48 - written
+μ-loop out₀ rows used₀ out used = 48 - used
 
 loop-holds : tie.Need-loop-holds Inv-loop μ-loop
-loop-holds c = (search needs, refl, refl)
+loop-holds c = record { within = omega arith; long = c .before .pre; rest = refl; count = omega arith }
 
 same-length : tie.Need-same-length Inv-loop μ-loop
-same-length c = search needs
+same-length c =
+    let at = c .before .before .before .before in
+    at .loop .inv .long ∙ sym (at .before .before .pre)
 
--- the row that the end cuts
 returns : tie.Need-returns Inv-loop μ-loop
 returns c =
-    let cut = c .before .before in
-    let test = cut .before .before in
-    let l = test .before .before .before .loop in
-    let rows = test .before .before .before .before .before .args .t2 in
-    (cut .put-row .ensures ∙ (cut-turn rows-run (l .out) rows 11 (l .written) _ (search needs) (test .if1 .taken) ∙ l .inv .2), search needs)
+    let at = c .before .before .before .before in
+    let a = at .before .before .args in
+    stored-end (a .out .now) (at .loop .out) (a .t2) (at .loop .used) (search needs) (at .loop .inv) (search needs) (c .if1 .taken)
 
 loop-again : tie.Need-loop-again Inv-loop μ-loop
 loop-again c =
     let put = c .before .before in
     let test = put .before .before in
-    let l = test .before .before .before .loop in
-    let rows = test .before .before .before .before .before .args .t2 in (
-      search needs,
-      search needs,
-      part-turn rows-run (l .out) rows 11 (l .written) _ (search needs) _ (test .if1 .left) (put .put-row2 .ensures) ∙ l .inv .2,
-    )
+    let at = test .before .before .before .before in
+    let a = at .before .before .args in
+    stored-on (a .out .now) (at .loop .out) (a .t2) (at .loop .used) (search needs) (at .loop .inv) _ (search needs) (test .if1 .left) (put .put-row .ensures) _ refl (search needs)
+
+same-length-2 : tie.Need-same-length-2 Inv-loop μ-loop
+same-length-2 c = c .before .loop .inv .long ∙ sym (c .before .before .before .pre)
 
 returns-2 : tie.Need-returns-2 Inv-loop μ-loop
 returns-2 c =
-    let l = c .before .loop in
-    let rows = c .before .before .before .args .t2 in
-    let n : length rows ≡ 48 = search needs in
-    let h : length rows ≤ l .written = omega arith in
-    (rw (drop-of-length-le rows h) at (l .inv .2), n)
+    let at = c .before in
+    let a = at .before .before .args in
+    stored-last (a .out .now) (at .loop .out) (a .t2) (at .loop .used) (search needs) (at .loop .inv) (search needs)
 
 pub put-rows-spec : {M : Type 1} → statement M
 put-rows-spec =
-    tie.close (tie.spec Inv-loop μ-loop loop-holds (λ c. search needs) (λ c. search needs) (λ c. search needs) (λ c. search needs) (λ c. search needs) (λ c. search needs) (λ c. search needs) (λ c. search needs) (λ c κs. search needs) same-length returns (λ c. search needs) (λ c. search needs) (λ c. search needs) (λ c κs. search needs) (λ c. search needs) (λ c. search needs) loop-again (λ c. search needs) returns-2)
+    tie.close (tie.spec Inv-loop μ-loop loop-holds (λ c. search needs) (λ c. search needs) (λ c. search needs) same-length returns (λ c. search needs) (λ c. search needs) (λ c. search needs) (λ c. search needs) (λ c. search needs) (λ c. search needs) (λ c. search needs) (λ c κs. search needs) (λ c. search needs) (λ c. search needs) loop-again same-length-2 returns-2)

@@ -6,7 +6,7 @@ use Rattle.routes.proofs.row.Row.forgotten.Statement.{statement}
 use Rattle.routes.proofs.row.Row.forgotten.Tie as tie
 
 returns : tie.Need-returns
-returns c = c .either .ensures ∙ rw (c .before .before .before .usable .ensures)
+returns c = c .either .ensures ∙ rw (c .before .lost .ensures)
 
 pub forgotten-spec : {M : Type 1} → statement M
 forgotten-spec = tie.close (tie.spec (λ c κs. search needs) (λ c κs. search needs) returns)

@@ -11,19 +11,13 @@ use Rattle.routes.proofs.table.Table.forget.Tie as tie
 returns : tie.Need-returns
 returns c =
     let whole = c .before .before .before in
-    let first = whole .before .before .before .before .before in
-    let a = first .before .before .before .args in
+    let why = whole .before .before in
+    let a = why .before .before .args in
     c .settled .ensures ∙
-    forgets (a .self) (a .unit) (a .time) (whole .refuse-if4 .result) (c .before .forgotten-rows .result) (c .before .before .standing-places .ensures .1)
-    (rw (
-      ← whole .before .within-rule .ensures,
-      ← first .before .in-order .ensures,
-      ← first .refuse-if .ensures,
-      ← whole .before .before .before .refuse-if2 .ensures,
-      ← whole .before .before .refuse-if3 .ensures,
-    ) (whole .refuse-if4 .ensures))
+    forgets (a .self) (a .unit) (a .time) (whole .refuse-if .result) (c .before .forgotten-rows .result) (c .before .before .standing-places .ensures .1)
+    (rw (← whole .before .within-rule .ensures, ← why .why-unforgotten .ensures) (whole .refuse-if .ensures))
     (c .before .forgotten-rows .ensures ∙ ap (map (forgotten (a .unit) (a .time))) (c .before .before .standing-places .ensures .0))
 
 pub forget-spec : {M : Type 1} → statement M
 forget-spec =
-    tie.close (tie.spec (λ c κs. search needs) (λ c κs. search needs) (λ c κs. search needs) (λ c κs. search needs) (λ c κs. search needs) (λ c κs. search needs) (λ c κs. search needs) (λ c κs. search needs) (λ c κs. search needs) returns)
+    tie.close (tie.spec (λ c κs. search needs) (λ c κs. search needs) (λ c κs. search needs) (λ c κs. search needs) (λ c κs. search needs) (λ c κs. search needs) returns)

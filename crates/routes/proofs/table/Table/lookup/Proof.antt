@@ -1,28 +1,24 @@
--- `Table::lookup`: the first refusal, or the row's next hop.
+-- `Table::lookup`: a table out of rule, or what its row for the destination answers.
 -- Assumes nothing.
-use mathlib.Core.Path.{_∙_}
-use Rattle.routes.specs.Tables.{lookupOf}
+use mathlib.Core.Path.{_∙_, sym}
+use borrow.Author.Tests.{not-true, not-false}
+use Rattle.routes.proofs.LookupLaws.{looked-up, not-looked-up}
 use borrow.Author.Needs.{needs}
 use Rattle.routes.proofs.table.Table.lookup.Statement.{statement}
 use Rattle.routes.proofs.table.Table.lookup.Tie as tie
 
 returns : tie.Need-returns
-unfolding lookupOf
 returns c =
-    let third = c .before .before .before in
-    let first = third .before .before .before in
-    c .answered .ensures ∙
-    rw (
-      c .before .refuse-if4 .ensures,
-      third .refuse-if3 .ensures,
-      third .before .refuse-if2 .ensures,
-      first .refuse-if .ensures,
-      c .before .before .within-rule .ensures,
-      third .before .before .in-order .ensures,
-      first .before .leads .ensures,
-      first .before .before .row-for .ensures,
-    )
+    let a = c .before .before .args in
+    sym (not-looked-up (a .self) (a .destination) (a .time) (sym (c .before .within-rule .ensures) ∙ not-true _ (c .if1 .taken)))
+
+returns-2 : tie.Need-returns-2
+returns-2 c =
+    let rule = c .before .before .before in
+    let a = rule .before .before .args in
+    c .found-by .ensures ∙
+    rw (c .before .row-for .ensures)
+    (sym (looked-up (a .self) (a .destination) (a .time) (sym (rule .before .within-rule .ensures) ∙ not-false _ (rule .if1 .left))))
 
 pub lookup-spec : {M : Type 1} → statement M
-lookup-spec =
-    tie.close (tie.spec (λ c κs. search needs) (λ c κs. search needs) (λ c κs. search needs) (λ c κs. search needs) (λ c κs. search needs) (λ c κs. search needs) (λ c κs. search needs) (λ c κs. search needs) (λ c κs. search needs) returns)
+lookup-spec = tie.close (tie.spec (λ c κs. search needs) returns (λ c κs. search needs) (λ c κs. search needs) returns-2)

@@ -1,0 +1,3 @@
+// Forwards: beacons that a unit passes on, by a table by value or in bytes.
+pub mod forwarding;
+mod writing;

@@ -1,0 +1,4 @@
+pub mod ChangeLaws
+pub mod FindLaws
+pub mod JudgedLaws
+pub mod KeepLaws

@@ -1,0 +1,6 @@
+pub mod AlikeLaws
+pub mod EntryLaws
+pub mod PageLaws
+pub mod PlaceLaws
+pub mod StoredLaws
+pub mod WalkLaws

@@ -7,6 +7,10 @@
 #include <stdio.h>
 #include <string.h>
 
+#if BRAIDLARK_VERSION_MAJOR != 1 || !defined BRAIDLARK_VERSION_MINOR
+#error "these are the calls of version 1"
+#endif
+
 enum { NETWORK = 1, MANAGER = 0x0100, UNIT = 0x0201, FAR_UNIT = 0x0300, STRANGER = 0x0400 };
 enum { MAX_HOPS = 3, ROWS = 4, DATA_SLOTS = 6, SLOT_MS = 1000, SLOTS = 54 };
 enum { NOW = 1000000, QUALITY = 200 };

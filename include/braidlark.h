@@ -20,6 +20,13 @@
 extern "C" {
 #endif
 
+/*
+ * ---- the version of this interface: MAJOR is raised where a call or a buffer's length changes, MINOR where something is
+ * only added; docs/changes says what a caller has to change
+ */
+#define BRAIDLARK_VERSION_MAJOR 1
+#define BRAIDLARK_VERSION_MINOR 0
+
 /* ---- refusals */
 #define BRAIDLARK_ACCEPTED 0
 #define BRAIDLARK_BAD_LENGTH 1     /* frame empty, over 255 bytes, or not as long as its type and count say */

@@ -1,22 +1,38 @@
 -- The numbers of a plan, and what its rule makes of them.
 -- Assumes nothing.
-use mathlib.Core.Path.{_≡_, refl, sym, _∙_}
+use mathlib.Core.Path.{_≡_, refl, sym, ap, _∙_}
 use mathlib.Core.Bool.{Bool, true, false, _&&_, and-eq-true-iff, false≢true}
-use Prim.Native.Nat.{ℕ, _*_, _≤_, _<_, _^_}
+use mathlib.Core.List.{List}
+use Prim.Native.Nat.{ℕ, _+_, _*_, _≤_, _<_, _^_}
 use native.Mathlib.Omega.{arith}
 use native.Mathlib.Nat.{mul-le-mul, mul-le-mul-right}
-use borrow.Author.Tests.{leb-true, le-leb}
-use lib.Dec.{leb}
+use mir.Val.{boolByte}
+use borrow.Author.Tests.{leb-true, le-leb, ltb-true, ltb-false}
+use lib.Dec.{leb, ltb}
+use lib.ListN.{getD}
+use Rattle.octets.specs.Lists.{tab}
+use Rattle.octets.proofs.ListLaws.{getD-tab}
 use Rattle.shapes.specs.Rules.{address, network}
 use Rattle.site.specs.declared.plan.Plan.{Plan}
-use Rattle.site.specs.Plans.{planRule, active, slotsIn, superframeMs}
-use Rattle.site.specs.Laws.{RuleBounds}
+use Rattle.site.specs.Plans.{planRule, discoverySlots, active, slotsIn, superframeMs}
+use Rattle.site.specs.Laws.{LengthsByTable, RuleBounds}
 
--- ---- the time of a superframe
+-- ---- the length of a superframe and its time
+pub lengths-by-table : LengthsByTable
+lengths-by-table lengths e active h = ap (λ (l : List ℕ). getD l active 0) e ∙ getD-tab 51 slotsIn active 0 (omega (arith, h))
+
+-- past the table it is the most
+pub past-table : (active : ℕ) → 50 < active → 100 ≡ slotsIn active
+unfolding slotsIn
+past-table active h = omega (arith, h)
+
 -- no superframe is longer than 100 slots
 few-slots : (active : ℕ) → slotsIn active ≤ 100
 unfolding slotsIn
 few-slots active = omega arith
+
+pub length-fits : (lengths : List ℕ) → lengths ≡ tab 51 slotsIn → (active : ℕ) → active ≤ 50 → getD lengths active 0 < 2 ^ 32
+length-fits lengths e active h = omega (arith, lengths-by-table lengths e active h, few-slots active)
 
 -- so its time fits into 32 bits
 pub superframe-fits : (active slots ms : ℕ) → slots ≡ slotsIn active → ms < 2 ^ 16 → slots * ms < 2 ^ 32
@@ -24,6 +40,25 @@ superframe-fits active slots ms e h =
     let few : slots ≤ 100 = omega (arith, e, few-slots active) in
     let short : ms ≤ 65535 = omega (arith, h) in
     omega (arith, mul-le-mul few short)
+
+-- ---- discovery
+-- a test, as a number
+pub test-few : (b : Bool) → boolByte b ≤ 1
+test-few true = omega arith
+test-few false = omega arith
+
+-- from two slots on there is one more from the 7th, the 10th and the 13th row on
+pub by-steps : (rows : ℕ) → 2 + boolByte (ltb 6 rows) + boolByte (ltb 9 rows) + boolByte (ltb 12 rows) ≡ discoverySlots rows
+by-steps rows = go (ltb 6 rows) (ltb 9 rows) (ltb 12 rows) refl refl refl
+  where
+    go : (a b c : Bool) → ltb 6 rows ≡ a → ltb 9 rows ≡ b → ltb 12 rows ≡ c → 2 + boolByte a + boolByte b + boolByte c ≡ discoverySlots rows
+    go true true true p q r = omega (arith, ltb-true 12 rows r)
+    go true true false p q r = omega (arith, ltb-true 9 rows q, ltb-false 12 rows r)
+    go true false true p q r = omega (arith, ltb-false 9 rows q, ltb-true 12 rows r)
+    go true false false p q r = omega (arith, ltb-true 6 rows p, ltb-false 9 rows q)
+    go false true c p q r = omega (arith, ltb-false 6 rows p, ltb-true 9 rows q)
+    go false false true p q r = omega (arith, ltb-false 9 rows q, ltb-true 12 rows r)
+    go false false false p q r = omega (arith, ltb-false 6 rows p)
 
 -- ---- the rule
 -- what its bounds rest on, and that its network and its manager are such

@@ -2,13 +2,20 @@
 -- Assumes nothing.
 use mathlib.Core.Path.{_≡_}
 use mathlib.Core.Bool.{true, false, _&&_, _||_}
-use mathlib.Core.List.{[], _∷_}
+use mathlib.Core.List.{List, [], _∷_}
 use Prim.Native.Nat.{ℕ, _-_, _<_, _≤_}
 use lib.Dec.{eqb}
+use lib.ListN.{getD}
+use Rattle.octets.specs.Lists.{tab}
 use Rattle.slots.specs.Sets.{Slots, has, disjoint}
 use Rattle.site.specs.declared.plan.Plan.{Plan}
-use Rattle.site.specs.Plans.{planRule, slots, dataAt, sleepAt}
+use Rattle.site.specs.Plans.{planRule, slotsIn, slots, dataAt, sleepAt}
 use Rattle.site.specs.Schedules.{tx, controlTx, sleep, sends, listens, inBeacons, inControls, inData, inDiscovery, regions, howMany, controlSlot, dataSlot, beaconKind, controlKind, dataKind, discoveryKind, kindOf}
+
+-- ---- the length of a superframe
+-- a table that is the definition entry by entry, for 0 to 50 active slots, gives the length for each of them
+abbrev pub LengthsByTable : Type 0
+LengthsByTable = (lengths : List ℕ) → lengths ≡ tab 51 slotsIn → (active : ℕ) → active ≤ 50 → getD lengths active 0 ≡ slotsIn active
 
 -- ---- plans
 -- how large a plan can be, and that all its regions are among its slots

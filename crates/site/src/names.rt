@@ -26,8 +26,6 @@ impl Plan {
 
     pub const FEWEST_DISCOVERY_SLOTS: u16 = 2;
 
-    pub const MOST_DISCOVERY_SLOTS: u16 = 5;
-
     pub const MOST_ACTIVE: u16 = 50;
 
     pub const MOST_SLOTS: u32 = 100;

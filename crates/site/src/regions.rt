@@ -7,27 +7,20 @@ use crate::plan::Plan;
 fn slots_in(active: u16) -> u32
     ensures { λ r. ⌜ r ≡ slotsIn active ⌝ }
 {
-    let wanted = (10 * active as u32 + 2) / 3;
-    if wanted < Plan::MOST_SLOTS {
-        wanted
+    if active <= Plan::MOST_ACTIVE {
+        Plan::LENGTHS[active as usize] as u32
     } else {
         Plan::MOST_SLOTS
     }
 }
 
 impl Plan {
+    // One for every three rows, at least 2 and at most 5: by comparisons, which need no divider.
     pub fn discovery_slots(self) -> u16
         ensures { λ r. ⌜ r ≡ discoverySlots (self .rows) ⌝ }
     {
-        let third = (self.rows as u16 + 2) / 3;
-        if third < Plan::FEWEST_DISCOVERY_SLOTS {
-            return Plan::FEWEST_DISCOVERY_SLOTS;
-        }
-        if third < Plan::MOST_DISCOVERY_SLOTS {
-            third
-        } else {
-            Plan::MOST_DISCOVERY_SLOTS
-        }
+        let rows = self.rows;
+        Plan::FEWEST_DISCOVERY_SLOTS + (6 < rows) as u16 + (9 < rows) as u16 + (12 < rows) as u16
     }
 
     // The first control slot, which is the manager's.

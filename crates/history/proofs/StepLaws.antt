@@ -10,6 +10,7 @@ use lib.Dec.{eqb}
 use lib.ListN.{length}
 use Rattle.octets.specs.Lists.{every}
 use Rattle.octets.proofs.ListLaws.{every-both}
+use Rattle.octets.proofs.EachLaws.{each-all}
 use Rattle.moments.proofs.MomentLaws.{in-order-self, in-order-on}
 use Rattle.shapes.specs.Shape.{partIn}
 use Rattle.traffic.specs.Traffic.{update, entriesOf}
@@ -24,7 +25,6 @@ use Rattle.routes.proofs.TableLaws.{within, forgettable}
 use Rattle.merges.specs.Candidates.{candidates}
 use Rattle.merges.specs.Learning.{learned}
 use Rattle.merges.specs.Merges.{updateIn, mergeRefusal, mergedRows, mergeOf}
-use Rattle.merges.proofs.CandidateLaws.{each-all}
 use Rattle.merges.proofs.KeepLaws.{merged-able, merge-rules, merge-gives, merge-within}
 use Rattle.merges.proofs.LearnLaws.{Kept, learn-all-every}
 use Rattle.merges.proofs.MergeLaws.{some-origin}

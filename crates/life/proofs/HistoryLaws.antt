@@ -11,6 +11,7 @@ use Rattle.octets.specs.Answers.{Reason, reason, first}
 use Rattle.octets.specs.Lists.{every}
 use Rattle.octets.proofs.AnswerLaws.{numbered, never-given}
 use Rattle.octets.proofs.CallLaws.{after-refused}
+use Rattle.octets.proofs.TestLaws.{of-choice}
 use Rattle.moments.specs.Moments.{ageAt, inOrder}
 use Rattle.life.specs.States.{Discovery, Joining, Normal, Recovery, Stopped, Nowhere, ready, beacon, accepted, roleChange, recovered, known, leadsTo, tickTo}
 use Rattle.life.specs.declared.state.State.{State}
@@ -18,7 +19,6 @@ use Rattle.life.specs.Calls.{withinRule, freshState, reasons, onEvent, s
 use Rattle.life.specs.Histories.{Call, event, tick, timeOf, answer, run, allAt, early, quiet}
 use Rattle.life.specs.Laws.{StaysWithinRule, wrongSuperframe, OnlyForSuperframes, RefusedKeeps, NoOtherTrap, NoticesSilence}
 use Rattle.moments.proofs.MomentLaws.{in-order-self}
-use Rattle.life.proofs.TableLaws.{of-choice}
 use Rattle.life.proofs.LifeLaws.{keeps-rule, stays-stopped}
 
 -- ---- a call that is refused, and one that is not

@@ -4,12 +4,13 @@ use mathlib.Core.Path.{_≡_}
 use mathlib.Core.Bool.{false}
 use borrow.Author.Tests.{eq-eqb}
 use lib.Dec.{eqb}
+use Rattle.octets.proofs.TestLaws.{of-choice}
 use Rattle.life.specs.States.{Stopped, leadsTo, tickTo}
 use Rattle.life.specs.declared.state.State.{State}
 use Rattle.life.specs.Calls.{onEvent, onTick, gone}
 use Rattle.life.specs.Laws.{KeepsRule, StaysStopped, StartsAnew}
 use Rattle.moments.proofs.MomentLaws.{in-order-self}
-use Rattle.life.proofs.TableLaws.{leads-known, tick-known, stays-normal, of-choice}
+use Rattle.life.proofs.TableLaws.{leads-known, tick-known, stays-normal}
 use Rattle.life.proofs.StepLaws.{passed, allowed, keeps, refused-anyhow, records}
 
 pub keeps-rule : KeepsRule

@@ -6,12 +6,12 @@ use Prim.Native.Nat.{ℕ, suc}
 use native.Mathlib.Omega.{arith}
 use borrow.Author.Tests.{eqb-true, not-false}
 use lib.Dec.{eqb, leb}
+use Rattle.octets.proofs.TestLaws.{of-choice}
 use Rattle.moments.specs.Moments.{inOrder}
 use Rattle.life.specs.declared.state.State.{State}
 use Rattle.life.specs.States.{Normal, Stopped}
 use Rattle.life.specs.Calls.{withinRule, gone}
 use Rattle.moments.proofs.MomentLaws.{in-order-self, in-order-on}
-use Rattle.life.proofs.TableLaws.{of-choice}
 
 -- where no number is given, a reason does not hold and those behind it give none
 pub passed : (b : Bool) (n rest : ℕ) → cond b (suc n) rest ≡ 0 → (b ≡ false) × (rest ≡ 0)

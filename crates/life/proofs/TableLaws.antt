@@ -7,12 +7,8 @@ use Prim.Native.Nat.{ℕ, _*_, _≤_}
 use native.Mathlib.Omega.{arith}
 use borrow.Author.Tests.{eqb-false, le-leb, leb-true}
 use lib.Dec.{eqb, leb, ltb}
+use Rattle.octets.proofs.TestLaws.{of-choice}
 use Rattle.life.specs.States.{Line, Limit, Normal, Manager, Stopped, Nowhere, beacon, elected, events, along, leadsTo, limits, runOut, tickTo}
-
--- what holds of both choices holds of the one that is made
-pub of-choice : {A : Type 0} (P : A → Type 0) (b : Bool) {x y : A} → P x → P y → P (cond b x y)
-of-choice P true p q = p
-of-choice P false p q = q
 
 -- every line leads to a state, or nowhere
 abbrev lines-known : List Line → Bool

@@ -1,14 +1,15 @@
 -- Candidates, good and bad, and those of an update's entries.
 -- Assumes nothing.
-use mathlib.Core.Path.{_≡_, refl, sym, ap}
-use mathlib.Core.Bool.{Bool, true, false, _&&_, _||_, cond, and-eq-true-iff, false≢true}
+use mathlib.Core.Path.{_≡_, refl, ap}
+use mathlib.Core.Bool.{Bool, true, false, _&&_, _||_, cond, and-eq-true-iff}
 use mathlib.Core.List.{List, [], _∷_}
 use Prim.Native.Nat.{ℕ, _*_, _≤_, _<_}
 use borrow.Author.Tests.{ltb-false}
 use lib.Dec.{eqb, leb, ltb}
 use lib.ListN.{take, drop}
-use Rattle.octets.specs.Lists.{every}
+use Rattle.octets.specs.Lists.{every, Each}
 use Rattle.octets.proofs.LayoutLaws.{fields-part}
+use Rattle.octets.proofs.TestLaws.{neither}
 use Rattle.shapes.specs.Rules.{address}
 use Rattle.shapes.proofs.RuleLaws.{address-least}
 use Rattle.traffic.specs.declared.entry.Entry.{Entry}
@@ -16,10 +17,6 @@ use Rattle.traffic.specs.Traffic.{entryWidths, entryFrom, entryRule, entryAt}
 use Rattle.merges.specs.declared.candidate.Candidate.{Candidate}
 use Rattle.merges.specs.Candidates.{offered, passedOver, offers, bad}
 use Rattle.merges.specs.Offering.{nothing, offerOf}
-
-neither : (a b : Bool) → (a || b) ≡ false → (a ≡ false) × (b ≡ false)
-neither true b e = absurd (false≢true (sym e))
-neither false b e = (refl, e)
 
 -- a good candidate has at most 16 hops, and a quality of at least 40
 pub good-hops : (c : Candidate) → bad c ≡ false → c .hops ≤ 16
@@ -52,14 +49,6 @@ module _ (own origin quality : ℕ) (e : Entry) where
   not-over q = rw q
 
 -- ---- what holds of each of some candidates
-abbrev pub Each : (Candidate → Type 0) → List Candidate → Type 0
-Each P [] = Unit
-Each P (c ∷ cs) = P c × Each P cs
-
-pub each-all : (P : Candidate → Type 0) → ((c : Candidate) → P c) → (cs : List Candidate) → Each P cs
-each-all P h [] = tt
-each-all P h (c ∷ cs) = (h c, each-all P h cs)
-
 -- what holds of every entry's candidate that is not passed over holds of each that the entries offer
 module _ (own origin quality : ℕ) (P : Candidate → Type 0) (test : Entry → Bool)
     (h : (e : Entry) → test e ≡ true → passedOver own origin e ≡ false → P (offered quality e)) where

@@ -8,12 +8,12 @@ use Prim.Native.Nat.{ℕ, suc, _≤_, _<_}
 use native.Mathlib.Omega.{arith}
 use borrow.Author.Tests.{ne-eqb}
 use lib.ListN.{length}
+use Rattle.octets.specs.Lists.{Each}
 use Rattle.routes.specs.declared.row.Row.{Row}
 use Rattle.routes.specs.Rows.{withdrawnAt, ascending, rowFor}
 use Rattle.routes.proofs.StandingLaws.{ascending-rest}
 use Rattle.merges.specs.declared.candidate.Candidate.{Candidate}
 use Rattle.merges.specs.Learning.{put, rowBy, Learned, learn, learnAll}
-use Rattle.merges.proofs.CandidateLaws.{Each}
 use Rattle.merges.proofs.LearnLaws.{by-learn, by-learn-all}
 use Rattle.merges.proofs.PutLaws.{by-place, put-length, put-ascending}
 use Rattle.merges.proofs.SearchLaws.{none-above}

@@ -7,7 +7,7 @@ use Prim.Native.Nat.{ℕ, _≤_, _<_}
 use native.Mathlib.Omega.{arith}
 use borrow.Author.Tests.{eq-eqb, le-leb}
 use lib.Dec.{eqb}
-use Rattle.octets.specs.Lists.{every}
+use Rattle.octets.specs.Lists.{every, Each}
 use Rattle.moments.proofs.MomentLaws.{in-order-self}
 use Rattle.shapes.specs.Rules.{address}
 use Rattle.shapes.specs.Shape.{partIn}
@@ -25,7 +25,7 @@ use Rattle.merges.specs.declared.candidate.Candidate.{Candidate}
 use Rattle.merges.specs.Candidates.{neighbour, offered, offers, candidates}
 use Rattle.merges.specs.Learning.{learned}
 use Rattle.merges.specs.Merges.{updateIn, mergeRefusal, mergedRows, mergeOf}
-use Rattle.merges.proofs.CandidateLaws.{good-hops, good-quality, entry-unit, entry-some, Each, offers-each}
+use Rattle.merges.proofs.CandidateLaws.{good-hops, good-quality, entry-unit, entry-some, offers-each}
 use Rattle.merges.proofs.FewLaws.{Few, learn-all-few}
 use Rattle.merges.proofs.LearnLaws.{Kept, learn-all-every}
 use Rattle.merges.proofs.MergeLaws.{Mergeable, mergeable, some-origin}

@@ -9,13 +9,13 @@ use native.Mathlib.Omega.{arith}
 use borrow.Author.Tests.{eqb-true, ne-eqb, ltb-true}
 use lib.Dec.{eqb}
 use lib.ListN.{length}
-use Rattle.octets.specs.Lists.{every}
+use Rattle.octets.specs.Lists.{every, Each}
+use Rattle.octets.proofs.TestLaws.{of-cond}
 use Rattle.routes.specs.declared.row.Row.{Row}
 use Rattle.routes.specs.Rows.{none, usable, withdrawnAt, rowFor}
 use Rattle.merges.specs.declared.candidate.Candidate.{Candidate}
 use Rattle.merges.specs.Candidates.{bad}
 use Rattle.merges.specs.Learning.{put, rowBy, givesWay, takenBack, Learned, met, newTo, learn, learnAll}
-use Rattle.merges.proofs.CandidateLaws.{Each}
 use Rattle.merges.proofs.PutLaws.{put-every}
 
 -- what holds of every row holds of the one that is looked up, if there is one
@@ -29,11 +29,6 @@ row-for-every test d (r ∷ rs) e =
     go : (b : Bool) → test r ≡ true → (test (rowFor d rs) ≡ true) ⊎ (rowFor d rs ≡ none) → (test (cond b r (rowFor d rs)) ≡ true) ⊎ (cond b r (rowFor d rs) ≡ none)
     go true here later = inl here
     go false here later = later
-
--- what holds of a choice, by the choice
-of-cond : {A : Type 0} (P : A → Type 0) (b : Bool) (x y : A) → (b ≡ true → P x) → (b ≡ false → P y) → P (cond b x y)
-of-cond P true x y p q = p refl
-of-cond P false x y p q = q refl
 
 module _ (P : List Row → Type 0) (via time : ℕ) where
   -- rows change only by the candidate's own row, where its destination has a row or there is room for one, or by one that is taken back

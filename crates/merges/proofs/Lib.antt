@@ -1,5 +1,6 @@
 pub mod CandidateLaws
 pub mod FewLaws
+pub mod HasLaws
 pub mod KeepLaws
 pub mod LearnLaws
 pub mod LoopLaws

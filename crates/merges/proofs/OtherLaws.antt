@@ -4,8 +4,9 @@ use mathlib.Core.Path.{_≡_, refl, sym, ap, _∙_}
 use mathlib.Core.Bool.{Bool, true, false, not, cond}
 use mathlib.Core.List.{List, [], _∷_}
 use Prim.Native.Nat.{ℕ}
-use borrow.Author.Tests.{ne-eqb, eqb-true, eqb-false, not-true}
-use lib.Dec.{eqb, ltb}
+use borrow.Author.Tests.{eqb-true, eqb-false, not-true}
+use lib.Dec.{eqb}
+use Rattle.octets.specs.Lists.{Each}
 use Rattle.shapes.specs.Shape.{partIn}
 use Rattle.traffic.specs.Traffic.{update, entriesOf}
 use Rattle.routes.specs.declared.row.Row.{Row}
@@ -16,22 +17,12 @@ use Rattle.routes.proofs.TableLaws.{address-some}
 use Rattle.merges.specs.declared.candidate.Candidate.{Candidate}
 use Rattle.merges.specs.Candidates.{candidates}
 use Rattle.merges.specs.Laws.{OthersUnchanged}
-use Rattle.merges.specs.Learning.{rowBy, put, Learned, learned, learn, learnAll}
+use Rattle.merges.specs.Learning.{rowBy, Learned, learned, learn, learnAll}
 use Rattle.merges.specs.Merges.{updateIn, mergedRows, mergeOf}
-use Rattle.merges.proofs.CandidateLaws.{Each, offers-each}
+use Rattle.merges.proofs.CandidateLaws.{offers-each}
 use Rattle.merges.proofs.KeepLaws.{merge-rules, merge-gives}
 use Rattle.merges.proofs.LearnLaws.{by-learn, by-learn-all}
-
--- ---- one row that is put at its place
-put-other : (w : Row) (d : ℕ) → (w .destination ≡ d → ⊥) → (rs : List Row) → rowFor d (put w rs) ≡ rowFor d rs
-put-other w d n [] = rw (ne-eqb (w .destination) d n)
-put-other w d n (r ∷ rs) = go (ltb (r .destination) (w .destination)) (eqb (r .destination) (w .destination)) refl (put-other w d n rs)
-  where
-    go : (a b : Bool) → eqb (r .destination) (w .destination) ≡ b → rowFor d (put w rs) ≡ rowFor d rs
-        → rowFor d (cond a (r ∷ put w rs) (cond b (w ∷ rs) (w ∷ r ∷ rs))) ≡ rowFor d (r ∷ rs)
-    go true b q h = ap (λ (x : Row). cond (eqb (r .destination) d) r x) h
-    go false true q h = rw (eqb-true (r .destination) (w .destination) q, ne-eqb (w .destination) d n)
-    go false false q h = rw (ne-eqb (w .destination) d n)
+use Rattle.merges.proofs.HasLaws.{put-other}
 
 module _ (d : ℕ) (some : d ≡ 0 → ⊥) where
   -- the row for another destination is not this one's
@@ -50,8 +41,8 @@ module _ (d : ℕ) (some : d ≡ 0 → ⊥) where
   module _ (via time : ℕ) where
     learn-other : (c : Candidate) → Other c → (l : Learned) → rowFor d (learn via time c l .rows) ≡ rowFor d (l .rows)
     learn-other c n l =
-        by-learn (λ rs. rowFor d rs ≡ rowFor d (l .rows)) via time c l refl (λ b room. put-other (rowBy via time c) d n (l .rows))
-        (λ there t. put-other (withdrawnAt time (rowFor (c .destination) (l .rows))) d (row-other (c .destination) n (l .rows)) (l .rows))
+        by-learn (λ rs. rowFor d rs ≡ rowFor d (l .rows)) via time c l refl (λ b room. put-other d (rowBy via time c) n (l .rows))
+        (λ there t. put-other d (withdrawnAt time (rowFor (c .destination) (l .rows))) (row-other (c .destination) n (l .rows)) (l .rows))
 
     learn-all-other : (cs : List Candidate) → Each Other cs → (l : Learned) → rowFor d (learnAll via time cs l .rows) ≡ rowFor d (l .rows)
     learn-all-other cs o l =

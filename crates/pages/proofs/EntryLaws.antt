@@ -1,17 +1,20 @@
 -- Entries in bytes, one after the other: how many bytes they are, one put a turn, and that they are read back.
 -- Assumes nothing.
 use mathlib.Core.Path.{_≡_, refl, ap, _∙_}
+use mathlib.Core.Bool.{true}
 use mathlib.Core.List.{List, [], _∷_, _++_, map}
 use Prim.Native.Nat.{ℕ, _+_, _*_, _-_, _≤_}
 use native.Mathlib.Nat.{zero-add}
 use native.Mathlib.Omega.{arith}
 use lib.ListN.{length, take, drop}
 use lib.Seq.{sets}
-use Rattle.octets.specs.Layouts.{bytes, Fit}
+use Rattle.octets.specs.Layouts.{bytes, Bytes, Fit}
+use Rattle.octets.proofs.ByteLaws.{no-bytes, append-bytes, layout-bytes}
 use Rattle.octets.proofs.RunLaws.{Run, run-length, put-turn, run-read}
 use Rattle.traffic.specs.declared.entry.Entry.{Entry}
 use Rattle.traffic.specs.Traffic.{entryWidths, entryValues, entryFrom, entryAt, entriesOf}
 use Rattle.routes.specs.declared.row.Row.{Row}
+use Rattle.routes.specs.Rows.{usable}
 use Rattle.pages.specs.Pages.{entryFor, entriesBytes}
 
 entries-run : Run entryWidths entryValues entriesBytes
@@ -46,3 +49,26 @@ pub entries-back : (es : List Entry) → EntriesFit es → entriesOf (length es)
 unfolding entryAt
 entries-back es f =
     run-read entries-run EntriesFit (λ e l h. h) entryFrom (entryAt (entriesBytes es)) es [] 0 refl f (λ i. rw (zero-add (10 * i))) ∙ same-entries es
+
+-- they are bytes
+pub entries-bytes : (es : List Entry) → Bytes (entriesBytes es)
+entries-bytes [] = no-bytes
+entries-bytes (e ∷ es) = append-bytes (bytes entryWidths (entryValues e)) (entriesBytes es) (layout-bytes entryWidths (entryValues e)) (entries-bytes es)
+
+-- ---- the entry for a row
+-- the entry of a usable row says what the row says
+pub entry-hops : (time : ℕ) (x : Row) → usable time x ≡ true → entryFor time x .hops ≡ x .hops
+unfolding entryFor
+entry-hops time x e = rw e
+
+pub entry-quality : (time : ℕ) (x : Row) → usable time x ≡ true → entryFor time x .quality ≡ x .quality
+unfolding entryFor
+entry-quality time x e = rw e
+
+pub entry-destination : (time : ℕ) (x : Row) → entryFor time x .destination ≡ x .destination
+unfolding entryFor
+entry-destination time x = refl
+
+pub entry-next : (time : ℕ) (x : Row) → entryFor time x .«next_hop» ≡ x .«next_hop»
+unfolding entryFor
+entry-next time x = refl

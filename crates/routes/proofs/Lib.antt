@@ -1,4 +1,5 @@
 pub mod DroppedLaws
+pub mod HasLaws
 pub mod KeepLaws
 pub mod LookupLaws
 pub mod PlaceLaws

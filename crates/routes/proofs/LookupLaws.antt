@@ -1,7 +1,7 @@
 -- A lookup, from the row for its destination.
 -- Assumes nothing.
 use mathlib.Core.Path.{_≡_, refl, sym, ap, _∙_}
-use mathlib.Core.Bool.{Bool, true, false, not, cond}
+use mathlib.Core.Bool.{Bool, true, false, not, cond, false≢true}
 use mathlib.Core.List.{List, [], _∷_}
 use Prim.Native.Nat.{ℕ}
 use lib.Dec.{eqb}
@@ -40,3 +40,12 @@ module _ (t : Table) (d time : ℕ) where
       go : (b : Bool) → eqb (unless (cond (not b) 11 0) (accepted hop) .refusal) 0 ≡ b
       go true = refl
       go false = refl
+
+  -- and else it is 11
+  pub not-led : withinRule t ≡ true → address d ≡ true → inOrder (t .time) time ≡ true → leadsTo t d time ≡ false → lookupOf t d time .refusal ≡ 11
+  unfolding lookupOf
+  not-led w a o e = rw (w, a, o) (go (leadsTo t d time) e)
+    where
+      go : (b : Bool) → b ≡ false → unless (cond (not b) 11 0) (accepted hop) .refusal ≡ 11
+      go true e = absurd (false≢true (sym e))
+      go false e = refl

@@ -1,12 +1,13 @@
 -- The regions of a plan: each slot is in one, and its kind is that region's.
 -- Assumes nothing.
 use mathlib.Core.Path.{_≡_, refl}
-use mathlib.Core.Bool.{Bool, true, false, _&&_, cond, and-eq-true-iff}
+use mathlib.Core.Bool.{Bool, true, false, _&&_, and-eq-true-iff}
 use mathlib.Core.List.{[], _∷_}
 use Prim.Native.Nat.{ℕ, _+_, _-_, _≤_, _<_}
 use native.Mathlib.Omega.{arith}
 use borrow.Author.Tests.{eq-eqb, ltb-true, ltb-false, leb-true, lt-ltb, le-ltb, le-leb, lt-leb}
 use lib.Dec.{eqb, leb, ltb}
+use Rattle.octets.proofs.TestLaws.{of-choice}
 use Rattle.slots.specs.Sets.{has}
 use Rattle.site.specs.Plans.{slots, controlAt, dataAt, discoveryAt, sleepAt}
 use Rattle.site.specs.Schedules.{sleep, sends, listens, within, howMany, inBeacons, inControls, inData, inDiscovery, controlSlot, dataSlot, kindOf}
@@ -96,11 +97,6 @@ sends-where-told p row hop own = (
 )
 
 -- ---- one thing in a slot
--- what holds of both choices holds of the one that is made
-of-choice : (P : ℕ → Type 0) (b : Bool) {x y : ℕ} → P x → P y → P (cond b x y)
-of-choice P true p q = p
-of-choice P false p q = q
-
 pub does-one-thing : DoesOneThing
 unfolding kindOf
 does-one-thing p row hop own s =

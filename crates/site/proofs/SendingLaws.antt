@@ -1,11 +1,12 @@
 -- Who sends in a slot: the statements of specs/Laws on it, proved.
 -- Assumes nothing.
 use mathlib.Core.Path.{_≡_, refl, sym, _∙_}
-use mathlib.Core.Bool.{Bool, true, false, _&&_, _||_, cond, false≢true}
+use mathlib.Core.Bool.{Bool, true, false, _&&_, cond, false≢true}
 use Prim.Native.Nat.{_+_, _-_}
 use native.Mathlib.Omega.{arith}
 use borrow.Author.Tests.{eqb-true}
 use lib.Dec.{eqb, ltb}
+use Rattle.octets.proofs.TestLaws.{or-elim}
 use Rattle.slots.specs.Sets.{has}
 use Rattle.slots.proofs.SetLaws.{disjoint-is-apart}
 use Rattle.site.specs.Plans.{dataAt}
@@ -49,16 +50,11 @@ not-both true true h = absurd (h refl refl)
 not-both true false h = refl
 not-both false b h = refl
 
--- what follows from either of two tests
-from-either : {A : Type 0} (a b : Bool) → (a || b) ≡ true → (a ≡ true → A) → (b ≡ true → A) → A
-from-either true b e f g = f refl
-from-either false b e f g = g e
-
 pub one-sender : OneSender
 one-sender p row row′ hop hop′ own own′ kinds kinds′ u v rows apart s e =
     not-both (sends (kinds s)) (sends (kinds′ s))
     (λ x y.
-    from-either (inControls p s) (inData p s) e
+    or-elim ⊥ (inControls p s) (inData p s) e
     (λ i. rows (omega (arith, u .controls s i x, v .controls s i y)))
     (λ i. disjoint-is-apart 64 own own′ .0 apart (s - dataAt p) (u .data-slots s i x) (v .data-slots s i y)))
 

@@ -1,0 +1,10 @@
+pub mod SiteLaws
+pub mod CountLaws
+pub mod StepLaws
+pub mod PageLaws
+pub mod RoundLaws
+pub mod TableLaws
+pub mod LookupLaws
+pub mod InCLaws
+pub mod ThereLaws
+pub mod LineLaws

@@ -2,6 +2,7 @@
 
 use crate::bodies::{body_of, seal};
 use crate::frames::{BEACON, BEACON_SIZE, EVERY_UNIT, MOST_BEACON_HOPS, MOST_SLOTS};
+use crate::moments::{accept, Moment};
 use crate::refusal::Refusal;
 use crate::routes::{is_unit, long, word, Pair, Table};
 
@@ -28,7 +29,7 @@ impl Table {
         network: u16,
         frame: &[u8],
         given: u32,
-        time: u32,
+        time: Moment,
         out: &mut [u8],
     ) -> Result<usize, Refusal> {
         let used = self.used_rows()?;
@@ -42,7 +43,7 @@ impl Table {
         if beacon.network != network {
             return Err(Refusal::Network);
         }
-        self.accept_time(time)?;
+        accept(self.time, time)?;
         let own_hop = self.route(used, beacon.pair.origin, time)?.hops;
         if own_hop != beacon.hop + 1 || beacon.hop >= beacon.max_hops || self.pair == Some(beacon.pair) {
             return Err(Refusal::NotOurs);

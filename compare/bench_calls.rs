@@ -1,10 +1,11 @@
 //! The calls that are measured, each by the library and by the independent implementation. The same buffers go in and
 //! come out: both have to decode, judge and write the same bytes, and both refuse what is to be refused.
 
+use crate::moments::Moment;
 use crate::refusal::Refusal;
 
 /// When every call comes.
-pub const NOW: u32 = 100_000;
+pub const NOW: Moment = Moment(100_000);
 /// The network of every site and beacon.
 pub const NETWORK: u16 = 0x0102;
 /// How well an update was heard.

@@ -2,6 +2,7 @@
 //! requests, hearing, leaving and schedules. It works in place, and is also what the library is measured against.
 
 use crate::frames::{checksum, ACCEPTED, JOIN_REQUEST, JOIN_RESPONSE, LONGEST_FRAME, SLOT_REQUEST};
+use crate::moments::{accept, Moment};
 use crate::refusal::Refusal;
 use crate::routes::{is_unit, long, word};
 use crate::site::{Plan, MOST_ROWS};
@@ -20,25 +21,25 @@ pub const RESPONSE_LENGTH: usize = 13;
 pub struct Row {
     pub unit: u16,
     pub slots: u64,
-    pub time: u32,
+    pub time: Moment,
 }
 
 impl Row {
-    pub const EMPTY: Row = Row { unit: 0, slots: 0, time: 0 };
+    pub const EMPTY: Row = Row { unit: 0, slots: 0, time: Moment(0) };
 }
 
 /// A site's book. The manager is in row 0, and rows past those of the plan are empty.
 #[derive(Clone, Debug, PartialEq, Eq)]
 pub struct Book {
     pub plan: Plan,
-    pub time: u32,
+    pub time: Moment,
     pub rows: [Row; MOST_ROWS],
 }
 
 /// The calls.
 impl Book {
     #[inline(never)]
-    pub fn fresh(plan: Plan, time: u32) -> Result<Book, Refusal> {
+    pub fn fresh(plan: Plan, time: Moment) -> Result<Book, Refusal> {
         let plan = plan.checked()?;
         let mut rows = [Row::EMPTY; MOST_ROWS];
         rows[0] = Row { unit: plan.manager, slots: 1, time };
@@ -47,14 +48,14 @@ impl Book {
 
     /// Writes the responses to a join request, and answers their length.
     #[inline(never)]
-    pub fn join(&mut self, frame: &[u8], time: u32, out: &mut [u8]) -> Result<usize, Refusal> {
+    pub fn join(&mut self, frame: &[u8], time: Moment, out: &mut [u8]) -> Result<usize, Refusal> {
         self.check()?;
         let unit = self.sender(frame, JOIN_REQUEST, JOIN_REQUEST_LENGTH)?;
         let (network, asked) = (word(frame, 4), frame[6]);
         if network != 0 && network != self.plan.network {
             return Err(Refusal::Network);
         }
-        self.accept_time(time)?;
+        accept(self.time, time)?;
         let census = self.census(unit, time);
         let (row, slots) = match (census.own, census.first_free) {
             (Some(row), _) => (row, self.rows[row].slots),
@@ -66,11 +67,11 @@ impl Book {
 
     /// Writes the responses to a slot request, and answers their length.
     #[inline(never)]
-    pub fn slot_request(&mut self, frame: &[u8], time: u32, out: &mut [u8]) -> Result<usize, Refusal> {
+    pub fn slot_request(&mut self, frame: &[u8], time: Moment, out: &mut [u8]) -> Result<usize, Refusal> {
         self.check()?;
         let unit = self.sender(frame, SLOT_REQUEST, SLOT_REQUEST_LENGTH)?;
         let asked = frame[3];
-        self.accept_time(time)?;
+        accept(self.time, time)?;
         let census = self.census(unit, time);
         let row = census.own.ok_or(Refusal::NotMember)?;
         let own = self.rows[row].slots;
@@ -84,7 +85,7 @@ impl Book {
     }
 
     #[inline(never)]
-    pub fn heard(&mut self, unit: u16, time: u32) -> Result<(), Refusal> {
+    pub fn heard(&mut self, unit: u16, time: Moment) -> Result<(), Refusal> {
         let row = self.member(unit, time)?;
         self.begin_change(time);
         self.rows[row].time = time;
@@ -92,7 +93,7 @@ impl Book {
     }
 
     #[inline(never)]
-    pub fn leave(&mut self, unit: u16, time: u32) -> Result<(), Refusal> {
+    pub fn leave(&mut self, unit: u16, time: Moment) -> Result<(), Refusal> {
         let row = self.member(unit, time)?;
         if row == 0 {
             return Err(Refusal::NotMember);
@@ -104,12 +105,12 @@ impl Book {
 
     /// Writes what a member does in each slot, and answers the number of slots.
     #[inline(never)]
-    pub fn schedule(&self, unit: u16, hop: u32, time: u32, out: &mut [u8]) -> Result<usize, Refusal> {
+    pub fn schedule(&self, unit: u16, hop: u32, time: Moment, out: &mut [u8]) -> Result<usize, Refusal> {
         self.check()?;
         if !is_unit(unit) {
             return Err(Refusal::Field);
         }
-        self.accept_time(time)?;
+        accept(self.time, time)?;
         let hops = if unit == self.plan.manager { 0..=0 } else { 1..=u32::from(self.plan.max_hops) };
         if !hops.contains(&hop) {
             return Err(Refusal::OutOfRule);
@@ -133,7 +134,7 @@ impl Book {
         for (place, row) in rows.iter().enumerate() {
             if *row == Row::EMPTY {
                 free_rows += 1;
-            } else if self.allows(row, taken) && rows[..place].iter().all(|other| other.unit != row.unit) {
+            } else if self.allows(place, taken) && rows[..place].iter().all(|other| other.unit != row.unit) {
                 taken |= row.slots;
             } else {
                 return Err(Refusal::OutOfRule);
@@ -147,24 +148,19 @@ impl Book {
         }
     }
 
-    /// Whether a row in use is within rule, beside others that have taken these slots.
-    fn allows(&self, row: &Row, taken: u64) -> bool {
+    /// Whether a row in use is within rule, beside others that have taken these slots. That of the manager, row 0, has
+    /// any time.
+    fn allows(&self, place: usize, taken: u64) -> bool {
+        let row = &self.rows[place];
         is_unit(row.unit)
             && row.slots & (taken | !self.data_slots()) == 0
             && (1..=MOST_HELD).contains(&row.slots.count_ones())
-            && row.time <= self.time
+            && (place == 0 || self.time.follows(row.time))
     }
 
     /// The set of all data slots: fewer than 64.
     fn data_slots(&self) -> u64 {
         (1 << self.plan.data_slots) - 1
-    }
-
-    pub fn accept_time(&self, time: u32) -> Result<(), Refusal> {
-        match time < self.time {
-            true => Err(Refusal::Early),
-            false => Ok(()),
-        }
     }
 
     /// The unit that sent this request, whose kind and length the call wants.
@@ -188,27 +184,27 @@ impl Book {
         }
     }
 
-    pub fn is_live(&self, place: usize, time: u32) -> bool {
+    pub fn is_live(&self, place: usize, time: Moment) -> bool {
         let row = &self.rows[place];
-        place == 0 || row.unit != 0 && time - row.time <= LIVE_AGE
+        place == 0 || row.unit != 0 && time.since(row.time) <= LIVE_AGE
     }
 
-    fn live_row(&self, unit: u16, time: u32) -> Option<usize> {
+    fn live_row(&self, unit: u16, time: Moment) -> Option<usize> {
         let place = self.rows.iter().position(|row| row.unit == unit)?;
         self.is_live(place, time).then(|| place)
     }
 
     /// The row of the live member that a call on a unit names.
-    fn member(&self, unit: u16, time: u32) -> Result<usize, Refusal> {
+    fn member(&self, unit: u16, time: Moment) -> Result<usize, Refusal> {
         self.check()?;
         if !is_unit(unit) {
             return Err(Refusal::Field);
         }
-        self.accept_time(time)?;
+        accept(self.time, time)?;
         self.live_row(unit, time).ok_or(Refusal::NotMember)
     }
 
-    fn census(&self, unit: u16, time: u32) -> Census {
+    fn census(&self, unit: u16, time: Moment) -> Census {
         let mut census = Census { free: self.data_slots(), free_rows: 0, first_free: None, own: None };
         for place in 0..usize::from(self.plan.rows) {
             if self.is_live(place, time) {
@@ -225,7 +221,7 @@ impl Book {
     }
 
     /// Records the time of an accepted call and drops the members that are silent.
-    fn begin_change(&mut self, time: u32) {
+    fn begin_change(&mut self, time: Moment) {
         self.time = time;
         for place in 1..usize::from(self.plan.rows) {
             if !self.is_live(place, time) {
@@ -255,7 +251,7 @@ impl Book {
         frame[1..3].copy_from_slice(&row.unit.to_le_bytes());
         frame[3] = ACCEPTED as u8;
         frame[4..6].copy_from_slice(&(slot as u16).to_le_bytes());
-        frame[6..10].copy_from_slice(&row.time.to_le_bytes());
+        frame[6..10].copy_from_slice(&row.time.0.to_le_bytes());
         frame[10..12].copy_from_slice(&self.plan.network.to_le_bytes());
         frame[12] = checksum(&frame[..12]);
     }
@@ -312,20 +308,20 @@ impl Book {
         let mut rows = [Row::EMPTY; MOST_ROWS];
         for (row, bytes) in rows.iter_mut().zip(rest.chunks_exact(Book::ROW_LENGTH)) {
             let slots = u64::from(long(bytes, 2)) | u64::from(long(bytes, 6)) << 32;
-            *row = Row { unit: word(bytes, 0), slots, time: long(bytes, 10) };
+            *row = Row { unit: word(bytes, 0), slots, time: Moment(long(bytes, 10)) };
         }
-        Ok(Book { plan, time: long(head, Plan::LENGTH), rows })
+        Ok(Book { plan, time: Moment(long(head, Plan::LENGTH)), rows })
     }
 
     #[inline(never)]
     pub fn to_bytes(&self, bytes: &mut [u8]) {
         let (head, rest) = bytes.split_at_mut(Book::HEAD_LENGTH);
         self.plan.to_bytes(&mut head[..Plan::LENGTH]);
-        head[Plan::LENGTH..].copy_from_slice(&self.time.to_le_bytes());
+        head[Plan::LENGTH..].copy_from_slice(&self.time.0.to_le_bytes());
         for (row, bytes) in self.rows.iter().zip(rest.chunks_exact_mut(Book::ROW_LENGTH)) {
             bytes[0..2].copy_from_slice(&row.unit.to_le_bytes());
             bytes[2..10].copy_from_slice(&row.slots.to_le_bytes());
-            bytes[10..14].copy_from_slice(&row.time.to_le_bytes());
+            bytes[10..14].copy_from_slice(&row.time.0.to_le_bytes());
         }
     }
 }

@@ -8,6 +8,7 @@ use crate::boundary::{
     buffer_shown, input_shown, laid_over_filler, names_of, number_shown, show_disturbed, Answer, Call, Empty, Filler,
     Lent,
 };
+use crate::moments::Moment;
 use crate::site::Wanted;
 use std::fmt;
 
@@ -25,14 +26,15 @@ extern "C" {
 
     fn braidlark_plan_numbers(plan: *const u8, plan_length: usize, numbers: *mut u32, numbers_length: usize) -> u8;
 
-    fn braidlark_book_fresh(book: *mut u8, book_length: usize, plan: *const u8, plan_length: usize, time: u32) -> u8;
+    fn braidlark_book_fresh(book: *mut u8, book_length: usize, plan: *const u8, plan_length: usize, time: Moment)
+        -> u8;
 
     pub fn braidlark_join(
         book: *mut u8,
         book_length: usize,
         frame: *const u8,
         frame_length: usize,
-        time: u32,
+        time: Moment,
         out: *mut u8,
         out_length: usize,
         written: *mut u32,
@@ -43,22 +45,22 @@ extern "C" {
         book_length: usize,
         frame: *const u8,
         frame_length: usize,
-        time: u32,
+        time: Moment,
         out: *mut u8,
         out_length: usize,
         written: *mut u32,
     ) -> u8;
 
-    fn braidlark_heard(book: *mut u8, book_length: usize, unit: u16, time: u32) -> u8;
+    fn braidlark_heard(book: *mut u8, book_length: usize, unit: u16, time: Moment) -> u8;
 
-    fn braidlark_leave(book: *mut u8, book_length: usize, unit: u16, time: u32) -> u8;
+    fn braidlark_leave(book: *mut u8, book_length: usize, unit: u16, time: Moment) -> u8;
 
     pub fn braidlark_schedule(
         book: *const u8,
         book_length: usize,
         unit: u16,
         hop: u32,
-        time: u32,
+        time: Moment,
         out: *mut u8,
         out_length: usize,
         written: *mut u32,
@@ -71,12 +73,12 @@ extern "C" {
 pub enum Ask {
     Plan { wanted: Wanted },
     Numbers { places: usize },
-    Fresh { plan: Vec<u8>, time: u32 },
-    Join { frame: Vec<u8>, time: u32, room: usize },
-    SlotRequest { frame: Vec<u8>, time: u32, room: usize },
-    Heard { unit: u16, time: u32 },
-    Leave { unit: u16, time: u32 },
-    Schedule { unit: u16, hop: u32, time: u32, room: usize },
+    Fresh { plan: Vec<u8>, time: Moment },
+    Join { frame: Vec<u8>, time: Moment, room: usize },
+    SlotRequest { frame: Vec<u8>, time: Moment, room: usize },
+    Heard { unit: u16, time: Moment },
+    Leave { unit: u16, time: Moment },
+    Schedule { unit: u16, hop: u32, time: Moment, room: usize },
 }
 
 /// The calls by name, in the order of `Ask`, each with the refusals that it can give.

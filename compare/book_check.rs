@@ -6,10 +6,10 @@ use crate::book_calls::{Ask, BookAnswer, BookCall, CALLS};
 use crate::book_drafts::{book_bytes, plan_bytes, Drawing, Scene};
 use crate::boundary::Empty;
 use crate::hostile::{self, Hostile, BOTH_WAYS};
+use crate::moments_drafts::start;
 use crate::random::Random;
 use crate::refusal::Refusal;
 use crate::report::{Difference, Progress, Tally};
-use crate::routes_drafts::random_start;
 use crate::site::Plan;
 use crate::{book_cases, book_sweeps, Options};
 
@@ -62,7 +62,7 @@ impl Check {
     /// A fresh book, or often one that is made up, and then so many calls less one.
     fn history(&mut self, calls: u64) -> Agreement {
         let scene = Scene::new(&mut self.random);
-        let fresh = Ask::Fresh { plan: plan_bytes(scene.plan), time: random_start(&mut self.random) };
+        let fresh = Ask::Fresh { plan: plan_bytes(scene.plan), time: start(&mut self.random) };
         let mut bytes = self.put(&[0; Book::LENGTH], &fresh)?.book;
         if self.random.below(3) == 0 {
             bytes = book_bytes(&scene.book(&mut self.random));

@@ -5,8 +5,9 @@ use crate::book::*;
 use crate::book_calls::Ask;
 use crate::frames::{kind_of, JOIN_REQUEST, SLOT_REQUEST};
 use crate::frames_drafts::damaged;
+use crate::moments::Moment;
+use crate::moments_drafts::{anywhere, earlier, long_ago, start, stored_late, Pace};
 use crate::random::Random;
-use crate::routes_drafts::random_start;
 use crate::site::*;
 
 pub fn join_request(node: u16, capabilities: u8, network: u16, slots: u8) -> Vec<u8> {
@@ -100,8 +101,8 @@ pub struct Scene {
     pub plan: Plan,
     /// All but the manager.
     units: Vec<u16>,
-    /// Of 16 changing calls, how many come at the limit of some member's age.
-    haste: usize,
+    /// How changing calls follow each other.
+    pace: Pace,
 }
 
 impl Scene {
@@ -117,12 +118,14 @@ impl Scene {
                 units.push(unit);
             }
         }
-        Scene { plan, units, haste: random.one_of(&[0, 0, 1, 4]) }
+        let pace = Pace { at_limits: random.one_of(&[0, 0, 1, 4]), leaps: random.one_of(&[0, 0, 1, 4]) };
+        Scene { plan, units, pace }
     }
 
-    /// A book within rule, mostly one that no history leads to: rows are empty between used ones, and slots in any order.
+    /// A book within rule, mostly one that no history leads to: rows are empty between used ones, slots in any order, and
+    /// the manager's time is any.
     pub fn book(&self, random: &mut Random) -> Book {
-        let (time, mut units) = (random_start(random), self.units.clone());
+        let (last, mut units) = (start(random), self.units.clone());
         let mut free: Vec<u8> = (0..self.plan.data_slots).collect();
         let mut spare = u32::from(self.plan.data_slots - self.plan.rows);
         let empty = random.one_of(&[0, 1, 2]);
@@ -135,11 +138,13 @@ impl Scene {
             let more = random.within(0, spare.min(MOST_HELD - 1));
             spare -= more;
             let slots = (0..=more).fold(0, |slots, _| slots | 1 << free.swap_remove(random.below(free.len())));
-            let (limit, long_ago) = (random_limit(random), random.draw() as u32);
-            let time = time.saturating_sub(random.one_of(&[0, 1, 1000, limit, limit, long_ago]));
+            let (limit, long_ago) = (random_limit(random), long_ago(random));
+            let time = last - random.one_of(&[0, 1, 1000, limit, limit, long_ago]);
             *row = Row { unit, slots, time };
         }
-        Book { plan: self.plan, time, rows }
+        let (late, any) = (stored_late(last, random), anywhere(random));
+        rows[0].time = random.one_of(&[rows[0].time, late, any]);
+        Book { plan: self.plan, time: last, rows }
     }
 }
 
@@ -189,7 +194,7 @@ impl Drawing<'_> {
     }
 
     fn fresh(&mut self) -> Ask {
-        Ask::Fresh { plan: self.plan_bytes(), time: random_start(self.random) }
+        Ask::Fresh { plan: self.plan_bytes(), time: start(self.random) }
     }
 
     fn join(&mut self) -> Ask {
@@ -216,7 +221,7 @@ impl Drawing<'_> {
     }
 
     /// A schedule of this unit, at a hop that it may have unless by a slip.
-    pub fn schedule(&mut self, unit: u16, time: u32) -> Ask {
+    pub fn schedule(&mut self, unit: u16, time: Moment) -> Ask {
         let most = u32::from(self.scene.plan.max_hops);
         let own = if unit == self.scene.plan.manager { 0 } else { self.random.within(1, most) };
         let wide = widened(self.random, own, 8);
@@ -254,27 +259,25 @@ impl Drawing<'_> {
     }
 
     /// A reading call moves no time on, so it is often far ahead.
-    pub fn reading_time(&mut self) -> u32 {
-        self.time(8)
+    pub fn reading_time(&mut self) -> Moment {
+        self.time(Pace::READING)
     }
 
-    fn changing_time(&mut self) -> u32 {
-        self.time(self.scene.haste)
+    fn changing_time(&mut self) -> Moment {
+        self.time(self.scene.pace)
     }
 
-    /// A time not before the last accepted one, unless by a slip; so many of 16 at the limit of some member's age.
-    fn time(&mut self, at_limits: usize) -> u32 {
+    /// A time that follows the last accepted one, unless by a slip; at times at the limit of some member's age.
+    fn time(&mut self, pace: Pace) -> Moment {
         let last = self.book.time;
         if self.slip() {
-            return last.saturating_sub(1);
+            return earlier(last, self.random);
         }
-        if self.random.below(16) < at_limits {
-            let row = self.random.one_of(&self.book.rows[..self.scene.plan.rows.into()]);
-            let from = if row == Row::EMPTY { last } else { row.time };
-            return from.saturating_add(random_limit(self.random)).max(last);
-        }
-        let little = self.random.below(3000) as u32;
-        last.saturating_add(self.random.one_of(&[0, 0, 1, little]))
+        let row = self.random.one_of(&self.book.rows[..self.scene.plan.rows.into()]);
+        // The manager's time may be after the last one.
+        let from = if row == Row::EMPTY || !last.follows(row.time) { last } else { row.time };
+        let limit = from + random_limit(self.random);
+        pace.next(last, limit, self.random)
     }
 
     /// The length of an output buffer: what is needed or more, unless by a slip.
@@ -331,8 +334,8 @@ impl Drawing<'_> {
             4 => bytes.copy_within(row + 2..row + 10, other + 2),
             5 => bytes[row..row + Book::ROW_LENGTH].fill(0),
             6 => {
-                let time = self.book.time.saturating_add(1);
-                bytes[row + 10..row + 14].copy_from_slice(&time.to_le_bytes());
+                let time = stored_late(self.book.time, self.random);
+                bytes[row + 10..row + 14].copy_from_slice(&time.0.to_le_bytes());
             }
             7 => {
                 let slot = usize::from(self.scene.plan.data_slots) - 1 + self.random.below(2);

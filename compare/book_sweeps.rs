@@ -5,11 +5,13 @@ use crate::book::*;
 use crate::book_calls::Ask;
 use crate::book_check::{Agreement, Check};
 use crate::book_drafts::{book_bytes, join_request, longest_slot_ms, plan_bytes, too_wide};
+use crate::moments::{Moment, HALF, LONGEST_STEP};
+use crate::moments_drafts::STARTS;
 use crate::site::*;
 
 const NETWORK: u16 = 0x0102;
 const MANAGER: u16 = 0x0100;
-const START: u32 = 1_000_000;
+const START: Moment = Moment(1_000_000);
 
 /// The rules' numbers, and what is small only modulo 256.
 const HOPS: [u8; 16] = [0, 1, 2, 3, 4, 5, 6, 7, 8, 9, 10, 11, 12, 127, 254, 255];
@@ -115,11 +117,14 @@ fn every_length(check: &mut Check) -> Agreement {
 type Change = (&'static str, fn(&mut Book));
 
 /// Changes after which `spread_book` is still within rule.
-const ALLOWED: [Change; 7] = [
+const ALLOWED: [Change; 10] = [
     ("none", |_| {}),
     ("the manager holds the highest four", |book| book.rows[0].slots = 0xF00),
-    ("the manager's time is long past", |book| book.rows[0].time = 0),
-    ("a member is silent", |book| book.rows[1].time = 0),
+    ("the manager's time is long past", |book| book.rows[0].time = book.time - LONGEST_STEP),
+    ("the manager's time is half of all times away", |book| book.rows[0].time = book.time - HALF),
+    ("the manager's time is after the last", |book| book.rows[0].time = book.time + 1),
+    ("a member is silent", |book| book.rows[1].time = book.time - (LIVE_AGE + 1)),
+    ("a member is silent for as long as may be", |book| book.rows[1].time = book.time - LONGEST_STEP),
     ("a member is in another row", |book| book.rows.swap(1, 2)),
     ("one slot is left for one row", |book| {
         book.rows[0].slots = 0xF;
@@ -140,15 +145,15 @@ const BROKEN: [Change; 23] = [
     ("a row past those of the plan", |book| book.plan.rows = 3),
     ("a unit past the rows", |book| book.rows.swap(3, 4)),
     ("slots past the rows", |book| book.rows[20].slots = 0x10),
-    ("a time past the rows", |book| book.rows[20].time = 1),
+    ("a time past the rows", |book| book.rows[20].time = Moment(1)),
     ("slots of no time", |book| book.plan.slot_ms = 0),
     ("no manager", |book| book.rows[0] = Row::EMPTY),
     ("the manager in another row", |book| book.rows.swap(0, 1)),
     ("the manager twice", |book| book.rows[3].unit = MANAGER),
     ("a unit twice", |book| book.rows[3].unit = book.rows[1].unit),
     ("a unit that is none", |book| book.rows[1].unit = 0xFFFF),
-    ("slots and no unit", |book| book.rows[1] = Row { unit: 0, time: 0, ..book.rows[1] }),
-    ("a time and no unit", |book| book.rows[2].time = 1),
+    ("slots and no unit", |book| book.rows[1] = Row { unit: 0, time: Moment(0), ..book.rows[1] }),
+    ("a time and no unit", |book| book.rows[2].time = Moment(1)),
     ("a unit and no slots", |book| book.rows[1].slots = 0),
     ("five slots", |book| book.rows[1].slots = 0x76),
     ("a slot twice", |book| book.rows[3].slots |= 0x1),
@@ -160,35 +165,38 @@ const BROKEN: [Change; 23] = [
         book.rows[3].slots = 0xF00;
     }),
     ("a member after the last time", |book| book.rows[3].time = book.time + 1),
-    ("the manager after the last time", |book| book.rows[0].time = book.time + 1),
+    ("a member half of all times away", |book| book.rows[3].time = book.time - HALF),
 ];
 
 /// Twelve data slots and four rows, of which the third is empty.
-fn spread_book() -> Book {
-    let mut book = Book::fresh(plan(3, 4, 12), START).expect("the plan is within rule");
-    book.rows[1] = Row { unit: 0x0201, slots: 0x6, time: START - 1 };
-    book.rows[3] = Row { unit: 0x0203, slots: 0x8, time: START };
+fn spread_book(start: Moment) -> Book {
+    let mut book = Book::fresh(plan(3, 4, 12), start).expect("the plan is within rule");
+    book.rows[1] = Row { unit: 0x0201, slots: 0x6, time: start - 1 };
+    book.rows[3] = Row { unit: 0x0203, slots: 0x8, time: start };
     book
 }
 
-/// `spread_book` after each of those changes: the change in words, the book, and what calls on it are answered.
+/// `spread_book` of every start after each of those changes: the change in words, the book, and what calls on it are
+/// answered.
 pub fn books_by_rule() -> impl Iterator<Item = (&'static str, Book, u8)> {
     let changes = ALLOWED.iter().map(|change| (change, 0)).chain(BROKEN.iter().map(|change| (change, 14)));
-    changes.map(|((words, change), status)| {
-        let mut book = spread_book();
-        change(&mut book);
-        (*words, book, status)
+    changes.flat_map(|((words, change), status)| {
+        STARTS.into_iter().map(move |start| {
+            let mut book = spread_book(start);
+            change(&mut book);
+            (*words, book, status)
+        })
     })
 }
 
 fn books_with_one_rule_broken(check: &mut Check) -> Agreement {
     for (words, book, status) in books_by_rule() {
         let bytes = book_bytes(&book);
-        let room = 100;
+        let (time, room) = (book.time, 100);
         let asks = [
-            Ask::Join { frame: join_request(0x0204, 0, NETWORK, 1), time: START, room },
-            Ask::Heard { unit: MANAGER, time: START },
-            Ask::Schedule { unit: MANAGER, hop: 0, time: START, room },
+            Ask::Join { frame: join_request(0x0204, 0, NETWORK, 1), time, room },
+            Ask::Heard { unit: MANAGER, time },
+            Ask::Schedule { unit: MANAGER, hop: 0, time, room },
         ];
         for ask in asks {
             assert_eq!(check.put(&bytes, &ask)?.status, status, "{}: {:?}", words, ask);

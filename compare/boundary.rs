@@ -6,6 +6,7 @@
 //! whole exit contents of every buffer lent for output, so that what a call must leave alone is compared as well.
 
 use crate::frames::{Reading, Step};
+use crate::moments::Moment;
 use crate::refusal::Refusal;
 use std::fmt;
 
@@ -39,15 +40,15 @@ extern "C" {
         next: *mut u32,
     ) -> u8;
 
-    fn braidlark_state_fresh(state: *mut u8, state_length: usize, time: u32) -> u8;
+    fn braidlark_state_fresh(state: *mut u8, state_length: usize, time: Moment) -> u8;
 
-    fn braidlark_state_event(state: *mut u8, state_length: usize, event: u8, time: u32) -> u8;
+    fn braidlark_state_event(state: *mut u8, state_length: usize, event: u8, time: Moment) -> u8;
 
-    fn braidlark_state_tick(state: *mut u8, state_length: usize, superframe_ms: u32, time: u32) -> u8;
+    fn braidlark_state_tick(state: *mut u8, state_length: usize, superframe_ms: u32, time: Moment) -> u8;
 
     fn braidlark_clock_step(
-        offset: *mut i64,
-        local_time: u32,
+        offset: *mut u32,
+        local_time: Moment,
         network: u16,
         frame: *const u8,
         frame_length: usize,
@@ -350,7 +351,7 @@ pub enum Asked {
 pub struct StateCall<'a> {
     pub state: &'a [u8],
     pub asked: Asked,
-    pub time: u32,
+    pub time: Moment,
     pub empty: Empty,
 }
 
@@ -420,8 +421,8 @@ impl fmt::Display for StateAnswer {
 
 /// `braidlark_clock_step` with this offset.
 pub struct ClockCall<'a> {
-    pub offset: i64,
-    pub local_time: u32,
+    pub offset: u32,
+    pub local_time: Moment,
     pub network: u16,
     pub frame: &'a [u8],
     pub empty: Empty,
@@ -430,17 +431,17 @@ pub struct ClockCall<'a> {
 #[derive(PartialEq, Eq)]
 pub struct ClockAnswer {
     status: u8,
-    offset: i64,
+    offset: u32,
     disturbed: Vec<&'static str>,
 }
 
 impl ClockAnswer {
-    pub fn accepted(offset: i64) -> ClockAnswer {
+    pub fn accepted(offset: u32) -> ClockAnswer {
         ClockAnswer { status: 0, offset, disturbed: Vec::new() }
     }
 
     /// The answer with this refusal: the offset stays as it was.
-    pub fn refused(refusal: Refusal, offset: i64) -> ClockAnswer {
+    pub fn refused(refusal: Refusal, offset: u32) -> ClockAnswer {
         ClockAnswer { status: refusal.number(), offset, disturbed: Vec::new() }
     }
 }
@@ -540,18 +541,6 @@ impl Filler for u32 {
         let mut place = 0;
         while place < MOST_FILLER {
             filler[place] = (place as u32).wrapping_mul(0x9E37_79B1) ^ 0xA5C3_96E1;
-            place += 1;
-        }
-        filler
-    };
-}
-
-impl Filler for i64 {
-    const FILLER: &'static [i64; MOST_FILLER] = &{
-        let mut filler = [0; MOST_FILLER];
-        let mut place = 0;
-        while place < MOST_FILLER {
-            filler[place] = (place as i64).wrapping_mul(0x1E37_79B9_7F4A_7C15) ^ 0x25C3_96E1_5A3C_691E;
             place += 1;
         }
         filler

@@ -2,13 +2,11 @@
 //! answers.
 
 use crate::frames::{self, kind_of, BEACON, LONGEST_FRAME};
+use crate::moments::Moment;
 use crate::refusal::Refusal;
 
-/// How far an offset may lie from 0, either way.
-pub const LARGEST_OFFSET: i64 = 1 << 34;
-
-/// The offset after a beacon that came in at this local time, for a unit of this network.
-pub fn step(offset: i64, local_time: u32, network: u16, frame: &[u8]) -> Result<i64, Refusal> {
+/// The offset, modulo 2^32, after a beacon that came in at this local time, for a unit of this network.
+pub fn step(offset: u32, local_time: Moment, network: u16, frame: &[u8]) -> Result<u32, Refusal> {
     let beacon = beacon_in(frame)?;
     if network == 0 {
         return Err(Refusal::Field);
@@ -16,23 +14,20 @@ pub fn step(offset: i64, local_time: u32, network: u16, frame: &[u8]) -> Result<
     if beacon.network != u32::from(network) {
         return Err(Refusal::Network);
     }
-    if !(-LARGEST_OFFSET..=LARGEST_OFFSET).contains(&offset) {
-        return Err(Refusal::OutOfRule);
-    }
-    let here = i64::from(local_time) + offset;
-    let there = i64::from(beacon.original_time) + i64::from(beacon.delay);
-    let drift = here - there;
-    Ok(match drift.abs() {
-        0..=50 => offset,
-        51..=100 => offset - drift / 2,
-        _ => offset - drift,
-    })
+    let (here, there) = (local_time + offset, beacon.original_time + beacon.delay);
+    let drift = here.ahead_of(there);
+    let correction = match drift.unsigned_abs() {
+        0..=50 => 0,
+        51..=100 => drift / 2,
+        _ => drift,
+    };
+    Ok(offset.wrapping_sub(correction as u32))
 }
 
 /// What the clock needs of a beacon.
 struct Heard {
     network: u32,
-    original_time: u32,
+    original_time: Moment,
     delay: u32,
 }
 
@@ -44,5 +39,6 @@ fn beacon_in(frame: &[u8]) -> Result<Heard, Refusal> {
     }
     let reading = frames::read(frame, kind.fields.len())?;
     let number = |name: &str| reading.numbers[kind.place(name)];
-    Ok(Heard { network: number("network"), original_time: number("original time"), delay: number("delay") })
+    let (original_time, delay) = (Moment(number("original time")), number("delay"));
+    Ok(Heard { network: number("network"), original_time, delay })
 }

@@ -1,35 +1,48 @@
-//! The comparison of the clock's step: every limit of a drift and of an offset, networks and damaged beacons, then
-//! random steps.
+//! The comparison of the clock's step: the paper's examples, every limit of a drift and of an offset, networks and
+//! damaged beacons, then random runs, each step with the offset that the one before it left.
 
 use crate::boundary::{ClockAnswer, ClockCall, Empty};
-use crate::clock::{self, LARGEST_OFFSET};
+use crate::clock;
 use crate::frames::{kind_of, Kind, BEACON, KINDS, LONGEST_FRAME};
 use crate::frames_drafts::{mended, Draft};
 use crate::hostile::{every_length, BOTH_WAYS};
+use crate::moments::{Moment, HALF};
+use crate::moments_drafts::{anywhere, start, Pace, STARTS, TOP};
 use crate::random::Random;
 use crate::report::{Difference, Progress, Tally};
 use crate::Options;
 
 type Agreement = Result<(), Difference>;
+type Offset = Result<u32, Difference>;
 
-/// Drifts beyond every limit: each one between these is tried, and some further ones.
-const NEAR: i64 = 110;
-const FAR: [i64; 6] = [1_000, 65_536, 1 << 31, 1 << 32, 1 << 33, (1 << 34) + 5];
+/// A drift beyond every limit: each one up to it, either way, is tried, and some further ones.
+const NEAR: i32 = 110;
+const FAR: [i32; 8] = [1_000, -1_000, 65_536, -65_536, i32::MAX, i32::MAX - 1, i32::MIN, i32::MIN + 1];
 
-/// Times at and next to the limits of 32 bits.
-const TIMES: [u32; 6] = [0, 1, 1_000, 0x8000_0000, u32::MAX - 1, u32::MAX];
+/// Numbers at and next to the limits of 32 bits, with a sign and without.
+const CORNERS: [u32; 7] = [0, 1, 1_000, HALF - 1, HALF, u32::MAX - 1, u32::MAX];
+
+/// How many random steps a clock goes at most before another one begins.
+const LONGEST_RUN: usize = 60;
+
+/// The local times of a run.
+const PACE: Pace = Pace { at_limits: 0, leaps: 4 };
 
 pub fn check(options: &Options, progress: &mut Progress) -> Result<Tally, Difference> {
     let mut check = Check { random: Random::new(options.seed), tally: Tally::new() };
+    check.drifts_of_the_paper()?;
     check.every_drift()?;
     check.every_offset()?;
     check.networks()?;
     check.other_frames()?;
     check.every_byte_damaged()?;
     check.every_length()?;
-    for done in 0..options.steps {
-        check.random_step()?;
-        progress.step(done + 1, options.steps);
+    let mut done = 0;
+    while done < options.steps {
+        let steps = (options.steps - done).min(1 + check.random.below(LONGEST_RUN) as u64);
+        check.random_run(steps)?;
+        done += steps;
+        progress.step(done, options.steps);
     }
     Ok(check.tally)
 }
@@ -41,30 +54,31 @@ struct Check {
 
 /// The calls.
 impl Check {
-    fn step(&mut self, offset: i64, local_time: u32, network: u16, frame: &[u8]) -> Agreement {
+    /// Puts a step to both, and gives back the offset after it.
+    fn step(&mut self, offset: u32, local_time: Moment, network: u16, frame: &[u8]) -> Offset {
         let empty = self.random.one_of(&BOTH_WAYS);
         self.step_lending(offset, local_time, network, frame, empty)
     }
 
-    fn step_lending(&mut self, offset: i64, local_time: u32, network: u16, frame: &[u8], empty: Empty) -> Agreement {
+    fn step_lending(&mut self, offset: u32, local_time: Moment, network: u16, frame: &[u8], empty: Empty) -> Offset {
         let call = ClockCall { offset, local_time, network, frame, empty };
-        let expected = match clock::step(offset, local_time, network, frame) {
-            Ok(next) => ClockAnswer::accepted(next),
-            Err(refusal) => ClockAnswer::refused(refusal, offset),
+        let (next, expected) = match clock::step(offset, local_time, network, frame) {
+            Ok(next) => (next, ClockAnswer::accepted(next)),
+            Err(refusal) => (offset, ClockAnswer::refused(refusal, offset)),
         };
-        self.tally.compare(&call, &expected)
+        self.tally.compare(&call, &expected).map(|()| next)
     }
 
     /// Steps by a beacon of the caller's own network.
-    fn step_by(&mut self, offset: i64, local_time: u32, original_time: u32, delay: u32) -> Agreement {
+    fn step_by(&mut self, offset: u32, local_time: Moment, original_time: Moment, delay: u32) -> Offset {
         let draft = self.beacon(original_time, delay);
         self.step(offset, local_time, network_of(&draft), &draft.frame())
     }
 
     /// A beacon within every rule.
-    fn beacon(&mut self, original_time: u32, delay: u32) -> Draft {
+    fn beacon(&mut self, original_time: Moment, delay: u32) -> Draft {
         let mut draft = Draft::new(kind(), &mut self.random);
-        draft.set("original time", original_time);
+        draft.set("original time", original_time.0);
         draft.set("delay", delay);
         draft
     }
@@ -79,19 +93,36 @@ fn network_of(draft: &Draft) -> u16 {
 }
 
 /// The offset with which these times drift so far.
-fn offset_for(drift: i64, local_time: u32, original_time: u32, delay: u32) -> i64 {
-    drift + i64::from(original_time) + i64::from(delay) - i64::from(local_time)
+fn offset_for(drift: i32, local_time: Moment, original_time: Moment, delay: u32) -> u32 {
+    (original_time + delay + drift as u32).since(local_time)
 }
 
 /// Every limit in turn.
 impl Check {
-    /// At every corner of the three times. Where the offset is out of rule, the number is compared.
+    /// "Drift 100 leaves 50; -51 leaves -26; 101 leaves 0." And half of all times, which is its own negative, leaves 0.
+    fn drifts_of_the_paper(&mut self) -> Agreement {
+        let examples = [(100, 50), (-51, -26), (101, 0)];
+        let others = [(50, 50), (-50, -50), (51, 26), (-100, -50), (-101, 0), (i32::MAX, 0), (i32::MIN, 0)];
+        for (drift, left) in examples.into_iter().chain(others) {
+            for local_time in STARTS {
+                for original_time in STARTS {
+                    for delay in CORNERS {
+                        let offset = offset_for(drift, local_time, original_time, delay);
+                        let next = self.step_by(offset, local_time, original_time, delay)?;
+                        assert_eq!((local_time + next).ahead_of(original_time + delay), left, "drift {}", drift);
+                    }
+                }
+            }
+        }
+        Ok(())
+    }
+
+    /// At every corner of the three times.
     fn every_drift(&mut self) -> Agreement {
-        for local_time in TIMES {
-            for original_time in TIMES {
-                for delay in TIMES {
-                    let far = FAR.into_iter().flat_map(|drift| [drift, -drift]);
-                    for drift in (-NEAR..=NEAR).chain(far) {
+        for local_time in CORNERS.map(Moment) {
+            for original_time in CORNERS.map(Moment) {
+                for delay in CORNERS {
+                    for drift in (-NEAR..=NEAR).chain(FAR) {
                         let offset = offset_for(drift, local_time, original_time, delay);
                         self.step_by(offset, local_time, original_time, delay)?;
                     }
@@ -102,12 +133,10 @@ impl Check {
     }
 
     fn every_offset(&mut self) -> Agreement {
-        let limit = LARGEST_OFFSET;
-        let offsets = [0, 1, limit - 1, limit, limit + 1, 2 * limit, i64::MAX - 1, i64::MAX];
-        for offset in offsets.into_iter().flat_map(|offset| [offset, -offset]).chain([i64::MIN, i64::MIN + 1]) {
-            for local_time in TIMES {
-                for original_time in TIMES {
-                    for delay in TIMES {
+        for offset in CORNERS {
+            for local_time in CORNERS.map(Moment) {
+                for original_time in CORNERS.map(Moment) {
+                    for delay in CORNERS {
                         self.step_by(offset, local_time, original_time, delay)?;
                     }
                 }
@@ -116,15 +145,14 @@ impl Check {
         Ok(())
     }
 
-    /// Together with an offset in rule and out of it: the network is judged first.
     fn networks(&mut self) -> Agreement {
         let networks = [0, 1, 2, 0x100, 0x101, 0x7FFF, 0xFF00, 0xFFFE, 0xFFFF];
         for own in networks {
             for network in networks {
-                let mut draft = self.beacon(5_000, 70);
+                let mut draft = self.beacon(Moment(5_000), 70);
                 draft.set("network", u32::from(network));
-                for offset in [0, 200, LARGEST_OFFSET, LARGEST_OFFSET + 1, -LARGEST_OFFSET - 1, i64::MIN, i64::MAX] {
-                    self.step(offset, 5_000, own, &draft.frame())?;
+                for offset in CORNERS {
+                    self.step(offset, Moment(5_000), own, &draft.frame())?;
                 }
             }
         }
@@ -137,7 +165,7 @@ impl Check {
             let frame = Draft::new(kind, &mut self.random).frame();
             self.damaged(&frame)?;
         }
-        let draft = self.beacon(77, 5);
+        let draft = self.beacon(Moment(77), 5);
         for code in 0..=0xFF {
             let mut frame = draft.frame();
             frame[0] = code;
@@ -154,7 +182,7 @@ impl Check {
     fn every_byte_damaged(&mut self) -> Agreement {
         for place in 0..kind().frame_length(0) {
             for change in [1, 2, 4, 8, 16, 32, 64, 128, 0xFF] {
-                let mut frame = self.beacon(1_000_000, 300).frame();
+                let mut frame = self.beacon(TOP - 100, 300).frame();
                 frame[place] ^= change;
                 self.damaged(&frame)?;
             }
@@ -163,10 +191,10 @@ impl Check {
     }
 
     fn every_length(&mut self) -> Agreement {
-        let draft = self.beacon(1_000_000, 300);
+        let draft = self.beacon(TOP - 100, 300);
         for empty in BOTH_WAYS {
             for frame in every_length(&draft.frame(), &mut self.random) {
-                self.step_lending(0, 1_000_000, network_of(&draft), &frame, empty)?;
+                self.step_lending(0, TOP - 100, network_of(&draft), &frame, empty)?;
             }
         }
         Ok(())
@@ -178,8 +206,8 @@ impl Check {
         let own = frame.get(6..8).map_or(1, |bytes| u16::from_le_bytes([bytes[0], bytes[1]]));
         for bytes in [frame, &mended] {
             for network in [own, 0, own ^ 0x101] {
-                for offset in [40, LARGEST_OFFSET + 1] {
-                    let local_time = self.random.draw() as u32;
+                for offset in [40, u32::MAX - 40] {
+                    let local_time = anywhere(&mut self.random);
                     self.step(offset, local_time, network, bytes)?;
                 }
             }
@@ -188,21 +216,26 @@ impl Check {
     }
 }
 
-/// Random steps.
+/// Random runs.
 impl Check {
+    /// So many beacons for one clock, while its local time goes on.
+    fn random_run(&mut self, steps: u64) -> Agreement {
+        let (mut offset, mut local_time) = (self.number(), start(&mut self.random));
+        for _ in 0..steps {
+            local_time = PACE.next(local_time, local_time, &mut self.random);
+            offset = self.random_step(offset, local_time)?;
+        }
+        Ok(())
+    }
+
     /// A beacon as it should be, with a drift near a limit or anywhere; now and then a damaged one.
-    fn random_step(&mut self) -> Agreement {
-        let (local_time, original_time, delay) = (self.time(), self.time(), self.time());
-        let draft = self.beacon(original_time, delay);
+    fn random_step(&mut self, offset: u32, local_time: Moment) -> Offset {
+        let near = self.random.below(2 * NEAR as usize + 1) as i32 - NEAR;
+        let (far, any) = (self.random.one_of(&FAR), self.random.draw() as i32);
+        let drift = self.random.one_of(&[near, near, near, near, near, far, any, any]);
+        let delay = self.number();
+        let draft = self.beacon(local_time + offset - drift as u32 - delay, delay);
         let network = network_of(&draft);
-        let near = self.random.below(2 * NEAR as usize + 1) as i64 - NEAR;
-        let anywhere = (self.random.draw() as i64) >> (28 + self.random.below(3));
-        let anything = self.random.draw() as i64;
-        let offset = match self.random.below(8) {
-            0 => anything,
-            1..=3 => anywhere,
-            _ => offset_for(near, local_time, original_time, delay),
-        };
         let mut frame = draft.frame();
         match self.random.below(8) {
             0 => {
@@ -226,9 +259,8 @@ impl Check {
         self.random.one_of(&[0, own, own ^ 1, other])
     }
 
-    fn time(&mut self) -> u32 {
-        let any = self.random.draw() as u32;
-        let limit = self.random.one_of(&TIMES);
-        self.random.one_of(&[any, any, any, limit])
+    fn number(&mut self) -> u32 {
+        let (any, corner) = (self.random.draw() as u32, self.random.one_of(&CORNERS));
+        self.random.one_of(&[any, any, any, corner])
     }
 }

@@ -8,6 +8,7 @@ use crate::book_drafts::{book_bytes, join_request, plan_bytes, slot_request, too
 use crate::boundary::Empty;
 use crate::frames_drafts::mended;
 use crate::image_calls::Ask as ImageAsk;
+use crate::moments::Moment;
 use crate::random::Random;
 use crate::report::Difference;
 use crate::routes::Table;
@@ -85,7 +86,7 @@ const OWN: u16 = 0x0100;
 const NEAR: u16 = 0x0201;
 const FAR: u16 = 0x0301;
 const NETWORK: u16 = 1;
-const NOW: u32 = 1_000_000;
+const NOW: Moment = Moment(1_000_000);
 
 /// A table of 25 rows, and a frame of each kind that a table takes, as long as there are.
 pub fn tables(check: &mut routes_check::Check) -> Agreement {

@@ -2,6 +2,7 @@
 //! restores, and the text that draws an image.
 
 use crate::book::{Book, Row};
+use crate::moments::{accept, Moment};
 use crate::refusal::Refusal;
 use crate::routes::{long, word};
 use crate::site::{letters, Plan, MOST_ROWS};
@@ -16,9 +17,9 @@ pub const LONGEST_IMAGE: usize = ROWS_AT + IMAGE_ROW_LENGTH * MOST_ROWS;
 impl Book {
     /// Writes the image of the live members, and answers its length.
     #[inline(never)]
-    pub fn write_image(&self, time: u32, out: &mut [u8]) -> Result<usize, Refusal> {
+    pub fn write_image(&self, time: Moment, out: &mut [u8]) -> Result<usize, Refusal> {
         self.check()?;
-        self.accept_time(time)?;
+        accept(self.time, time)?;
         let mut live = self.clone();
         for place in (0..MOST_ROWS).filter(|place| !self.is_live(*place, time)) {
             live.rows[place] = Row::EMPTY;
@@ -43,7 +44,7 @@ impl Book {
 
     /// The book that an image holds, all its members heard at this time.
     #[inline(never)]
-    pub fn restore(image: &[u8], time: u32) -> Result<Book, Refusal> {
+    pub fn restore(image: &[u8], time: Moment) -> Result<Book, Refusal> {
         let head = image.get(..ROWS_AT).ok_or(Refusal::OutOfRule)?;
         let plan = Plan::from_bytes(&head[PLAN_AT..])?.checked()?;
         let length = ROWS_AT + IMAGE_ROW_LENGTH * usize::from(plan.rows);
@@ -72,7 +73,7 @@ fn contents(rows: u8) -> [u8; PLAN_AT] {
 /// What the program `slotview` prints for these bytes.
 pub fn drawing(image: &[u8]) -> String {
     // All members are live at the time of the restore, whichever it is.
-    let Book { plan, rows, .. } = match Book::restore(image, 0) {
+    let Book { plan, rows, .. } = match Book::restore(image, Moment(0)) {
         Ok(book) => book,
         Err(refusal) => return format!("refused {}\n", refusal.number()),
     };

@@ -5,27 +5,33 @@
 
 use crate::book_calls::{BookAnswer, Lending};
 use crate::boundary::{input_shown, Call, Empty};
+use crate::moments::Moment;
 use std::fmt;
 
 extern "C" {
     pub fn braidlark_image(
         book: *const u8,
         book_length: usize,
-        time: u32,
+        time: Moment,
         out: *mut u8,
         out_length: usize,
         written: *mut u32,
     ) -> u8;
 
-    pub fn braidlark_restore(book: *mut u8, book_length: usize, image: *const u8, image_length: usize, time: u32)
-        -> u8;
+    pub fn braidlark_restore(
+        book: *mut u8,
+        book_length: usize,
+        image: *const u8,
+        image_length: usize,
+        time: Moment,
+    ) -> u8;
 }
 
 /// What is asked; `room` is the length of the output buffer.
 #[derive(Clone, Debug)]
 pub enum Ask {
-    Image { time: u32, room: usize },
-    Restore { image: Vec<u8>, time: u32 },
+    Image { time: Moment, room: usize },
+    Restore { image: Vec<u8>, time: Moment },
 }
 
 /// The calls by name, in the order of `Ask`, each with the refusals that it can give.

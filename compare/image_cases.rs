@@ -1,5 +1,5 @@
 //! Cases of stored images by name: the paper's example, who is written and what is restored, each refusal of each call,
-//! and images with each byte, each length and each rule changed alone.
+//! each from every start that there is; and images with each byte, each length and each rule changed alone.
 
 use crate::book::{Book, Row, LIVE_AGE};
 use crate::book_drafts::{book_bytes, join_request};
@@ -8,23 +8,29 @@ use crate::image::drawing;
 use crate::image_calls::Ask;
 use crate::image_check::{Agreement, Check};
 use crate::image_files::{named_images, spread_book, PAPER};
+use crate::moments::{Moment, LONGEST_STEP};
+use crate::moments_drafts::{FORWARD, NOT_FORWARD, STARTS};
 use crate::report::Difference;
 use crate::site::Plan;
 
-const START: u32 = 1_000_000;
+const START: Moment = Moment(1_000_000);
 /// Room for every image.
 const ROOM: usize = 300;
 /// What a restore overwrites.
 const BUFFER: [u8; Book::LENGTH] = [0xFF; Book::LENGTH];
 
 pub fn check(check: &mut Check) -> Agreement {
-    image_of_the_paper(check)?;
     drawing_of_the_paper();
     drawing_of_four_rows();
-    live_members_are_written(check)?;
-    manager_is_always_written(check)?;
-    restore_renews_every_member(check)?;
-    image_refusals(check)?;
+    for start in STARTS {
+        image_of_the_paper(check, start)?;
+        live_members_are_written(check, start)?;
+        manager_is_always_written(check, start)?;
+        restore_renews_every_member(check, start)?;
+        image_refusals(check, start)?;
+        every_step(check, start)?;
+        every_stored_time(check, start)?;
+    }
     restore_refusals(check)?;
     books_with_one_rule_broken(check)?;
     named(check)?;
@@ -33,18 +39,18 @@ pub fn check(check: &mut Check) -> Agreement {
 }
 
 /// The book that the paper's image holds, as a fresh one and a join make it.
-fn book_of_the_paper() -> Book {
+fn book_of_the_paper(start: Moment) -> Book {
     let plan = Plan { network: 1, manager: 0x0100, max_hops: 1, rows: 2, data_slots: 2, slot_ms: 1000 };
-    let mut book = Book::fresh(plan, START).expect("the plan is within rule");
-    book.join(&join_request(0x0201, 0, 1, 4), START, &mut [0; 65]).expect("a row is free");
+    let mut book = Book::fresh(plan, start).expect("the plan is within rule");
+    book.join(&join_request(0x0201, 0, 1, 4), start, &mut [0; 65]).expect("a row is free");
     book
 }
 
-fn image_of_the_paper(check: &mut Check) -> Agreement {
-    let book = book_bytes(&book_of_the_paper());
-    let answer = check.put(&book, &Ask::Image { time: START, room: PAPER.len() })?;
+fn image_of_the_paper(check: &mut Check, start: Moment) -> Agreement {
+    let book = book_bytes(&book_of_the_paper(start));
+    let answer = check.put(&book, &Ask::Image { time: start, room: PAPER.len() })?;
     assert_eq!((answer.status, answer.written as usize, &answer.out[..]), (0, PAPER.len(), &PAPER[..]));
-    let answer = check.put(&BUFFER, &Ask::Restore { image: PAPER.to_vec(), time: START })?;
+    let answer = check.put(&BUFFER, &Ask::Restore { image: PAPER.to_vec(), time: start })?;
     assert_eq!((answer.status, answer.book), (0, book));
     Ok(())
 }
@@ -63,7 +69,7 @@ fn drawing_of_four_rows() {
 }
 
 /// The image that is written of a book at a time.
-fn written(check: &mut Check, book: &Book, time: u32) -> Result<Vec<u8>, Difference> {
+fn written(check: &mut Check, book: &Book, time: Moment) -> Result<Vec<u8>, Difference> {
     let bytes = book_bytes(book);
     let answer = check.put(&bytes, &Ask::Image { time, room: ROOM })?;
     assert_eq!(answer.status, 0, "{:?}", book);
@@ -73,61 +79,91 @@ fn written(check: &mut Check, book: &Book, time: u32) -> Result<Vec<u8>, Differe
 }
 
 /// A member is written up to its age, and then its row is zeros.
-fn live_members_are_written(check: &mut Check) -> Agreement {
-    let book = book_of_the_paper();
-    assert_eq!(written(check, &book, START + LIVE_AGE)?, PAPER);
+fn live_members_are_written(check: &mut Check, start: Moment) -> Agreement {
+    let book = book_of_the_paper(start);
+    assert_eq!(written(check, &book, start + LIVE_AGE)?, PAPER);
     let mut alone = PAPER.to_vec();
     alone[30..40].fill(0);
-    assert_eq!(written(check, &book, START + LIVE_AGE + 1)?, alone);
+    assert_eq!(written(check, &book, start + LIVE_AGE + 1)?, alone);
     assert_eq!(drawing(&alone), "slots 27 active 8\n0100 B.CcTRDD...................\n");
     Ok(())
 }
 
-fn manager_is_always_written(check: &mut Check) -> Agreement {
-    let mut book = book_of_the_paper();
-    book.rows[0].time = 0;
+/// Whatever its time is.
+fn manager_is_always_written(check: &mut Check, start: Moment) -> Agreement {
+    let mut book = book_of_the_paper(start);
     book.rows[1] = Row::EMPTY;
-    for time in [START, START + LIVE_AGE + 1, u32::MAX] {
-        assert_eq!(written(check, &book, time)?[20..30], PAPER[20..30]);
+    for age in FORWARD.into_iter().chain(NOT_FORWARD) {
+        book.rows[0].time = start - age;
+        for time in [start, start + LIVE_AGE + 1, start + LONGEST_STEP] {
+            assert_eq!(written(check, &book, time)?[20..30], PAPER[20..30]);
+        }
     }
     Ok(())
 }
 
 /// All are live from the time of the restore on, be it earlier than any time before.
-fn restore_renews_every_member(check: &mut Check) -> Agreement {
-    for time in [0, 1, START, u32::MAX - LIVE_AGE, u32::MAX] {
-        let answer = check.put(&BUFFER, &Ask::Restore { image: PAPER.to_vec(), time })?;
+fn restore_renews_every_member(check: &mut Check, time: Moment) -> Agreement {
+    for buffer in [BUFFER.to_vec(), book_bytes(&book_of_the_paper(time + 1))] {
+        let answer = check.put(&buffer, &Ask::Restore { image: PAPER.to_vec(), time })?;
         let book = Book::from_bytes(&answer.book).expect("the restore left a book");
         assert_eq!((book.time, book.rows[0].time, book.rows[1].time), (time, time, time));
-        assert_eq!(written(check, &book, time.saturating_add(LIVE_AGE))?, PAPER);
+        assert_eq!(written(check, &book, time + LIVE_AGE)?, PAPER);
     }
     Ok(())
 }
 
 /// Where several refusals apply, the first is given.
-fn image_refusals(check: &mut Check) -> Agreement {
-    let good = book_bytes(&book_of_the_paper());
+fn image_refusals(check: &mut Check, start: Moment) -> Agreement {
+    let good = book_bytes(&book_of_the_paper(start));
     let mut bad = good.clone();
     bad[Book::HEAD_LENGTH] ^= 1;
     let longer = [&good[..], &[0]].concat();
     let room = PAPER.len();
-    let cases: [(&[u8], u32, usize, u8); 11] = [
-        (&[], START, room, 14),
-        (&good[1..], START, room, 14),
-        (&good[..Book::LENGTH - 1], START - 1, 0, 14),
-        (&longer, START - 1, 0, 14),
-        (&bad, START - 1, 0, 14),
-        (&good, START - 1, room, 8),
-        (&good, 0, 0, 8),
-        (&good, START, room - 1, 5),
-        (&good, START, 0, 5),
+    let cases: [(&[u8], Moment, usize, u8); 11] = [
+        (&[], start, room, 14),
+        (&good[1..], start, room, 14),
+        (&good[..Book::LENGTH - 1], start - 1, 0, 14),
+        (&longer, start - 1, 0, 14),
+        (&bad, start - 1, 0, 14),
+        (&good, start - 1, room, 8),
+        (&good, start - 1, 0, 8),
+        (&good, start, room - 1, 5),
+        (&good, start, 0, 5),
         // Nobody's row is shorter for being empty.
-        (&good, START + LIVE_AGE + 1, room - 1, 5),
-        (&good, START, room + 1, 0),
+        (&good, start + LIVE_AGE + 1, room - 1, 5),
+        (&good, start, room + 1, 0),
     ];
     for (book, time, room, status) in cases {
         let answer = check.put(book, &Ask::Image { time, room })?;
         assert_eq!(answer.status, status, "{} bytes of book, time {}, room {}", book.len(), time, room);
+    }
+    Ok(())
+}
+
+/// "Below 2^31 it is forward, otherwise 8."
+fn every_step(check: &mut Check, start: Moment) -> Agreement {
+    let book = book_bytes(&book_of_the_paper(start));
+    for (steps, status) in [(FORWARD, 0), (NOT_FORWARD, 8)] {
+        for step in steps {
+            let answer = check.put(&book, &Ask::Image { time: start + step, room: ROOM })?;
+            assert_eq!(answer.status, status, "a step of {}", step);
+        }
+    }
+    Ok(())
+}
+
+/// A member's time is judged by the same difference, whatever the call's time is.
+fn every_stored_time(check: &mut Check, start: Moment) -> Agreement {
+    let mut book = book_of_the_paper(start);
+    for (ages, status) in [(FORWARD, 0), (NOT_FORWARD, 14)] {
+        for age in ages {
+            book.rows[1].time = start - age;
+            for time in [start, start + LONGEST_STEP] {
+                let answer = check.put(&book_bytes(&book), &Ask::Image { time, room: ROOM })?;
+                assert_eq!(answer.status, status, "a member heard {} ms before", age);
+            }
+        }
     }
     Ok(())
 }

@@ -7,10 +7,11 @@ use crate::book_drafts::{book_bytes, Drawing, Scene};
 use crate::boundary::Empty;
 use crate::hostile::{self, Hostile, BOTH_WAYS};
 use crate::image_calls::{Ask, ImageCall, CALLS};
+use crate::moments::Moment;
+use crate::moments_drafts::start;
 use crate::random::Random;
 use crate::refusal::Refusal;
 use crate::report::{Difference, Progress, Tally};
-use crate::routes_drafts::random_start;
 use crate::{image_cases, Options};
 
 pub type Agreement = Result<(), Difference>;
@@ -80,13 +81,13 @@ impl Check {
     }
 
     /// What was written at this time restores the book, but for who was silent then and when the others were heard.
-    pub fn round_trip(&mut self, book: &[u8], time: u32, image: &[u8]) -> Agreement {
-        let new_time = random_start(&mut self.random);
+    pub fn round_trip(&mut self, book: &[u8], time: Moment, image: &[u8]) -> Agreement {
+        let new_time = start(&mut self.random);
         let answer = self.put(book, &Ask::Restore { image: image.to_vec(), time: new_time })?;
         assert_eq!(answer.status, 0, "what was written is accepted");
         let mut expected = Book::from_bytes(book).expect("an image of it was written");
         for (place, row) in expected.rows.iter_mut().enumerate().filter(|(_, row)| row.unit != 0) {
-            match place > 0 && row.time < time.saturating_sub(LIVE_AGE) {
+            match place > 0 && time.since(row.time) > LIVE_AGE {
                 true => *row = Row::EMPTY,
                 false => row.time = new_time,
             }

@@ -4,8 +4,8 @@
 use crate::book_drafts::Drawing;
 use crate::image::{IMAGE_ROW_LENGTH, PLAN_AT, ROWS_AT};
 use crate::image_calls::Ask;
+use crate::moments_drafts::start;
 use crate::random::Random;
-use crate::routes_drafts::random_start;
 
 impl Drawing<'_> {
     /// The image of the book, at any time that it may have.
@@ -20,7 +20,7 @@ impl Drawing<'_> {
         for _ in 0..self.random.one_of(&[1, 1, 1, 2]) {
             damage(&mut image, self.random);
         }
-        Ask::Restore { image, time: random_start(self.random) }
+        Ask::Restore { image, time: start(self.random) }
     }
 
     /// A buffer for a restored book, of the right length unless by a slip; what it holds is no matter.

@@ -3,6 +3,7 @@
 
 use crate::book::{Book, Row};
 use crate::image::{drawing, IMAGE_ROW_LENGTH, LONGEST_IMAGE, ROWS_AT};
+use crate::moments::Moment;
 use crate::site::Plan;
 use std::fs;
 use std::path::Path;
@@ -72,9 +73,9 @@ pub fn spread_book() -> Book {
 /// A site whose every row is used. The last member has the last slot, the others one each from the first.
 pub fn full_book(max_hops: u8, rows: u8, data_slots: u8) -> Book {
     let plan = Plan { network: 0x0102, manager: 0x0100, max_hops, rows, data_slots, slot_ms: 1 };
-    let mut book = Book::fresh(plan, 0).expect("the plan is within rule");
+    let mut book = Book::fresh(plan, Moment(0)).expect("the plan is within rule");
     for place in 1..rows {
-        book.rows[usize::from(place)] = Row { unit: 0x0200 + u16::from(place), slots: 1 << place, time: 0 };
+        book.rows[usize::from(place)] = Row { unit: 0x0200 + u16::from(place), slots: 1 << place, time: Moment(0) };
     }
     book.rows[usize::from(rows) - 1].slots = 1 << (data_slots - 1);
     book

@@ -1,7 +1,9 @@
 //! The independent implementation of a unit's states, from the paper's list of them. The library is held to
 //! what these functions answer.
 
+use crate::moments::{accept, Moment};
 use crate::refusal::Refusal;
+use crate::routes::long;
 
 /// A stored state: the kind, then the last accepted time, the time of entry and that of the last beacon.
 pub const STATE_LENGTH: usize = 13;
@@ -57,24 +59,23 @@ pub const EVENTS: [Event; 9] = [
 #[derive(Clone, Copy, Debug, PartialEq, Eq)]
 pub struct Stored {
     pub kind: u8,
-    pub last: u32,
-    pub entered: u32,
-    pub beacon: u32,
+    pub last: Moment,
+    pub entered: Moment,
+    pub beacon: Moment,
 }
 
 impl Stored {
     pub fn bytes(self) -> Vec<u8> {
         let mut bytes = vec![self.kind];
         for time in [self.last, self.entered, self.beacon] {
-            bytes.extend(time.to_le_bytes());
+            bytes.extend(time.0.to_le_bytes());
         }
         bytes
     }
 
-    fn of(bytes: &[u8]) -> Option<Stored> {
+    pub fn of(bytes: &[u8]) -> Option<Stored> {
         let bytes: &[u8; STATE_LENGTH] = bytes.try_into().ok()?;
-        let time =
-            |place: usize| u32::from_le_bytes([bytes[place], bytes[place + 1], bytes[place + 2], bytes[place + 3]]);
+        let time = |place: usize| Moment(long(bytes, place));
         Some(Stored { kind: bytes[0], last: time(1), entered: time(5), beacon: time(9) })
     }
 }
@@ -82,13 +83,13 @@ impl Stored {
 /// A state within rule.
 struct Unit {
     kind: Kind,
-    last: u32,
-    entered: u32,
-    beacon: u32,
+    last: Moment,
+    entered: Moment,
+    beacon: Moment,
 }
 
 /// The state of a unit that begins.
-pub fn fresh(buffer: &[u8], time: u32) -> Result<Vec<u8>, Refusal> {
+pub fn fresh(buffer: &[u8], time: Moment) -> Result<Vec<u8>, Refusal> {
     if buffer.len() != STATE_LENGTH {
         return Err(Refusal::OutOfRule);
     }
@@ -96,7 +97,7 @@ pub fn fresh(buffer: &[u8], time: u32) -> Result<Vec<u8>, Refusal> {
 }
 
 /// The state after the event with this number.
-pub fn event(buffer: &[u8], number: u8, time: u32) -> Result<Vec<u8>, Refusal> {
+pub fn event(buffer: &[u8], number: u8, time: Moment) -> Result<Vec<u8>, Refusal> {
     let mut unit = Unit::at(buffer, time)?;
     let event = EVENTS.get(usize::from(number)).ok_or(Refusal::Event)?;
     match (unit.kind, event) {
@@ -118,13 +119,13 @@ pub fn event(buffer: &[u8], number: u8, time: u32) -> Result<Vec<u8>, Refusal> {
 }
 
 /// The state after a tick, where a superframe takes so many ms.
-pub fn tick(buffer: &[u8], superframe_ms: u32, time: u32) -> Result<Vec<u8>, Refusal> {
+pub fn tick(buffer: &[u8], superframe_ms: u32, time: Moment) -> Result<Vec<u8>, Refusal> {
     let mut unit = Unit::at(buffer, time)?;
     if !(1..=LONGEST_SUPERFRAME_MS).contains(&superframe_ms) {
         return Err(Refusal::OutOfRule);
     }
-    let since_entry = time - unit.entered;
-    let silence = u64::from(time - unit.beacon);
+    let since_entry = time.since(unit.entered);
+    let silence = u64::from(time.since(unit.beacon));
     match unit.kind {
         Kind::Discovery if since_entry >= DISCOVERY_MS => unit.enter(Kind::Manager, time),
         Kind::Joining if since_entry >= JOINING_MS => unit.enter(Kind::Recovery, time),
@@ -137,21 +138,24 @@ pub fn tick(buffer: &[u8], superframe_ms: u32, time: u32) -> Result<Vec<u8>, Ref
 }
 
 impl Unit {
-    /// The state in a buffer, if it is one within rule and the time is not before its last one.
-    fn at(buffer: &[u8], time: u32) -> Result<Unit, Refusal> {
+    /// The state in a buffer, if it is one within rule and the time follows its last one.
+    fn at(buffer: &[u8], time: Moment) -> Result<Unit, Refusal> {
         let stored = Stored::of(buffer).ok_or(Refusal::OutOfRule)?;
         let kind = *KINDS.get(usize::from(stored.kind)).ok_or(Refusal::OutOfRule)?;
-        if stored.entered > stored.last || stored.beacon > stored.last {
+        let acted_on = match kind {
+            Kind::Discovery | Kind::Joining | Kind::Recovery => Some(stored.entered),
+            Kind::Normal => Some(stored.beacon),
+            Kind::Initializing | Kind::Manager | Kind::Stopped => None,
+        };
+        if acted_on.map_or(false, |moment| !stored.last.follows(moment)) {
             return Err(Refusal::OutOfRule);
         }
-        if time < stored.last {
-            return Err(Refusal::Early);
-        }
+        accept(stored.last, time)?;
         Ok(Unit { kind, last: stored.last, entered: stored.entered, beacon: stored.beacon })
     }
 
     /// To enter Normal is to hear a beacon.
-    fn enter(&mut self, kind: Kind, time: u32) {
+    fn enter(&mut self, kind: Kind, time: Moment) {
         self.kind = kind;
         self.entered = time;
         if kind == Kind::Normal {

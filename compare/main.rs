@@ -1,5 +1,7 @@
 //! `compare` puts the same calls to the library and to an implementation written from the paper, subject by
 //! subject, and stops at the first difference. This file is the command line and the order of the subjects.
+//!
+//! The paper is document 01, with times and the clock as request 104 of document 02 has them (`moments`).
 
 #![deny(warnings)]
 
@@ -29,6 +31,8 @@ mod image_drafts;
 mod image_files;
 mod life;
 mod life_check;
+mod moments;
+mod moments_drafts;
 mod pages;
 mod random;
 mod refusal;

@@ -2,6 +2,7 @@
 
 use crate::bodies::seal;
 use crate::frames::{ENTRY_LENGTH, ROUTING_UPDATE};
+use crate::moments::{accept, Moment};
 use crate::refusal::Refusal;
 use crate::routes::{Row, Table, SHORTEST_UPDATE, UNREACHABLE, UPDATE_HEAD};
 
@@ -10,9 +11,9 @@ pub const ROWS_OF_A_PAGE: usize = 24;
 impl Table {
     /// Writes a page of this unit's update, and answers its length.
     #[inline(never)]
-    pub fn page(&self, page: u32, time: u32, out: &mut [u8]) -> Result<usize, Refusal> {
+    pub fn page(&self, page: u32, time: Moment, out: &mut [u8]) -> Result<usize, Refusal> {
         let used = self.used_rows()?;
-        self.accept_time(time)?;
+        accept(self.time, time)?;
         // Gone rows are not counted, so a page's first row is found by walking.
         let standing = || self.rows[..used].iter().filter(|row| !row.is_gone(time));
         let rows_before = page as usize * ROWS_OF_A_PAGE;
@@ -25,7 +26,7 @@ impl Table {
         out[0] = ROUTING_UPDATE;
         out[1..3].copy_from_slice(&self.own.to_le_bytes());
         out[3] = count as u8;
-        out[4..8].copy_from_slice(&time.to_le_bytes());
+        out[4..8].copy_from_slice(&time.0.to_le_bytes());
         let entries = out[UPDATE_HEAD..].chunks_exact_mut(ENTRY_LENGTH);
         for (entry, row) in entries.zip(standing().skip(rows_before)) {
             write_entry(row, time, entry);
@@ -36,7 +37,7 @@ impl Table {
 }
 
 /// A dead row goes out as unreachable, with its stored time and next hop.
-fn write_entry(row: &Row, time: u32, entry: &mut [u8]) {
+fn write_entry(row: &Row, time: Moment, entry: &mut [u8]) {
     let (hops, quality) = match row.is_usable(time) {
         true => (row.hops, row.quality),
         false => (UNREACHABLE, 0),
@@ -45,5 +46,5 @@ fn write_entry(row: &Row, time: u32, entry: &mut [u8]) {
     entry[2] = hops;
     entry[3] = quality;
     entry[4..6].copy_from_slice(&row.next_hop.to_le_bytes());
-    entry[6..10].copy_from_slice(&row.time.to_le_bytes());
+    entry[6..10].copy_from_slice(&row.time.0.to_le_bytes());
 }

@@ -17,7 +17,7 @@ pub enum Refusal {
     Own = 6,
     /// The event is not allowed in this state.
     Event = 7,
-    /// The time is earlier than the last accepted one.
+    /// The time is earlier than the last accepted one: the step from that to this is not forward.
     Early = 8,
     /// The link quality is under 40.
     Quality = 9,
@@ -29,8 +29,7 @@ pub enum Refusal {
     Full = 12,
     /// The unit is not a live member, or is the manager and asked to leave.
     NotMember = 13,
-    /// A plan, image, page, hop, superframe's length or clock's offset, or a table, book or state handed in, is out of
-    /// rule.
+    /// A plan, image, page, hop or superframe's length, or a table, book or state handed in, is out of rule.
     OutOfRule = 14,
     /// The network is not the book's or the caller's.
     Network = 15,

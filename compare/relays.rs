@@ -2,6 +2,7 @@
 
 use crate::bodies::{body_of, seal};
 use crate::frames::DATA;
+use crate::moments::{accept, Moment};
 use crate::refusal::Refusal;
 use crate::routes::{is_unit, word, Table};
 use std::ops::Range;
@@ -27,13 +28,13 @@ pub enum Relayed {
 impl Table {
     /// Hands a data frame for this unit back, and writes any other for its next hop.
     #[inline(never)]
-    pub fn relay(&self, frame: &[u8], time: u32, out: &mut [u8]) -> Result<Relayed, Refusal> {
+    pub fn relay(&self, frame: &[u8], time: Moment, out: &mut [u8]) -> Result<Relayed, Refusal> {
         let used = self.used_rows()?;
         let data = Data::read(frame)?;
         if data.source == self.own {
             return Err(Refusal::Own);
         }
-        self.accept_time(time)?;
+        accept(self.time, time)?;
         if data.destination == self.own {
             return Ok(Relayed::ForUs(PAYLOAD..frame.len() - 1));
         }

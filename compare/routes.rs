@@ -3,6 +3,7 @@
 
 use crate::bodies::body_of;
 use crate::frames::{ENTRY_LENGTH, ROUTING_UPDATE};
+use crate::moments::{accept, Moment};
 use crate::refusal::Refusal;
 
 pub const MOST_ROWS: usize = 48;
@@ -28,23 +29,23 @@ pub struct Row {
     pub next_hop: u16,
     pub hops: u8,
     pub quality: u8,
-    pub time: u32,
+    pub time: Moment,
     pub withdrawn: bool,
 }
 
 impl Row {
-    pub const UNUSED: Row = Row { destination: 0, next_hop: 0, hops: 0, quality: 0, time: 0, withdrawn: false };
+    pub const UNUSED: Row = Row { destination: 0, next_hop: 0, hops: 0, quality: 0, time: Moment(0), withdrawn: false };
 
-    pub fn is_usable(&self, time: u32) -> bool {
-        !self.withdrawn && time - self.time <= USABLE_AGE
+    pub fn is_usable(&self, time: Moment) -> bool {
+        !self.withdrawn && time.since(self.time) <= USABLE_AGE
     }
 
-    pub fn is_gone(&self, time: u32) -> bool {
+    pub fn is_gone(&self, time: Moment) -> bool {
         let limit = if self.withdrawn { WITHDRAWN_AGE } else { STANDING_AGE };
-        time - self.time > limit
+        time.since(self.time) > limit
     }
 
-    fn withdraw(&mut self, time: u32) {
+    fn withdraw(&mut self, time: Moment) {
         self.time = time;
         self.withdrawn = true;
     }
@@ -69,7 +70,7 @@ pub struct Pair {
 #[derive(Clone, Debug, PartialEq, Eq)]
 pub struct Table {
     pub own: u16,
-    pub time: u32,
+    pub time: Moment,
     pub pair: Option<Pair>,
     pub rows: [Row; MOST_ROWS],
 }
@@ -88,7 +89,7 @@ pub fn is_unit(number: u16) -> bool {
 /// The calls.
 impl Table {
     #[inline(never)]
-    pub fn fresh(own: u16, time: u32) -> Result<Table, Refusal> {
+    pub fn fresh(own: u16, time: Moment) -> Result<Table, Refusal> {
         if !is_unit(own) {
             return Err(Refusal::Field);
         }
@@ -96,17 +97,17 @@ impl Table {
     }
 
     #[inline(never)]
-    pub fn lookup(&self, destination: u16, time: u32) -> Result<Route, Refusal> {
+    pub fn lookup(&self, destination: u16, time: Moment) -> Result<Route, Refusal> {
         let used = self.used_rows()?;
         if !is_unit(destination) {
             return Err(Refusal::Field);
         }
-        self.accept_time(time)?;
+        accept(self.time, time)?;
         self.route(used, destination, time)
     }
 
     #[inline(never)]
-    pub fn forget(&mut self, unit: u16, time: u32) -> Result<(), Refusal> {
+    pub fn forget(&mut self, unit: u16, time: Moment) -> Result<(), Refusal> {
         let used = self.used_rows()?;
         if !is_unit(unit) {
             return Err(Refusal::Field);
@@ -114,7 +115,7 @@ impl Table {
         if unit == self.own {
             return Err(Refusal::Own);
         }
-        self.accept_time(time)?;
+        accept(self.time, time)?;
         let used = self.begin_change(used, time);
         for row in &mut self.rows[..used] {
             if (row.destination == unit || row.next_hop == unit) && row.is_usable(time) {
@@ -126,14 +127,14 @@ impl Table {
 
     /// Merges an update heard with this link quality, and answers how many candidates found no room.
     #[inline(never)]
-    pub fn merge(&mut self, frame: &[u8], quality: u8, time: u32) -> Result<u8, Refusal> {
+    pub fn merge(&mut self, frame: &[u8], quality: u8, time: Moment) -> Result<u8, Refusal> {
         let used = self.used_rows()?;
         let update = Update::read(frame)?;
         let origin = update.origin;
         if origin == self.own {
             return Err(Refusal::Own);
         }
-        self.accept_time(time)?;
+        accept(self.time, time)?;
         if quality < LEAST_QUALITY {
             return Err(Refusal::Quality);
         }
@@ -186,14 +187,7 @@ impl Table {
             && row.next_hop != self.own
             && (1..=MOST_HOPS).contains(&row.hops)
             && row.quality >= LEAST_QUALITY
-            && row.time <= self.time
-    }
-
-    pub(crate) fn accept_time(&self, time: u32) -> Result<(), Refusal> {
-        match time < self.time {
-            true => Err(Refusal::Early),
-            false => Ok(()),
-        }
+            && self.time.follows(row.time)
     }
 
     /// The place of the first row that is not lower than this destination.
@@ -203,7 +197,7 @@ impl Table {
     }
 
     /// The usable route to a destination.
-    pub(crate) fn route(&self, used: usize, destination: u16, time: u32) -> Result<Route, Refusal> {
+    pub(crate) fn route(&self, used: usize, destination: u16, time: Moment) -> Result<Route, Refusal> {
         match self.rows[..used].get(self.place(used, destination)) {
             Some(row) if row.destination == destination && row.is_usable(time) => {
                 Ok(Route { next_hop: row.next_hop, hops: row.hops })
@@ -213,7 +207,7 @@ impl Table {
     }
 
     /// Records the time of an accepted call and drops the rows that are gone. Answers how many are used then.
-    pub(crate) fn begin_change(&mut self, used: usize, time: u32) -> usize {
+    pub(crate) fn begin_change(&mut self, used: usize, time: Moment) -> usize {
         self.time = time;
         let first = match self.rows[..used].iter().position(|row| row.is_gone(time)) {
             Some(first) => first,
@@ -251,7 +245,7 @@ impl Table {
     }
 
     /// Withdraws the usable row to a destination through this neighbour.
-    fn unlearn(&mut self, used: usize, destination: u16, neighbour: u16, time: u32) {
+    fn unlearn(&mut self, used: usize, destination: u16, neighbour: u16, time: Moment) {
         let place = self.place(used, destination);
         if let Some(row) = self.rows[..used].get_mut(place) {
             if row.destination == destination && row.next_hop == neighbour && row.is_usable(time) {
@@ -300,7 +294,7 @@ impl Entry {
     }
 
     /// The row that this entry offers through its sender, unless it is bad.
-    fn candidate(&self, sender: u16, link: u8, time: u32) -> Option<Row> {
+    fn candidate(&self, sender: u16, link: u8, time: Moment) -> Option<Row> {
         // Unreachable is more than the most hops as well.
         if self.hops >= MOST_HOPS {
             return None;
@@ -334,14 +328,14 @@ impl Table {
             (false, Pair { origin: 0, sequence: 0 }) => None,
             _ => return Err(Refusal::OutOfRule),
         };
-        let mut table = Table { own: word(head, 0), time: long(head, 2), pair, rows: [Row::UNUSED; MOST_ROWS] };
+        let mut table = Table { own: word(head, 0), time: Moment(long(head, 2)), pair, rows: [Row::UNUSED; MOST_ROWS] };
         for (row, bytes) in table.rows.iter_mut().zip(rows.chunks_exact(Table::ROW_LENGTH)) {
             *row = Row {
                 destination: word(bytes, 0),
                 next_hop: word(bytes, 2),
                 hops: bytes[4],
                 quality: bytes[5],
-                time: long(bytes, 6),
+                time: Moment(long(bytes, 6)),
                 withdrawn: flag(bytes[10])?,
             };
         }
@@ -353,7 +347,7 @@ impl Table {
         let (head, rows) = bytes.split_at_mut(Table::HEAD_LENGTH);
         let pair = self.pair.unwrap_or(Pair { origin: 0, sequence: 0 });
         head[0..2].copy_from_slice(&self.own.to_le_bytes());
-        head[2..6].copy_from_slice(&self.time.to_le_bytes());
+        head[2..6].copy_from_slice(&self.time.0.to_le_bytes());
         head[6] = u8::from(self.pair.is_some());
         head[7..9].copy_from_slice(&pair.origin.to_le_bytes());
         head[9..11].copy_from_slice(&pair.sequence.to_le_bytes());
@@ -362,7 +356,7 @@ impl Table {
             bytes[2..4].copy_from_slice(&row.next_hop.to_le_bytes());
             bytes[4] = row.hops;
             bytes[5] = row.quality;
-            bytes[6..10].copy_from_slice(&row.time.to_le_bytes());
+            bytes[6..10].copy_from_slice(&row.time.0.to_le_bytes());
             bytes[10] = u8::from(row.withdrawn);
         }
     }

@@ -8,21 +8,22 @@ use crate::boundary::{
     buffer_shown, input_shown, laid_over_filler, names_of, number_shown, show_disturbed, Answer, Call, Empty, Filler,
     Lent,
 };
+use crate::moments::Moment;
 use std::fmt;
 
 extern "C" {
-    fn braidlark_table_fresh(table: *mut u8, table_length: usize, own: u16, time: u32) -> u8;
+    fn braidlark_table_fresh(table: *mut u8, table_length: usize, own: u16, time: Moment) -> u8;
 
     pub fn braidlark_lookup(
         table: *const u8,
         table_length: usize,
         destination: u16,
-        time: u32,
+        time: Moment,
         next_hop: *mut u16,
         hops: *mut u8,
     ) -> u8;
 
-    pub fn braidlark_forget(table: *mut u8, table_length: usize, unit: u16, time: u32) -> u8;
+    pub fn braidlark_forget(table: *mut u8, table_length: usize, unit: u16, time: Moment) -> u8;
 
     pub fn braidlark_merge(
         table: *mut u8,
@@ -30,7 +31,7 @@ extern "C" {
         frame: *const u8,
         frame_length: usize,
         quality: u8,
-        time: u32,
+        time: Moment,
         skipped: *mut u8,
     ) -> u8;
 
@@ -38,7 +39,7 @@ extern "C" {
         table: *const u8,
         table_length: usize,
         page: u32,
-        time: u32,
+        time: Moment,
         out: *mut u8,
         out_length: usize,
         written: *mut u32,
@@ -49,7 +50,7 @@ extern "C" {
         table_length: usize,
         frame: *const u8,
         frame_length: usize,
-        time: u32,
+        time: Moment,
         out: *mut u8,
         out_length: usize,
         next_hop: *mut u16,
@@ -64,7 +65,7 @@ extern "C" {
         frame: *const u8,
         frame_length: usize,
         delay: u32,
-        time: u32,
+        time: Moment,
         out: *mut u8,
         out_length: usize,
         written: *mut u32,
@@ -74,13 +75,13 @@ extern "C" {
 /// What is asked of a table; `room` is the length of the output buffer.
 #[derive(Clone, Debug)]
 pub enum Ask {
-    Fresh { own: u16, time: u32 },
-    Lookup { destination: u16, time: u32 },
-    Forget { unit: u16, time: u32 },
-    Merge { frame: Vec<u8>, quality: u8, time: u32 },
-    Page { page: u32, time: u32, room: usize },
-    Relay { frame: Vec<u8>, time: u32, room: usize },
-    Forward { network: u16, frame: Vec<u8>, delay: u32, time: u32, room: usize },
+    Fresh { own: u16, time: Moment },
+    Lookup { destination: u16, time: Moment },
+    Forget { unit: u16, time: Moment },
+    Merge { frame: Vec<u8>, quality: u8, time: Moment },
+    Page { page: u32, time: Moment, room: usize },
+    Relay { frame: Vec<u8>, time: Moment, room: usize },
+    Forward { network: u16, frame: Vec<u8>, delay: u32, time: Moment, room: usize },
 }
 
 /// The calls by name, in the order of `Ask`, each with the refusals that it can give.

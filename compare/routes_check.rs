@@ -3,6 +3,7 @@
 
 use crate::boundary::Empty;
 use crate::hostile::{self, Hostile, BOTH_WAYS};
+use crate::moments_drafts::start;
 use crate::random::Random;
 use crate::refusal::Refusal;
 use crate::relays::Relayed;
@@ -10,7 +11,7 @@ use crate::report::{Difference, Progress, Tally};
 use crate::routes::Table;
 use crate::routes_calls::{Ask, TableAnswer, TableCall, CALLS};
 use crate::routes_cases;
-use crate::routes_drafts::{random_start, Drawing, Scene};
+use crate::routes_drafts::{Drawing, Scene};
 use crate::Options;
 
 pub type Agreement = Result<(), Difference>;
@@ -58,7 +59,7 @@ impl Check {
     /// A fresh table, or at times one that is made up, and then so many calls less one.
     fn history(&mut self, calls: u64) -> Agreement {
         let scene = Scene::new(&mut self.random);
-        let time = random_start(&mut self.random);
+        let time = start(&mut self.random);
         let answer = self.put(&[0; Table::LENGTH], &Ask::Fresh { own: scene.own, time })?;
         let mut bytes = answer.table;
         if self.random.below(4) == 0 {
@@ -102,8 +103,11 @@ impl Hostile for Check {
     }
 }
 
+/// The table that a call left, or that was made up.
 fn table_of(bytes: &[u8]) -> Table {
-    Table::from_bytes(bytes).expect("the independent table wrote these bytes")
+    let table = Table::from_bytes(bytes).expect("the independent table wrote these bytes");
+    assert!(table.used_rows().is_ok(), "every accepted call leaves a table within rule: {:?}", table);
+    table
 }
 
 /// What the paper has a call leave behind.

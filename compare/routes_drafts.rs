@@ -3,24 +3,26 @@
 
 use crate::frames::{checksum, kind_of, BEACON, DATA, ENTRY_LENGTH, MOST_SLOTS, ROUTING_UPDATE};
 use crate::frames_drafts::{damaged, Draft};
+use crate::moments::Moment;
+use crate::moments_drafts::{anywhere, earlier, long_ago, start, stored_late, Pace};
 use crate::random::Random;
 use crate::routes::*;
 use crate::routes_calls::Ask;
 
 /// One entry of an update: destination, hops, quality, next hop, timestamp.
-pub type Entry = (u16, u8, u8, u16, u32);
+pub type Entry = (u16, u8, u8, u16, Moment);
 
-pub fn update(origin: u16, time: u32, entries: &[Entry]) -> Vec<u8> {
+pub fn update(origin: u16, time: Moment, entries: &[Entry]) -> Vec<u8> {
     let mut frame = Vec::with_capacity(SHORTEST_UPDATE + entries.len() * ENTRY_LENGTH);
     frame.push(ROUTING_UPDATE);
     frame.extend(origin.to_le_bytes());
     frame.push(entries.len() as u8);
-    frame.extend(time.to_le_bytes());
+    frame.extend(time.0.to_le_bytes());
     for (destination, hops, quality, next_hop, timestamp) in entries {
         frame.extend(destination.to_le_bytes());
         frame.extend([*hops, *quality]);
         frame.extend(next_hop.to_le_bytes());
-        frame.extend(timestamp.to_le_bytes());
+        frame.extend(timestamp.0.to_le_bytes());
     }
     frame.push(checksum(&frame));
     frame
@@ -48,8 +50,8 @@ pub struct Scene {
     neighbours: Vec<u16>,
     /// All units, this one among them.
     units: Vec<u16>,
-    /// Of 16 changing calls, how many come at a limit of some row's age.
-    haste: usize,
+    /// How changing calls follow each other.
+    pace: Pace,
 }
 
 impl Scene {
@@ -69,7 +71,8 @@ impl Scene {
         }
         let neighbours = units[1..].iter().copied().take(1 + random.below(4)).collect();
         let network = random.within(1, 0xFFFF) as u16;
-        Scene { own: units[0], network, neighbours, units, haste: random.one_of(&[0, 1, 1, 4]) }
+        let pace = Pace { at_limits: random.one_of(&[0, 1, 1, 4]), leaps: random.one_of(&[0, 0, 1, 4]) };
+        Scene { own: units[0], network, neighbours, units, pace }
     }
 
     /// A table within rule, mostly one that no history leads to: its rows may be gone, or go through anyone.
@@ -77,26 +80,20 @@ impl Scene {
         let mut units = self.units[1..].to_vec();
         units.sort_unstable();
         units.truncate(random.one_of(&[MOST_ROWS, MOST_ROWS, MOST_ROWS - 1, 3]));
-        let time = random_start(random);
+        let last = start(random);
         let mut rows = [Row::UNUSED; MOST_ROWS];
         for (row, destination) in rows.iter_mut().zip(units) {
             let next_hop = random.one_of(&self.units[1..]);
             let (hops, quality) = (random.within(1, 16) as u8, random.within(40, 255) as u8);
-            let limit = random_limit(random);
-            let time = time.saturating_sub(random.one_of(&[0, 1, limit, limit]));
+            let (limit, long_ago) = (random_limit(random), long_ago(random));
+            let time = last - random.one_of(&[0, 1, 1, limit, limit, limit, limit, long_ago]);
             *row = Row { destination, next_hop, hops, quality, time, withdrawn: random.below(4) == 0 };
         }
         let origin = random.one_of(&self.units);
         let pair = Pair { origin, sequence: random.below(3) as u16 };
         let pair = random.one_of(&[None, Some(pair)]);
-        Table { own: self.own, time, pair, rows }
+        Table { own: self.own, time: last, pair, rows }
     }
-}
-
-/// When a table's time starts: anywhere, or where ages reach back to 0 or times end.
-pub fn random_start(random: &mut Random) -> u32 {
-    let (anywhere, before_the_end) = (random.draw() as u32, 0xFFFF_FFFF - random.below(2_000_000) as u32);
-    random.one_of(&[0, 1, anywhere, anywhere, before_the_end, before_the_end, 0xFFFF_FFFF])
 }
 
 /// An age at a limit, or one less or more.
@@ -117,7 +114,7 @@ pub struct Drawing<'a> {
 impl Drawing<'_> {
     pub fn ask(&mut self) -> Ask {
         match self.random.below(32) {
-            0 => Ask::Fresh { own: self.unit(), time: random_start(self.random) },
+            0 => Ask::Fresh { own: self.unit(), time: start(self.random) },
             1..=5 => Ask::Lookup { destination: self.unit(), time: self.reading_time() },
             6 | 7 => Ask::Forget { unit: self.unit(), time: self.changing_time() },
             8..=17 => self.merge(),
@@ -139,7 +136,7 @@ impl Drawing<'_> {
         };
         let count = self.random.one_of(&[0, 1, 2, 5, 12, 23, 24, 24, 24]);
         let entries: Vec<Entry> = (0..count).map(|_| self.entry(quality)).collect();
-        let frame = update(origin, self.random.draw() as u32, &entries);
+        let frame = update(origin, anywhere(self.random), &entries);
         Ask::Merge { frame: self.perhaps_damaged(frame), quality, time: self.changing_time() }
     }
 
@@ -151,7 +148,7 @@ impl Drawing<'_> {
         let near = self.random.one_of(&[least.saturating_sub(1), least, least + 1, least + 2]);
         let quality = self.random.one_of(&[near, near, 0, 39, 40, 100, 101, 255, any_quality]);
         let (destination, next_hop) = (self.random.one_of(&self.scene.units), self.random.one_of(&self.scene.units));
-        (destination, hops, quality, next_hop, self.random.draw() as u32)
+        (destination, hops, quality, next_hop, anywhere(self.random))
     }
 
     fn page(&mut self) -> Ask {
@@ -242,27 +239,24 @@ impl Drawing<'_> {
     }
 
     /// A reading call moves no time on, so it is often far ahead.
-    fn reading_time(&mut self) -> u32 {
-        self.time(9)
+    fn reading_time(&mut self) -> Moment {
+        self.time(Pace::READING)
     }
 
-    fn changing_time(&mut self) -> u32 {
-        self.time(self.scene.haste)
+    fn changing_time(&mut self) -> Moment {
+        self.time(self.scene.pace)
     }
 
-    /// A time not before the last accepted one, unless by a slip; so many of 16 at a limit of some row's age.
-    fn time(&mut self, at_limits: usize) -> u32 {
+    /// A time that follows the last accepted one, unless by a slip; at times at a limit of some row's age.
+    fn time(&mut self, pace: Pace) -> Moment {
         let last = self.table.time;
         if self.slip() {
-            return last.saturating_sub(1);
+            return earlier(last, self.random);
         }
-        if self.random.below(16) < at_limits {
-            let row = self.random.one_of(&self.table.rows);
-            let from = if row == Row::UNUSED { last } else { row.time };
-            return from.saturating_add(random_limit(self.random)).max(last);
-        }
-        let little = self.random.below(3000) as u32;
-        last.saturating_add(self.random.one_of(&[0, 0, 1, little]))
+        let row = self.random.one_of(&self.table.rows);
+        let from = if row == Row::UNUSED { last } else { row.time };
+        let limit = from + random_limit(self.random);
+        pace.next(last, limit, self.random)
     }
 
     /// The length of an output buffer: what is needed or more, unless by a slip.
@@ -305,8 +299,8 @@ impl Drawing<'_> {
             4 => bytes.copy_within(0..2, self.random.one_of(&[row, row + 2])),
             5 => bytes[row..row + Table::ROW_LENGTH].fill(0),
             6 => {
-                let time = self.table.time.saturating_add(1);
-                bytes[row + 6..row + 10].copy_from_slice(&time.to_le_bytes());
+                let time = stored_late(self.table.time, self.random);
+                bytes[row + 6..row + 10].copy_from_slice(&time.0.to_le_bytes());
             }
             _ => bytes[row + self.random.below(Table::ROW_LENGTH)] = limit,
         }

@@ -38,7 +38,13 @@ static void make_table(struct site *site, struct unit *unit)
     }
 }
 
-/* No clock passes 2^32 within its window. */
+/* A clock starts anywhere, or where it passes 2^32 within its window and begins again at 0. */
+static uint32_t draw_start(uint64_t *random)
+{
+    bool begins_again = random_below(random, 2) > 0;
+    return begins_again ? UINT32_MAX - random_below(random, WINDOW_MS) : random_below(random, UINT32_MAX);
+}
+
 void units_draw(struct site *site)
 {
     for (int index = 0; index < site->graph.units; index++) {
@@ -47,7 +53,7 @@ void units_draw(struct site *site)
     for (int index = 0; index < site->graph.units; index++) {
         struct unit *unit = &site->units[index];
         unit->address = units_strange_address(site);
-        unit->start = random_below(&site->random, UINT32_MAX - WINDOW_MS + 1);
+        unit->start = draw_start(&site->random);
         unit->now = unit->start;
         make_table(site, unit);
     }

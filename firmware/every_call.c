@@ -1,19 +1,21 @@
 /*
  * Every call of the header, from the firmware's side: a manager's plan and book, then a unit that joins it, learns
- * routes from its neighbour and passes frames on. Each answer is checked. firmware/check builds it as C99 and as C++.
+ * routes from its neighbour and passes frames on, and calls on both sides of the moment when a clock begins again at 0.
+ * Each answer is checked. firmware/check builds it as C99 and as C++.
  */
 #include "braidlark.h"
 
 #include <stdio.h>
 #include <string.h>
 
-#if BRAIDLARK_VERSION_MAJOR != 1 || !defined BRAIDLARK_VERSION_MINOR
-#error "these are the calls of version 1"
+#if BRAIDLARK_VERSION_MAJOR != 2 || !defined BRAIDLARK_VERSION_MINOR
+#error "these are the calls of version 2"
 #endif
 
 enum { NETWORK = 1, MANAGER = 0x0100, UNIT = 0x0201, FAR_UNIT = 0x0300, STRANGER = 0x0400 };
 enum { MAX_HOPS = 3, ROWS = 4, DATA_SLOTS = 6, SLOT_MS = 1000, SLOTS = 54 };
 enum { NOW = 1000000, QUALITY = 200 };
+#define LAST_MS 0xFFFFFFFFu /* of the clock, before 0 */
 
 static unsigned checks;
 static unsigned failures;
@@ -281,8 +283,8 @@ static void relay(const uint8_t *table)
     EXPECT(fields[BRAIDLARK_DATA_TTL] == 7 && fields[BRAIDLARK_DATA_SEQUENCE] == 77);
 }
 
-/* The manager's own beacon, 70 ms on its way. */
-static uint32_t write_beacon(uint8_t *frame)
+/* The manager's own beacon of a time, 70 ms on its way. */
+static uint32_t write_beacon(uint8_t *frame, uint32_t time)
 {
     uint32_t fields[BRAIDLARK_BEACON_FIELDS] = {BRAIDLARK_BEACON};
     fields[BRAIDLARK_BEACON_DESTINATION] = BRAIDLARK_EVERY_UNIT;
@@ -295,7 +297,7 @@ static uint32_t write_beacon(uint8_t *frame)
     fields[BRAIDLARK_BEACON_SLOT_MS] = SLOT_MS;
     fields[BRAIDLARK_BEACON_ORIGINAL_SOURCE] = MANAGER;
     fields[BRAIDLARK_BEACON_HOP] = 0;
-    fields[BRAIDLARK_BEACON_ORIGINAL_TIME] = NOW;
+    fields[BRAIDLARK_BEACON_ORIGINAL_TIME] = time;
     fields[BRAIDLARK_BEACON_DELAY] = 70;
     fields[BRAIDLARK_BEACON_MAX_HOPS] = MAX_HOPS;
     fields[BRAIDLARK_BEACON_SEQUENCE] = 9;
@@ -305,8 +307,7 @@ static uint32_t write_beacon(uint8_t *frame)
 static void hear_beacon(uint8_t *table)
 {
     uint8_t frame[BRAIDLARK_MOST_FRAME], out[BRAIDLARK_BEACON_LENGTH];
-    uint32_t fields[BRAIDLARK_MOST_FIELDS], written = 0, length = write_beacon(frame);
-    int64_t offset = 0;
+    uint32_t fields[BRAIDLARK_MOST_FIELDS], written = 0, length = write_beacon(frame, NOW), offset = 0;
     EXPECT(length == BRAIDLARK_BEACON_LENGTH);
     EXPECT(braidlark_clock_step(&offset, NOW, NETWORK, frame, length) == BRAIDLARK_ACCEPTED);
     EXPECT(offset == 35); /* 70 ms behind the network: half of that is made good */
@@ -352,6 +353,70 @@ static void be_a_unit(void)
     live();
 }
 
+/* ---- the clock passes 2^32 - 1 ms and begins again at 0 */
+
+static void age_across(void)
+{
+    static const uint32_t update[BRAIDLARK_UPDATE_FIELDS] = {BRAIDLARK_UPDATE, MANAGER, 0, LAST_MS};
+    uint8_t table[BRAIDLARK_TABLE_SIZE], frame[BRAIDLARK_MOST_FRAME], skipped = 1, hops = 0;
+    uint32_t length = write_whole(update, BRAIDLARK_UPDATE_FIELDS, NULL, 0, frame), time = LAST_MS;
+    uint16_t next_hop = 0;
+    EXPECT(braidlark_table_fresh(table, sizeof table, UNIT, time) == BRAIDLARK_ACCEPTED);
+    EXPECT(braidlark_merge(table, sizeof table, frame, length, QUALITY, time, &skipped) == BRAIDLARK_ACCEPTED);
+    time += BRAIDLARK_USABLE_MS;
+    EXPECT(time == BRAIDLARK_USABLE_MS - 1);
+    EXPECT(braidlark_lookup(table, sizeof table, MANAGER, time, &next_hop, &hops) == BRAIDLARK_ACCEPTED);
+    EXPECT(next_hop == MANAGER && hops == 1);
+    EXPECT(braidlark_lookup(table, sizeof table, MANAGER, time + 1, &next_hop, &hops) == BRAIDLARK_NO_ROUTE);
+}
+
+/* Less than half a turn is forward. */
+static void step_across(void)
+{
+    static const uint32_t half_a_turn = 0x80000000u;
+    uint8_t table[BRAIDLARK_TABLE_SIZE];
+    uint32_t last = LAST_MS;
+    EXPECT(braidlark_table_fresh(table, sizeof table, UNIT, last) == BRAIDLARK_ACCEPTED);
+    EXPECT(braidlark_forget(table, sizeof table, MANAGER, last - 1) == BRAIDLARK_TOO_EARLY);
+    EXPECT(braidlark_forget(table, sizeof table, MANAGER, last + half_a_turn) == BRAIDLARK_TOO_EARLY);
+    EXPECT(braidlark_forget(table, sizeof table, MANAGER, last + half_a_turn - 1) == BRAIDLARK_ACCEPTED);
+}
+
+static void live_across(void)
+{
+    uint8_t state[BRAIDLARK_STATE_SIZE];
+    uint32_t time = LAST_MS;
+    EXPECT(braidlark_state_fresh(state, sizeof state, time) == BRAIDLARK_ACCEPTED);
+    EXPECT(braidlark_state_event(state, sizeof state, BRAIDLARK_READY, time) == BRAIDLARK_ACCEPTED);
+    time += BRAIDLARK_DISCOVERY_MS - 1;
+    EXPECT(braidlark_state_tick(state, sizeof state, SLOTS * SLOT_MS, time) == BRAIDLARK_ACCEPTED);
+    EXPECT(state[0] == BRAIDLARK_DISCOVERY);
+    EXPECT(braidlark_state_tick(state, sizeof state, SLOTS * SLOT_MS, time + 1) == BRAIDLARK_ACCEPTED);
+    EXPECT(state[0] == BRAIDLARK_MANAGER);
+}
+
+/* The network is at 69 ms. A unit at 179 ms is ahead, so that its offset goes below 0; with that offset one that has 30
+ * ms left to its last one is behind. */
+static void clock_across(void)
+{
+    uint8_t frame[BRAIDLARK_MOST_FRAME];
+    uint32_t length = write_beacon(frame, LAST_MS), offset = 0;
+    EXPECT(braidlark_clock_step(&offset, 179, NETWORK, frame, length) == BRAIDLARK_ACCEPTED);
+    EXPECT(offset == 0xFFFFFF92u);
+    EXPECT(braidlark_clock_step(&offset, 179, NETWORK, frame, length) == BRAIDLARK_ACCEPTED);
+    EXPECT(offset == 0xFFFFFF92u);
+    EXPECT(braidlark_clock_step(&offset, LAST_MS - 30, NETWORK, frame, length) == BRAIDLARK_ACCEPTED);
+    EXPECT(offset == 100);
+}
+
+static void pass_the_top(void)
+{
+    age_across();
+    step_across();
+    live_across();
+    clock_across();
+}
+
 int main(void)
 {
     numbers_fit();
@@ -359,6 +424,7 @@ int main(void)
     write_none_and_more();
     manage_a_site();
     be_a_unit();
+    pass_the_top();
     printf("every_call: %u of %u checks hold\n", checks - failures, checks);
     return failures == 0 ? 0 : 1;
 }

@@ -22,7 +22,7 @@ struct scene {
     uint32_t fields[BRAIDLARK_MOST_FIELDS], place, length;
     uint8_t out[BRAIDLARK_MOST_FRAME], hops, skipped;
     uint16_t next_hop;
-    int64_t offset;
+    uint32_t offset;
 };
 
 /* Full, or mixed: a full table and a nearly full book, or a table and a book whose silent rows are dropped while new

@@ -7,8 +7,23 @@
  * the pointer may be NULL. Buffers and out parameters of one call must not overlap. Nothing is kept between calls: a
  * table, a state, a plan and a book are bytes that the caller owns and hands in again.
  *
- * Times are milliseconds of 32 bits. Addresses of units are 1 to 0xFFFE, networks 1 to 0xFFFF (in a join request 0 is
- * any); others are refused as broken field rules (4), by a plan as out of rule (14).
+ * Addresses of units are 1 to 0xFFFE, networks 1 to 0xFFFF (in a join request 0 is any); others are refused as broken
+ * field rules (4), by a plan as out of rule (14).
+ *
+ * Times are those of one monotonic local clock, in milliseconds of 32 bits. It has no end: it runs modulo 2^32, and so
+ * begins again at 0 after 49.7 days. The step from the last accepted time to a call's is their difference modulo 2^32:
+ * below 2^31 it is forward, else the call is too early (8). Ages are such differences as well. An accepted call that
+ * changes a table, a book or a state records its time there; one that only reads, from a const buffer, does not.
+ *
+ * The caller has to see to it that a changing call is accepted on each table and each book at least every 2^31 - 1 ms
+ * (24.8 days), and a tick on each state at least every 2^30 ms (12.4 days). No call tests that. Else calls are too
+ * early for half a turn of the clock, and then ages and the order of times are read wrong by a whole turn: a route or a
+ * member of 50 days ago counts as a new one. A state may also be found out of rule (14).
+ *
+ * A stored time has to be in order with the last accepted one: the step from it to that one is forward, else the buffer
+ * is out of rule (14). So it is for the rows of a table, for the members of a book but the manager, and for the time
+ * that a state acts on: its entry in Discovery, Joining and Recovery, its last beacon in Normal. Times inside frames
+ * are shown and passed on, and never judged.
  */
 #ifndef BRAIDLARK_H
 #define BRAIDLARK_H
@@ -24,7 +39,7 @@ extern "C" {
  * ---- the version of this interface: MAJOR is raised where a call or a buffer's length changes, MINOR where something is
  * only added; docs/changes says what a caller has to change
  */
-#define BRAIDLARK_VERSION_MAJOR 1
+#define BRAIDLARK_VERSION_MAJOR 2
 #define BRAIDLARK_VERSION_MINOR 0
 
 /* ---- refusals */
@@ -36,13 +51,13 @@ extern "C" {
 #define BRAIDLARK_NO_SPACE 5       /* output buffer shorter than what would be written */
 #define BRAIDLARK_OWN_UNIT 6       /* the frame's sender, or the unit to forget, is this unit */
 #define BRAIDLARK_NOT_ALLOWED 7    /* event not allowed in this state */
-#define BRAIDLARK_TOO_EARLY 8      /* time earlier than the last accepted one */
+#define BRAIDLARK_TOO_EARLY 8      /* time earlier than the last accepted one: a step of 2^31 ms or more */
 #define BRAIDLARK_LOW_QUALITY 9    /* link quality under 40 */
 #define BRAIDLARK_TTL_OVER 10      /* ttl 0 or 1 and not for this unit */
 #define BRAIDLARK_NO_ROUTE 11      /* no usable route */
 #define BRAIDLARK_FULL 12          /* every member row live */
 #define BRAIDLARK_NO_MEMBER 13     /* not a live member, or the manager asked to leave */
-#define BRAIDLARK_OUT_OF_RULE 14   /* plan, image, page, hop, offset, superframe length, or a stored value, out of rule */
+#define BRAIDLARK_OUT_OF_RULE 14   /* plan, image, page, hop, superframe length, or a stored value, out of rule */
 #define BRAIDLARK_OTHER_NETWORK 15 /* not the book's or the caller's network */
 #define BRAIDLARK_NOT_OURS 16      /* beacon not ours to forward */
 
@@ -102,12 +117,11 @@ extern "C" {
 #define BRAIDLARK_WITHDRAWN_MS 60000 /* the same from when it was withdrawn */
 #define BRAIDLARK_LIVE_MS 300000     /* of a live member's last accepted call; the manager is always live */
 
-/* ---- times of a state, in ms from its entry, and of a tick and the clock */
-#define BRAIDLARK_DISCOVERY_MS 30000             /* in Discovery, then Manager */
-#define BRAIDLARK_JOINING_MS 10000               /* in Joining, then Recovery */
-#define BRAIDLARK_RECOVERY_MS 60000              /* in Recovery, then Stopped */
-#define BRAIDLARK_LONGEST_SUPERFRAME_MS 6553500  /* that a tick may name */
-#define BRAIDLARK_LARGEST_OFFSET 17179869184LL   /* of a clock, either way: 2^34 ms */
+/* ---- times of a state, in ms from its entry, and of a tick */
+#define BRAIDLARK_DISCOVERY_MS 30000            /* in Discovery, then Manager */
+#define BRAIDLARK_JOINING_MS 10000              /* in Joining, then Recovery */
+#define BRAIDLARK_RECOVERY_MS 60000             /* in Recovery, then Stopped */
+#define BRAIDLARK_LONGEST_SUPERFRAME_MS 6553500 /* that a tick may name */
 
 /* ---- kinds of frames, the number at index 0 of a frame's fields */
 #define BRAIDLARK_DATA 0x11
@@ -311,9 +325,10 @@ uint8_t braidlark_state_tick(uint8_t *state, size_t state_length, uint32_t super
 
 /* ---- a unit's clock */
 
-/* Steps the offset from local to network time by a beacon of this network that came in at a local time.
- * Refusals: 1 2 1 3 4 15 14 (an offset beyond BRAIDLARK_LARGEST_OFFSET). */
-uint8_t braidlark_clock_step(int64_t *offset, uint32_t local_time, uint16_t network, const uint8_t *frame,
+/* Steps the offset by a beacon of this network that came in at a local time. Local time plus offset, modulo 2^32, is
+ * network time; the offset is any number of 32 bits, at first 0, and 2^32 - 1 is 1 ms back. The drift from network time
+ * is taken modulo 2^32 too, as a number from -2^31 to 2^31 - 1. Refusals: 1 2 1 3 4 15. */
+uint8_t braidlark_clock_step(uint32_t *offset, uint32_t local_time, uint16_t network, const uint8_t *frame,
                              size_t frame_length);
 
 /* ---- the manager's plan, BRAIDLARK_PLAN_SIZE bytes, and book, BRAIDLARK_BOOK_SIZE bytes */

@@ -2,8 +2,6 @@
  * What the program holds the library, and itself, to. Each check looks at what was really answered or sent; the first
  * that does not hold ends the run.
  */
-#include <stdlib.h>
-
 #include "greenhouse.h"
 
 /* A call was accepted, or refused for one of the reasons that can come up where it was made. */
@@ -22,7 +20,7 @@ static int check_fresh(struct site *site, int unit, uint16_t next_hop)
     if (next == NOBODY || !self->was_told[next]) {
         fail(site, "%s names %04X as next hop, of which it never heard", self->name, next_hop);
     }
-    uint32_t age = unit_time(site, unit) - self->update_taken[next];
+    uint64_t age = unit_wide_time(site, unit) - self->update_taken[next];
     if (age > SILENCE_MS) {
         fail(site, "%s names %s as next hop, last heard of %u ms ago", self->name, site->units[next].name,
              (unsigned)age);
@@ -33,7 +31,7 @@ static int check_fresh(struct site *site, int unit, uint16_t next_hop)
 /* Nobody can know at once that a unit is gone, but nobody hands it a frame once that is longer than 300,000 ms ago. */
 static void check_loss(struct site *site, int unit, int next)
 {
-    uint32_t gone_for = site->now - site->units[next].silent_since;
+    uint64_t gone_for = site->now - site->units[next].silent_since;
     if (gone_for > SILENCE_MS) {
         fail(site, "%s hands a frame to %s, which is gone for %u ms", site->units[unit].name, site->units[next].name,
              (unsigned)gone_for);
@@ -47,7 +45,7 @@ static void check_loss(struct site *site, int unit, int next)
 void check_next_hop(struct site *site, int unit, uint16_t next_hop)
 {
     int next = check_fresh(site, unit, next_hop);
-    uint32_t age = unit_time(site, unit) - site->units[unit].update_taken[next];
+    uint64_t age = unit_wide_time(site, unit) - site->units[unit].update_taken[next];
     site->tally.handed_over++;
     if (age > site->tally.oldest_word_ms) {
         site->tally.oldest_word_ms = age;
@@ -67,9 +65,10 @@ static void check_route(struct site *site, int unit, int other)
     if (!routes_find(site, unit, destination, &next_hop, &hops)) {
         return;
     }
-    uint32_t too_late = self->update_taken[check_fresh(site, unit, next_hop)] + SILENCE_MS + 1;
+    uint32_t too_late = (uint32_t)(self->update_taken[check_fresh(site, unit, next_hop)] + SILENCE_MS + 1);
     uint8_t status = braidlark_lookup(self->table, sizeof self->table, destination, too_late, &next_hop, &hops);
-    if (status != BRAIDLARK_NO_ROUTE) {
+    check_status(site, "braidlark_lookup", status, REFUSAL(BRAIDLARK_NO_ROUTE));
+    if (status == BRAIDLARK_ACCEPTED) {
         fail(site, "%s would still name %04X for %s at %u ms of its clock", self->name, next_hop,
              site->units[other].name, (unsigned)too_late);
     }
@@ -104,7 +103,8 @@ void check_clocks(struct site *site)
         if (!site->units[unit].powered || !unit_sends(site, unit)) {
             continue;
         }
-        uint32_t error = (uint32_t)llabs(unit_network_time(site, unit) - (int64_t)site->now);
+        uint32_t ahead = unit_network_time(site, unit) - unit_time(site, OFFICE), behind = 0 - ahead;
+        uint32_t error = ahead < behind ? ahead : behind;
         if (error > CLOCK_TOLERANCE_MS) {
             fail(site, "the clock of %s is %u ms off", site->units[unit].name, (unsigned)error);
         }
@@ -114,8 +114,47 @@ void check_clocks(struct site *site)
     }
 }
 
+/* A tick in a state: a member takes the network for lost exactly if more than three superframes went by without a
+ * beacon. */
+void check_silence(struct site *site, int unit, uint8_t before)
+{
+    const struct unit *self = &site->units[unit];
+    uint64_t silence = unit_wide_time(site, unit) - self->beacon_taken;
+    uint8_t expected = silence > 3 * SUPERFRAME_MS ? BRAIDLARK_RECOVERY : BRAIDLARK_NORMAL;
+    if (before == BRAIDLARK_NORMAL && self->state[0] != expected) {
+        fail(site, "%s heard a beacon %u ms ago and goes to state %d", self->name, (unsigned)silence, self->state[0]);
+    }
+}
+
+/* A unit's clock has begun again: in its last ms and in its first one it knows the same ways. */
+void check_turn(struct site *site, int unit)
+{
+    const struct unit *self = &site->units[unit];
+    for (int other = 0; other < UNITS; other++) {
+        uint16_t destination = site->units[other].address, next_hops[] = {0, 0};
+        uint8_t hops[] = {0, 0};
+        for (uint32_t time = UINT32_MAX, turn = 0; turn < 2; time++, turn++) {
+            uint8_t status = braidlark_lookup(self->table, sizeof self->table, destination, time, &next_hops[turn],
+                                              &hops[turn]);
+            check_status(site, "braidlark_lookup", status, REFUSAL(BRAIDLARK_NO_ROUTE));
+        }
+        if (next_hops[0] != next_hops[1] || hops[0] != hops[1]) {
+            fail(site, "%s knows another way to %s since its clock has begun again", self->name,
+                 site->units[other].name);
+        }
+    }
+}
+
+/* The relay counts as gone: the 300,000 ms until then have to be ones in which the network's time began again at 0. */
+void check_top(struct site *site)
+{
+    if (site->script.clock_top <= site->script.unbolted || site->script.clock_top >= site->now) {
+        fail(site, "the office's clock did not begin again between the unbolting of the relay and its being noticed");
+    }
+}
+
 /* Orders for benches 1 to 4, which either relay can reach, that arrived within a stretch of the night by this one. */
-static int orders_by(const struct site *site, int carrier, uint32_t from, uint32_t to)
+static int orders_by(const struct site *site, int carrier, uint64_t from, uint64_t to)
 {
     int count = 0;
     for (int number = 0; number < site->manager.order_count; number++) {

@@ -46,16 +46,16 @@ struct panel {
     FILE *file;
     int top;
     const char *title;
-    uint32_t from;
-    uint32_t to;
-    uint32_t tick_ms;
+    uint64_t from;
+    uint64_t to;
+    uint64_t tick_ms;
     bool close; /* a short stretch, with room for every moment of the story */
 };
 
-static double across(const struct panel *panel, uint32_t time)
+static double across(const struct panel *panel, uint64_t time)
 {
     time = time < panel->from ? panel->from : time > panel->to ? panel->to : time;
-    return LEFT + (double)PLOT_WIDTH * (time - panel->from) / (panel->to - panel->from);
+    return LEFT + PLOT_WIDTH * (double)(time - panel->from) / (double)(panel->to - panel->from);
 }
 
 /* The words on a bar, where it is long enough for them. */
@@ -68,7 +68,7 @@ static void draw_label(const struct panel *panel, int unit, double left, double 
     }
 }
 
-static void draw_bar(const struct panel *panel, const struct change *change, uint32_t end, int top, int height)
+static void draw_bar(const struct panel *panel, const struct change *change, uint64_t end, int top, int height)
 {
     double left = across(panel, change->time), right = across(panel, end);
     if (change->unit == NOBODY || right <= left) {
@@ -86,7 +86,7 @@ static void draw_bar(const struct panel *panel, const struct change *change, uin
 static void draw_record(const struct panel *panel, const struct record *record, int top, int height)
 {
     for (int index = 0; index < record->count; index++) {
-        uint32_t end = index + 1 < record->count ? record->changes[index + 1].time : panel->site->script.end;
+        uint64_t end = index + 1 < record->count ? record->changes[index + 1].time : panel->site->script.end;
         draw_bar(panel, &record->changes[index], end, top, height);
     }
 }
@@ -144,8 +144,8 @@ static void draw_orders(const struct panel *panel)
 static void draw_axis(const struct panel *panel)
 {
     int bottom = panel->top + PANEL_HEIGHT;
-    uint32_t first = (panel->from + panel->tick_ms - 1) / panel->tick_ms * panel->tick_ms;
-    for (uint32_t time = first; time <= panel->to; time += panel->tick_ms) {
+    uint64_t first = (panel->from + panel->tick_ms - 1) / panel->tick_ms * panel->tick_ms;
+    for (uint64_t time = first; time <= panel->to; time += panel->tick_ms) {
         char words[9];
         clock_words(time, words);
         double at = across(panel, time);
@@ -158,7 +158,7 @@ static void draw_axis(const struct panel *panel)
 }
 
 /* A stretch of time in which something is amiss. */
-static void draw_band(const struct panel *panel, uint32_t from, uint32_t to, const char *look)
+static void draw_band(const struct panel *panel, uint64_t from, uint64_t to, const char *look)
 {
     double left = across(panel, from), right = across(panel, to);
     if (right > left) {
@@ -167,7 +167,7 @@ static void draw_band(const struct panel *panel, uint32_t from, uint32_t to, con
     }
 }
 
-static void draw_moment(const struct panel *panel, uint32_t time, const char *words, int line)
+static void draw_moment(const struct panel *panel, uint64_t time, const char *words, int line)
 {
     if (time < panel->from || time > panel->to) {
         return;
@@ -190,6 +190,7 @@ static void draw_moments(const struct panel *panel)
     draw_moment(panel, script->power_fails, panel->close ? "power fails" : "power cut", 0);
     draw_moment(panel, script->returned, "relay back", 0);
     if (panel->close) {
+        draw_moment(panel, script->clock_top, "clocks begin again at 0", 0);
         draw_moment(panel, script->unbolted + SILENCE_MS, "300 s later", 0);
         draw_moment(panel, script->power_returns, "power back", 0);
         draw_moment(panel, cut->restored, "book restored", 1);
@@ -242,9 +243,9 @@ static void draw_legend(const struct site *site, FILE *file)
 }
 
 /* Ticks that leave room for their words: at most 14 of them. */
-static uint32_t tick_for(uint32_t stretch)
+static uint64_t tick_for(uint64_t stretch)
 {
-    static const uint32_t STEPS[] = {1, 2, 5, 10, 15, 30, 60};
+    static const uint64_t STEPS[] = {1, 2, 5, 10, 15, 30, 60};
     for (size_t index = 0; index < sizeof STEPS / sizeof STEPS[0]; index++) {
         if (stretch / (STEPS[index] * MINUTE) <= 14) {
             return STEPS[index] * MINUTE;
@@ -255,7 +256,7 @@ static uint32_t tick_for(uint32_t stretch)
 
 void drawing_write(const struct site *site, FILE *file)
 {
-    uint32_t unbolted = site->script.unbolted, cut = site->script.power_fails, end = site->script.end;
+    uint64_t unbolted = site->script.unbolted, cut = site->script.power_fails, end = site->script.end;
     int first = FIRST_TOP, second = first + PANEL_STEP, third = second + PANEL_STEP;
     const struct panel panels[PANELS] = {
         {site, file, first, "The whole night", 0, end, tick_for(end), false},

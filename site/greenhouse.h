@@ -2,6 +2,10 @@
  * What the greenhouse is made of: its units and links, what is in the air, the manager's side, and the record of the
  * night. All of it is one `struct site`, which every function is handed. The subjects are a file each; what they offer
  * one another stands at the end.
+ *
+ * A moment of the night is 64 bits of ms from its start and never wraps: the story, what is told and what is checked go
+ * by moments. What a unit's clock shows is 32 bits, as the library takes it and frames carry it, and begins again at 0
+ * in the middle of the night.
  */
 #ifndef GREENHOUSE_H
 #define GREENHOUSE_H
@@ -82,14 +86,14 @@ struct queue {
     int count;
 };
 
-/* What a unit was told it holds, and until when in network time it may count on that. */
+/* What a unit was told it holds, and when, in network time. */
 struct holding {
     bool held;
+    bool denied; /* since it was told */
     uint16_t control_slot;
     uint16_t data_slots[MOST_HELD];
     int data_count;
     uint32_t told;
-    int64_t end;
 };
 
 struct unit {
@@ -97,20 +101,21 @@ struct unit {
     uint16_t address;
     uint8_t wanted_slots;
     bool powered;
-    uint32_t silent_since; /* where it is not powered */
+    uint64_t silent_since; /* where it is not powered */
     int32_t skew_ms;
     int32_t drift_ppm;
+    bool began_again; /* its clock, at 0 */
     uint8_t state[BRAIDLARK_STATE_SIZE];
     uint8_t table[BRAIDLARK_TABLE_SIZE];
-    int64_t offset;
+    uint32_t offset; /* from its clock to the network's time, modulo 2^32 */
     struct holding holding;
     bool was_refused;
     bool beacon_heard; /* in this superframe */
     uint16_t sponsor;  /* whose beacon came first, so from the fewest hops away, in the last superframe that had one */
     int asks_in_slot;  /* the discovery slot in which a unit that is no member asks next, or NOBODY */
-    uint32_t next_request;
-    uint32_t next_update;
-    uint32_t next_report;
+    uint64_t next_request;
+    uint64_t next_update;
+    uint64_t next_report;
     uint16_t sequence;
     struct queue control;
     struct queue data;
@@ -118,21 +123,23 @@ struct unit {
     int beacon_slot; /* of the beacon that waits, or NOBODY */
     uint16_t last_order;
     uint8_t setting;
-    bool was_told[UNITS];         /* whether an update of that unit was ever accepted since power came */
-    uint32_t update_taken[UNITS]; /* and the local time of the last one */
+    /* Its own times, with the turns of its clock. */
+    uint64_t beacon_taken;        /* of the last beacon, or of its joining */
+    uint64_t update_taken[UNITS]; /* of the last update of that unit that was accepted */
+    bool was_told[UNITS];         /* whether there was one since power came */
 };
 
 struct order {
     int head;
     uint8_t setting;
-    uint32_t given;
-    uint32_t next_try;
+    uint64_t given;
+    uint64_t next_try;
     int lost_at_silent;
     bool arrived;
     bool confirmed;
     bool replaced; /* by a later order for the same head */
     bool waits_for_route;
-    uint32_t arrival;
+    uint64_t arrival;
     int carriers[MOST_CARRIERS];
     int carrier_count;
 };
@@ -149,7 +156,7 @@ struct manager {
     bool running;
     uint8_t book[BRAIDLARK_BOOK_SIZE];
     struct regions regions;
-    uint32_t last_word[UNITS]; /* when a frame of that unit came in last; 0 if none did since power came */
+    uint64_t last_word[UNITS]; /* when a frame of that unit came in last; 0 if none did since power came */
     struct order orders[MOST_ORDERS];
     int order_count;
 };
@@ -172,12 +179,12 @@ struct schedules {
 struct cut {
     struct schedules before;
     int members;        /* in them, other than the office */
-    uint32_t restored;  /* when the office had its book again, 0 before */
-    uint32_t recovered; /* when every member had spoken again, 0 before */
+    uint64_t restored;  /* when the office had its book again, 0 before */
+    uint64_t recovered; /* when every member had spoken again, 0 before */
 };
 
 struct change {
-    uint32_t time;
+    uint64_t time;
     int unit;
 };
 
@@ -189,15 +196,15 @@ struct record {
 
 /* An order that arrived, or was handed to a unit that was gone. */
 struct mark {
-    uint32_t time;
+    uint64_t time;
     bool lost;
 };
 
 /* Orders that arrived as they should while nothing else happened; they are told in one line. */
 struct quiet {
     int count;
-    uint32_t since;
-    uint32_t slowest_ms;
+    uint64_t since;
+    uint64_t slowest_ms;
 };
 
 struct on_air {
@@ -205,16 +212,24 @@ struct on_air {
     struct packet packet;
 };
 
-/* When what happens, in ms from the start. */
+/* When what happens. */
 struct script {
-    uint32_t orders_begin;
-    uint32_t new_head;
-    uint32_t unbolted; /* then, or soon after */
-    uint32_t power_fails;
-    uint32_t power_returns;
-    uint32_t returned;
-    uint32_t taken_out;
-    uint32_t end;
+    uint64_t orders_begin;
+    uint64_t new_head;
+    uint64_t unbolted;  /* then, or soon after */
+    uint64_t clock_top; /* the office's clock, which is the network's time, begins again at 0 */
+    uint64_t power_fails;
+    uint64_t power_returns;
+    uint64_t returned;
+    uint64_t taken_out;
+    uint64_t end;
+};
+
+/* The clocks that have begun again at 0. */
+struct turns {
+    int count;
+    uint64_t first;
+    uint64_t last;
 };
 
 struct tally {
@@ -226,15 +241,16 @@ struct tally {
     uint32_t schedules;
     uint32_t refused_joins;
     uint32_t started_over;
-    uint32_t oldest_word_ms;
-    uint32_t latest_loss_ms; /* how long a unit was gone, at most, when a frame was handed to it */
+    uint64_t oldest_word_ms;
+    uint64_t latest_loss_ms; /* how long a unit was gone, at most, when a frame was handed to it */
     uint32_t worst_clock_ms;
 };
 
 struct site {
-    uint32_t now;
+    uint64_t now;
     uint32_t random;
     struct script script;
+    struct turns turns;
     struct unit units[UNITS];
     uint8_t quality[UNITS][UNITS]; /* of the link between two units, 0 where there is none */
     struct manager manager;
@@ -247,7 +263,7 @@ struct site {
     int row[UNITS];       /* of the book, by the control slot in the schedule */
     uint32_t middle_held; /* what the middle relay held when it fell silent */
     int middle_row;
-    uint32_t next_order;
+    uint64_t next_order;
     int orders_given;
     struct record slot_holders[DATA_SLOTS];
     struct record next_hops[UNITS]; /* the manager's next hop to each unit */
@@ -274,11 +290,16 @@ void frame_read(struct site *site, const uint8_t *bytes, size_t length, struct f
 void queue_put(struct queue *queue, const struct packet *packet);
 bool queue_take(struct queue *queue, size_t room, struct packet *packet);
 
-/* unit.c: a unit's power, time, state, clock, beacons and routing updates */
+/* clocks.c: what the clocks of the units show, and that they begin again at 0 */
+uint64_t unit_wide_time(const struct site *site, int unit);
+uint32_t unit_time(const struct site *site, int unit);
+uint32_t unit_network_time(const struct site *site, int unit);
+bool time_before(uint32_t one, uint32_t other);
+void clocks_watch(struct site *site);
+
+/* unit.c: a unit's power, state, clock step, beacons and routing updates */
 void unit_power_on(struct site *site, int unit);
 void unit_power_off(struct site *site, int unit);
-uint32_t unit_time(const struct site *site, int unit);
-int64_t unit_network_time(const struct site *site, int unit);
 bool unit_sends(const struct site *site, int unit);
 void unit_tell(struct site *site, int unit, uint8_t event);
 void unit_begin(struct site *site, int unit);
@@ -336,7 +357,7 @@ void story_slot(struct site *site);
 void story_orders(struct site *site);
 bool story_is_quiet(const struct site *site);
 
-/* superframes.c: time */
+/* superframes.c: the night, superframe by superframe */
 void superframes_run(struct site *site);
 
 /* checks.c: what the program holds the library and itself to */
@@ -346,6 +367,9 @@ void check_next_hop(struct site *site, int unit, uint16_t next_hop);
 void check_routes(struct site *site);
 void check_air(struct site *site, int slot);
 void check_clocks(struct site *site);
+void check_silence(struct site *site, int unit, uint8_t before);
+void check_turn(struct site *site, int unit);
+void check_top(struct site *site);
 void check_end(struct site *site);
 
 /* timeline.c: the lines for the grower */
@@ -357,15 +381,15 @@ void check_end(struct site *site);
 void scene(struct site *site, const char *title);
 void say(struct site *site, const char *format, ...) LIKE_PRINTF;
 void fail(struct site *site, const char *format, ...) LIKE_PRINTF;
-void clock_words(uint32_t time, char words[9]);
+void clock_words(uint64_t time, char words[9]);
 void number_words(uint32_t numbers, char words[80]);
-void timeline_quiet(struct site *site, uint32_t took_ms);
+void timeline_quiet(struct site *site, uint64_t took_ms);
 
 /* summary.c: the night in numbers, and what it was held to */
 void summary_print(struct site *site);
 
 /* record.c: values over the night */
-void record_note(struct record *record, uint32_t time, int unit);
+void record_note(struct record *record, uint64_t time, int unit);
 void record_order(struct site *site, bool lost);
 
 /* drawing.c: the night as one picture */

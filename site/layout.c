@@ -54,18 +54,23 @@ static const struct link LINKS[] = {
     {OFFICE, BENCH_8, 88},         {NORTH_RELAY, BENCH_9, 78}, {BACK_RELAY, BENCH_9, 74},
 };
 
-enum { MINUTE = 60000 };
+enum { MINUTE = 60000, SKEW_STEP_MS = MINUTE / (UNITS - 1) };
 
 /* The first quarter of an hour is the same in every run, and the relay is away for all but the rest. The power fails
- * half way between, in the middle of the data slots. */
+ * half way between, in the middle of the data slots.
+ *
+ * The office's clock passes its top half way between the unbolting and its being noticed, and the other clocks within a
+ * minute of it. So what grows old meanwhile has a time before the top and runs out after it: the relay's row in the
+ * book, the routes by it, and the slots that bench 5 counts on. */
 static void set_script(struct script *script, uint32_t length_ms)
 {
     static const uint32_t INTO_SUPERFRAME_MS = 5000;
     script->orders_begin = 13 * MINUTE;
     script->new_head = 14 * MINUTE;
     script->unbolted = 19 * MINUTE;
+    script->clock_top = script->unbolted + SILENCE_MS / 2;
     script->returned = length_ms - 20 * MINUTE;
-    uint32_t half_way = (script->unbolted + script->returned) / 2;
+    uint64_t half_way = (script->unbolted + script->returned) / 2;
     script->power_fails = half_way / SUPERFRAME_MS * SUPERFRAME_MS + INTO_SUPERFRAME_MS;
     script->power_returns = script->power_fails + MINUTE;
     script->taken_out = length_ms - 12 * MINUTE;
@@ -84,8 +89,9 @@ void layout_set(struct site *site, uint32_t seed, uint32_t length_ms)
         unit->address = PLACES[index].address;
         unit->wanted_slots = PLACES[index].wanted_slots;
         /* Every crystal but the manager's, which is the network's time, is off and runs off, some fast, some slow. */
-        unit->skew_ms = index * 1370;
-        unit->drift_ppm = index == OFFICE ? 0 : (index % 2 ? 1 : -1) * (10 + 3 * index);
+        int sign = index % 2 ? 1 : -1;
+        unit->skew_ms = sign * index * SKEW_STEP_MS;
+        unit->drift_ppm = index == OFFICE ? 0 : sign * (10 + 3 * index);
     }
     for (size_t index = 0; index < sizeof LINKS / sizeof LINKS[0]; index++) {
         site->quality[LINKS[index].one][LINKS[index].other] = LINKS[index].quality;

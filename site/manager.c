@@ -54,8 +54,8 @@ static void take_own_slots(const uint8_t *kinds, struct holding *holding)
 static void make_book(struct site *site, const uint8_t plan[BRAIDLARK_PLAN_SIZE])
 {
     struct manager *manager = &site->manager;
-    uint8_t status =
-        braidlark_book_fresh(manager->book, sizeof manager->book, plan, BRAIDLARK_PLAN_SIZE, site->now);
+    uint8_t status = braidlark_book_fresh(manager->book, sizeof manager->book, plan, BRAIDLARK_PLAN_SIZE,
+                                          unit_time(site, OFFICE));
     check_status(site, "braidlark_book_fresh", status, 0);
     say(site, "the office heard no other manager for 30 s and manages: %d slots of %d ms, room for %d members",
         BRAIDLARK_MOST_SLOTS, SLOT_MS, MEMBER_ROWS);
@@ -78,10 +78,11 @@ static void start(struct site *site)
     site->manager.running = true;
 }
 
-/* The beacon of the superframe that begins now. Its number is that of the clock, so that a power cut repeats none. */
+/* The beacon of the superframe that begins now. Its number is that of the clock, so that a power cut repeats none; it
+ * begins again with the clock. */
 static void write_beacon(struct site *site, struct packet *packet)
 {
-    uint32_t number = site->now / SUPERFRAME_MS;
+    uint32_t time = unit_time(site, OFFICE), number = time / SUPERFRAME_MS;
     uint32_t fields[BRAIDLARK_BEACON_FIELDS] = {
         [BRAIDLARK_TYPE] = BRAIDLARK_BEACON,
         [BRAIDLARK_BEACON_DESTINATION] = EVERYBODY,
@@ -93,7 +94,7 @@ static void write_beacon(struct site *site, struct packet *packet)
         [BRAIDLARK_BEACON_TOTAL_SLOTS] = BRAIDLARK_MOST_SLOTS,
         [BRAIDLARK_BEACON_SLOT_MS] = SLOT_MS,
         [BRAIDLARK_BEACON_ORIGINAL_SOURCE] = site->units[OFFICE].address,
-        [BRAIDLARK_BEACON_ORIGINAL_TIME] = site->now,
+        [BRAIDLARK_BEACON_ORIGINAL_TIME] = time,
         [BRAIDLARK_BEACON_MAX_HOPS] = MOST_HOPS,
         [BRAIDLARK_BEACON_SEQUENCE] = number & 0xFFFF,
     };
@@ -113,12 +114,14 @@ void manager_begin(struct site *site)
 /* The response that says no. */
 static size_t write_denial(struct site *site, uint32_t node, uint8_t *out, size_t room)
 {
-    uint32_t fields[BRAIDLARK_JOIN_RESPONSE_FIELDS] = {[BRAIDLARK_TYPE] = BRAIDLARK_JOIN_RESPONSE,
-                                                       [BRAIDLARK_JOIN_RESPONSE_NODE] = node,
-                                                       [BRAIDLARK_JOIN_RESPONSE_STATUS] = 1,
-                                                       [BRAIDLARK_JOIN_RESPONSE_SLOT] = 0xFFFF,
-                                                       [BRAIDLARK_JOIN_RESPONSE_SUPERFRAME_TIME] = site->now,
-                                                       [BRAIDLARK_JOIN_RESPONSE_NETWORK] = NETWORK};
+    uint32_t fields[BRAIDLARK_JOIN_RESPONSE_FIELDS] = {
+        [BRAIDLARK_TYPE] = BRAIDLARK_JOIN_RESPONSE,
+        [BRAIDLARK_JOIN_RESPONSE_NODE] = node,
+        [BRAIDLARK_JOIN_RESPONSE_STATUS] = 1,
+        [BRAIDLARK_JOIN_RESPONSE_SLOT] = 0xFFFF,
+        [BRAIDLARK_JOIN_RESPONSE_SUPERFRAME_TIME] = unit_time(site, OFFICE),
+        [BRAIDLARK_JOIN_RESPONSE_NETWORK] = NETWORK,
+    };
     uint32_t written = 0;
     uint8_t status = braidlark_write(fields, BRAIDLARK_JOIN_RESPONSE_FIELDS, NULL, 0, out, room, &written);
     check_status(site, "braidlark_write", status, 0);
@@ -149,14 +152,15 @@ size_t manager_answer(struct site *site, const uint8_t *request, size_t length, 
     frame_read(site, request, length, &frame);
     bool joins = frame.fields[BRAIDLARK_TYPE] == BRAIDLARK_JOIN_REQUEST;
     uint32_t node = frame.fields[joins ? BRAIDLARK_JOIN_REQUEST_NODE : BRAIDLARK_SLOT_REQUEST_NODE], written = 0;
+    uint32_t time = unit_time(site, OFFICE);
     int unit = layout_find(site, (uint16_t)node);
     uint8_t status;
     if (joins) {
-        status = braidlark_join(manager->book, sizeof manager->book, request, length, site->now, out, room, &written);
+        status = braidlark_join(manager->book, sizeof manager->book, request, length, time, out, room, &written);
         check_status(site, "braidlark_join", status, REFUSAL(BRAIDLARK_FULL));
     } else {
-        status = braidlark_slot_request(manager->book, sizeof manager->book, request, length, site->now, out, room,
-                                        &written);
+        status =
+            braidlark_slot_request(manager->book, sizeof manager->book, request, length, time, out, room, &written);
         check_status(site, "braidlark_slot_request", status, REFUSAL(BRAIDLARK_NO_MEMBER));
     }
     if (status != BRAIDLARK_ACCEPTED) {
@@ -173,7 +177,7 @@ size_t manager_answer(struct site *site, const uint8_t *request, size_t length, 
 void manager_hears(struct site *site, uint16_t address)
 {
     struct manager *manager = &site->manager;
-    uint8_t status = braidlark_heard(manager->book, sizeof manager->book, address, site->now);
+    uint8_t status = braidlark_heard(manager->book, sizeof manager->book, address, unit_time(site, OFFICE));
     check_status(site, "braidlark_heard", status, REFUSAL(BRAIDLARK_NO_MEMBER));
     manager->last_word[layout_find(site, address)] = site->now;
 }
@@ -184,10 +188,10 @@ void manager_takes_out(struct site *site, int unit)
     struct manager *manager = &site->manager;
     struct unit *office = &site->units[OFFICE];
     uint16_t address = site->units[unit].address;
-    uint8_t status = braidlark_leave(manager->book, sizeof manager->book, address, site->now);
+    uint8_t status = braidlark_leave(manager->book, sizeof manager->book, address, unit_time(site, OFFICE));
     check_status(site, "braidlark_leave", status, 0);
     site->live[unit] = false;
-    status = braidlark_forget(office->table, sizeof office->table, address, site->now);
+    status = braidlark_forget(office->table, sizeof office->table, address, unit_time(site, OFFICE));
     check_status(site, "braidlark_forget", status, 0);
     unit_power_off(site, unit);
     power_store(site);

@@ -28,7 +28,9 @@ void membership_drop(struct unit *unit)
 bool membership_counts(const struct site *site, int unit)
 {
     const struct holding *holding = &site->units[unit].holding;
-    return holding->held && (unit == OFFICE || unit_network_time(site, unit) < holding->end);
+    uint32_t end = holding->told + SILENCE_MS - GUARD_MS;
+    bool in_time = !holding->denied && time_before(unit_network_time(site, unit), end);
+    return holding->held && (unit == OFFICE || in_time);
 }
 
 static void write_join_request(struct site *site, const struct unit *unit, struct packet *packet)
@@ -101,12 +103,11 @@ static void take_slots(struct site *site, int unit, const uint8_t *bytes, size_t
         if (at == 0) {
             holding.control_slot = slot;
             holding.told = frame.fields[BRAIDLARK_JOIN_RESPONSE_SUPERFRAME_TIME];
-            holding.end = (int64_t)holding.told + SILENCE_MS - GUARD_MS;
         } else if (holding.data_count < MOST_HELD) {
             holding.data_slots[holding.data_count++] = slot;
         }
     }
-    if (self->holding.held && holding.told < self->holding.told) {
+    if (self->holding.held && time_before(holding.told, self->holding.told)) {
         return;
     }
     self->holding = holding;
@@ -131,6 +132,6 @@ void membership_answer(struct site *site, int unit, const uint8_t *bytes, size_t
     if (accepted && self->state[0] == BRAIDLARK_NORMAL) {
         take_slots(site, unit, bytes, length);
     } else if (!accepted && self->holding.held) {
-        self->holding.end = 0;
+        self->holding.denied = true;
     }
 }

@@ -112,7 +112,7 @@ void orders_confirm(struct site *site, int unit, const uint8_t *words)
 /* Tells the grower, and the picture, of an order that goes to a unit that is not there. */
 static void note_loss(struct site *site, int number, struct order *order, int carrier, int next)
 {
-    uint32_t age = unit_time(site, carrier) - site->units[carrier].update_taken[next];
+    uint64_t age = unit_wide_time(site, carrier) - site->units[carrier].update_taken[next];
     order->lost_at_silent++;
     record_order(site, true);
     say(site, "order %d for %s is lost: %s hands it to %s, last heard of %u s ago", number,

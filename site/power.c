@@ -15,7 +15,8 @@ void power_store(struct site *site)
     struct flash *flash = &site->flash;
     uint8_t image[BRAIDLARK_MOST_IMAGE];
     uint32_t length = 0;
-    uint8_t status = braidlark_image(manager->book, sizeof manager->book, site->now, image, sizeof image, &length);
+    uint8_t status = braidlark_image(manager->book, sizeof manager->book, unit_time(site, OFFICE), image, sizeof image,
+                                     &length);
     check_status(site, "braidlark_image", status, 0);
     if (length == flash->length && memcmp(image, flash->image, length) == 0) {
         return;
@@ -77,7 +78,8 @@ void power_restore(struct site *site)
     struct manager *manager = &site->manager;
     struct flash *flash = &site->flash;
     uint32_t writes = flash->writes;
-    uint8_t status = braidlark_restore(manager->book, sizeof manager->book, flash->image, flash->length, site->now);
+    uint8_t status = braidlark_restore(manager->book, sizeof manager->book, flash->image, flash->length,
+                                       unit_time(site, OFFICE));
     check_status(site, "braidlark_restore", status, 0);
     power_store(site);
     if (flash->writes != writes) {

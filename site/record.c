@@ -4,7 +4,7 @@
  */
 #include "greenhouse.h"
 
-void record_note(struct record *record, uint32_t time, int unit)
+void record_note(struct record *record, uint64_t time, int unit)
 {
     bool same = record->count > 0 ? record->changes[record->count - 1].unit == unit : unit == NOBODY;
     if (same || record->count == MOST_CHANGES) {

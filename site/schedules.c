@@ -21,8 +21,8 @@ bool schedule_of(struct site *site, int unit, uint8_t hop, uint8_t kinds[BRAIDLA
 {
     const struct manager *manager = &site->manager;
     uint32_t slots = 0;
-    uint8_t status = braidlark_schedule(manager->book, sizeof manager->book, site->units[unit].address, hop, site->now,
-                                        kinds, BRAIDLARK_MOST_SLOTS, &slots);
+    uint8_t status = braidlark_schedule(manager->book, sizeof manager->book, site->units[unit].address, hop,
+                                        unit_time(site, OFFICE), kinds, BRAIDLARK_MOST_SLOTS, &slots);
     check_status(site, "braidlark_schedule", status, unit == OFFICE ? 0 : REFUSAL(BRAIDLARK_NO_MEMBER));
     if (status == BRAIDLARK_ACCEPTED && slots * SLOT_MS != SUPERFRAME_MS) {
         fail(site, "a schedule has %u slots, and the site counts on %d", (unsigned)slots, BRAIDLARK_MOST_SLOTS);
@@ -86,6 +86,9 @@ static void note_live(struct site *site, int unit, bool live, uint32_t held_befo
         say(site, "%s now holds data slot%s %s", site->units[unit].name, plural, slots);
     } else if (!live && site->live[unit]) {
         say(site, "%s counts as gone: 300 s without a word; its row and slots are free", site->units[unit].name);
+        if (unit == MIDDLE_RELAY) {
+            check_top(site);
+        }
     }
     site->live[unit] = live;
     if (joined && unit == BENCH_9) {

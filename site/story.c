@@ -7,23 +7,23 @@
 enum { SECOND = 1000, MINUTE = 60 * SECOND };
 
 /* Whether a moment falls into the slot that begins now. */
-static bool due(const struct site *site, uint32_t moment)
+static bool due(const struct site *site, uint64_t moment)
 {
     return moment <= site->now && site->now - moment < SLOT_MS;
 }
 
 static void switch_on(struct site *site)
 {
-    static const uint32_t RELAYS_FROM = 60 * SECOND, RELAYS_EVERY = 60 * SECOND;
-    static const uint32_t HEADS_FROM = 300 * SECOND, HEADS_EVERY = 40 * SECOND;
+    static const uint64_t RELAYS_FROM = 60 * SECOND, RELAYS_EVERY = 60 * SECOND;
+    static const uint64_t HEADS_FROM = 300 * SECOND, HEADS_EVERY = 40 * SECOND;
     if (due(site, 0)) {
         unit_power_on(site, OFFICE);
         scene(site, "The site comes up");
         say(site, "night falls; the office is switched on, then the relays and the valve heads of eight benches");
     }
     for (int unit = MIDDLE_RELAY; unit <= BENCH_8; unit++) {
-        uint32_t moment = unit < BENCH_1 ? RELAYS_FROM + RELAYS_EVERY * (uint32_t)(unit - MIDDLE_RELAY)
-                                         : HEADS_FROM + HEADS_EVERY * (uint32_t)(unit - BENCH_1);
+        uint64_t moment = unit < BENCH_1 ? RELAYS_FROM + RELAYS_EVERY * (uint64_t)(unit - MIDDLE_RELAY)
+                                         : HEADS_FROM + HEADS_EVERY * (uint64_t)(unit - BENCH_1);
         if (due(site, moment)) {
             unit_power_on(site, unit);
         }
@@ -38,7 +38,7 @@ static void switch_on(struct site *site)
  * 5 came through, so that the relay's is the first time to run out. */
 static void unbolt(struct site *site)
 {
-    const uint32_t *last_word = site->manager.last_word;
+    const uint64_t *last_word = site->manager.last_word;
     if (site->middle_row != NOBODY || site->now < site->script.unbolted ||
         last_word[BENCH_5] < last_word[MIDDLE_RELAY]) {
         return;

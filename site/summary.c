@@ -9,7 +9,7 @@ struct outcome {
     int replaced;
     int lost_tries;
     int late;
-    uint32_t latest_ms;
+    uint64_t latest_ms;
 };
 
 static struct outcome count_orders(const struct site *site)
@@ -21,7 +21,7 @@ static struct outcome count_orders(const struct site *site)
         outcome.replaced += !order->arrived && order->replaced;
         outcome.lost_tries += order->lost_at_silent;
         if (order->arrived && order->lost_at_silent > 0) {
-            uint32_t took_ms = order->arrival - order->given;
+            uint64_t took_ms = order->arrival - order->given;
             outcome.late++;
             outcome.latest_ms = took_ms > outcome.latest_ms ? took_ms : outcome.latest_ms;
         }
@@ -54,6 +54,16 @@ static void print_power(const struct site *site)
     printf("             the flash was written %u times in the night\n", (unsigned)site->flash.writes);
 }
 
+static void print_clocks(const struct site *site)
+{
+    char first[9], last[9];
+    clock_words(site->turns.first, first);
+    clock_words(site->turns.last, last);
+    printf("  clocks     the worst clock of a member was %u ms off, of %d that the slots leave room for\n",
+           (unsigned)site->tally.worst_clock_ms, CLOCK_TOLERANCE_MS);
+    printf("             %d passed 2^32 ms and began again at 0, from %s to %s\n", site->turns.count, first, last);
+}
+
 void summary_print(struct site *site)
 {
     const struct tally *tally = &site->tally;
@@ -68,8 +78,7 @@ void summary_print(struct site *site)
            (unsigned)tally->schedules);
     printf("  joining    %u requests refused, with every row live; places lost and asked for anew: %u\n",
            (unsigned)tally->refused_joins, (unsigned)tally->started_over);
-    printf("  clocks     the worst clock of a member was %u ms off, of %d that the slots leave room for\n",
-           (unsigned)tally->worst_clock_ms, CLOCK_TOLERANCE_MS);
+    print_clocks(site);
     printf("  the air    %u packets sent, %u losses on links\n", (unsigned)tally->packets,
            (unsigned)tally->lost_on_links);
     printf("All checks hold.\n");

@@ -1,5 +1,5 @@
 /*
- * Time: superframe by superframe, and slot by slot in each.
+ * The night: superframe by superframe, and slot by slot in each.
  */
 #include "greenhouse.h"
 
@@ -57,9 +57,10 @@ static void run_slot(struct site *site, int slot)
 /* The whole night. */
 void superframes_run(struct site *site)
 {
-    for (uint32_t start = 0; start < site->script.end; start += SUPERFRAME_MS) {
+    for (uint64_t start = 0; start < site->script.end; start += SUPERFRAME_MS) {
         for (int slot = 0; slot < BRAIDLARK_MOST_SLOTS; slot++) {
-            site->now = start + (uint32_t)(slot * SLOT_MS);
+            site->now = start + (uint64_t)(slot * SLOT_MS);
+            clocks_watch(site);
             story_slot(site);
             if (slot == 0) {
                 begin_superframe(site);

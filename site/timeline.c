@@ -9,15 +9,15 @@
 enum { START_HOUR = 22 };
 
 /* The time of the clock, as 22:14:05. */
-void clock_words(uint32_t time, char words[9])
+void clock_words(uint64_t time, char words[9])
 {
-    uint32_t seconds = time / 1000;
+    uint32_t seconds = (uint32_t)(time / 1000);
     snprintf(words, 9, "%02u:%02u:%02u", (unsigned)((START_HOUR + seconds / 3600) % 24), (unsigned)(seconds / 60 % 60),
              (unsigned)(seconds % 60));
 }
 
 /* Puts an order that arrived in good time with the others of a quiet stretch. */
-void timeline_quiet(struct site *site, uint32_t took_ms)
+void timeline_quiet(struct site *site, uint64_t took_ms)
 {
     struct quiet *quiet = &site->quiet;
     quiet->since = quiet->count == 0 ? site->now : quiet->since;

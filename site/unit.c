@@ -1,5 +1,5 @@
 /*
- * What the firmware of one unit does with its power, its time, its state, its clock, beacons and routing updates.
+ * What the firmware of one unit does with its power, its state, its clock, beacons and routing updates.
  */
 #include <string.h>
 
@@ -7,25 +7,15 @@
 
 enum { UPDATE_EVERY_MS = 60000, REPORT_EVERY_MS = 120000 };
 
-/* The unit's own milliseconds: off from the start, and running off. */
-uint32_t unit_time(const struct site *site, int unit)
-{
-    const struct unit *self = &site->units[unit];
-    return (uint32_t)((int64_t)site->now + self->skew_ms + (int64_t)site->now * self->drift_ppm / 1000000);
-}
-
-/* What the unit takes the network's time to be. */
-int64_t unit_network_time(const struct site *site, int unit)
-{
-    return (int64_t)unit_time(site, unit) + site->units[unit].offset;
-}
-
 /* An event that the state does not allow changes nothing. */
 void unit_tell(struct site *site, int unit, uint8_t event)
 {
     struct unit *self = &site->units[unit];
     uint8_t status = braidlark_state_event(self->state, sizeof self->state, event, unit_time(site, unit));
     check_status(site, "braidlark_state_event", status, REFUSAL(BRAIDLARK_NOT_ALLOWED));
+    if (status == BRAIDLARK_ACCEPTED && (event == BRAIDLARK_BEACON_HEARD || event == BRAIDLARK_JOIN_ACCEPTED)) {
+        self->beacon_taken = unit_wide_time(site, unit);
+    }
 }
 
 static void start_over(struct site *site, int unit)
@@ -139,8 +129,10 @@ void unit_begin(struct site *site, int unit)
 void unit_tick(struct site *site, int unit)
 {
     struct unit *self = &site->units[unit];
+    uint8_t before = self->state[0];
     uint8_t status = braidlark_state_tick(self->state, sizeof self->state, SUPERFRAME_MS, unit_time(site, unit));
     check_status(site, "braidlark_state_tick", status, 0);
+    check_silence(site, unit, before);
     look_again(site, unit);
 }
 
@@ -229,7 +221,7 @@ static void hear_update(struct site *site, int unit, int sender, uint8_t quality
                                      unit_time(site, unit), &skipped);
     check_status(site, "braidlark_merge", status, 0);
     self->was_told[sender] = true;
-    self->update_taken[sender] = unit_time(site, unit);
+    self->update_taken[sender] = unit_wide_time(site, unit);
     if (unit == OFFICE) {
         manager_hears(site, site->units[sender].address);
     }

@@ -7,12 +7,11 @@ use Prim.Native.Nat.{ℕ, _≤_}
 use native.Mathlib.Omega.{arith}
 use lib.ListN.{drop}
 use Rattle.octets.specs.Lists.{every}
-use Rattle.moments.specs.Moments.{inOrder}
 use Rattle.site.specs.Plans.{planRule}
 use Rattle.site.proofs.PlanLaws.{rule-bounds}
 use Rattle.members.specs.Members.{Row}
 use Rattle.members.specs.Rules.{emptyIs, rowsRule}
-use Rattle.members.proofs.RowRuleLaws.{Ruled, ruled, rules, ruled-current, ruled-later}
+use Rattle.members.proofs.RowRuleLaws.{Ruled, ruled, rules, ruled-then}
 use Rattle.book.specs.Books.{Stated, rowsIn, withinRule, rowsAt}
 
 -- rows within rule, of a book's plan
@@ -41,6 +40,6 @@ module _ (b : Stated) where
   unfolding withinRule
   by-parts w = rw (w .plan, rules (w .few) (w .rows), w .behind)
 
-  -- its rows at a time that is accepted
-  pub rows-then : Within b → (time : ℕ) → inOrder (b .time) time ≡ true → RowsRuled b time (rowsAt b time)
-  rows-then w time h = ruled-later h (ruled-current time (w .rows))
+  -- its rows at a time
+  pub rows-then : Within b → (time : ℕ) → RowsRuled b time (rowsAt b time)
+  rows-then w time = ruled-then time (w .rows)

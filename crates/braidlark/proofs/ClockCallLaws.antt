@@ -5,23 +5,20 @@ use mathlib.Core.Bool.{Bool, true, false, cond}
 use mathlib.Core.List.{List}
 use Prim.Native.Nat.{ℕ}
 use lib.Dec.{eqb}
-use lib.IntN.{ℤ}
 use Rattle.clock.specs.declared.steps.Stepped.{Stepped}
 use Rattle.clock.specs.Clock.{beaconStepOf}
 use Rattle.braidlark.specs.ClockCalls.{ClockLeft, clockLeft, clockCall}
 
-module _ (offset : ℤ) (local network : ℕ) (s : List ℕ) where
+module _ (offset local network : ℕ) (s : List ℕ) where
   -- what a step gives is what it leaves, since a refused one gives the offset as it was
   left : clockLeft (beaconStepOf offset local network s .refused) (beaconStepOf offset local network s .offset) ≡ clockCall offset local network s
   unfolding clockCall beaconStepOf
   left =
       ap {B = ClockLeft} (clockLeft (beaconStepOf offset local network s .refused)) (go _ (eqb (beaconStepOf offset local network s .refused) 0))
     where
-      go : (next : ℤ) (b : Bool) → cond b next offset ≡ cond b (cond b next offset) offset
+      go : (next : ℕ) (b : Bool) → cond b next offset ≡ cond b (cond b next offset) offset
       go next true = refl
       go next false = refl
 
-  -- the same with both offsets as they are handed on
-  pub stepped-left : (r : Stepped) (before after : ℤ) → r ≡ beaconStepOf before local network s → before ≡ offset → after ≡ r .offset
-      → clockLeft (r .refused) after ≡ clockCall offset local network s
-  stepped-left r before after e b a = rw (a, e, b) left
+  pub stepped-left : (r : Stepped) → r ≡ beaconStepOf offset local network s → clockLeft (r .refused) (r .offset) ≡ clockCall offset local network s
+  stepped-left r e = rw e left

@@ -2,19 +2,18 @@
 -- Assumes nothing.
 use Prim.Native.Nat.{ℕ}
 use mathlib.Core.List.{List}
-use lib.IntN.{ℤ}
 use Rattle.octets.specs.Calls.{after}
 use Rattle.clock.specs.Clock.{beaconStepOf}
 
 -- the status, and the caller's offset
 pub record ClockLeft : Type 0 where
   pub status : ℕ
-  pub offset : ℤ
+  pub offset : ℕ
 
-abbrev pub clockLeft : ℕ → ℤ → ClockLeft
+abbrev pub clockLeft : ℕ → ℕ → ClockLeft
 clockLeft status offset = record { status = status; offset = offset }
 
-unfoldable pub clockCall : ℤ → ℕ → ℕ → List ℕ → ClockLeft
+unfoldable pub clockCall : ℕ → ℕ → ℕ → List ℕ → ClockLeft
 clockCall offset local network s =
     let stepped = beaconStepOf offset local network s in
     clockLeft (stepped .refused) (after (stepped .refused) offset (stepped .offset))

@@ -6,7 +6,7 @@ use clock::steps::step_by_beacon;
 // The step by a beacon's frame that came in at a local time, for a unit of this network.
 #[no_mangle]
 pub extern "C" fn braidlark_clock_step(
-    offset: &mut i64,
+    offset: &mut u32,
     local_time: u32,
     network: u16,
     frame: &[u8],

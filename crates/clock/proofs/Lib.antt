@@ -1,5 +1,4 @@
 pub mod ClockLaws
 pub mod CorrectionLaws
-pub mod IntegerLaws
-pub mod MachineLaws
+pub mod SignLaws
 pub mod StepLaws

@@ -1,22 +1,33 @@
--- The clock: how far a unit's time is from the network's, and what a step makes of its offset.
--- A drift is exact and signed, so it is a whole number with its sign and not a number of so many bits.
+-- The clock: how far a unit's time is from the network's, and what a step makes of its offset. Offsets and times are numbers of 32 bits, modulo 2^32; a drift
+-- is the wrapped difference of two times, read with its sign.
 -- Assumes nothing.
-use Prim.Native.Nat.{ℕ, _+_, _^_}
-use mathlib.Core.Bool.{Bool, not, cond}
-use mathlib.Core.List.{List, [], _∷_, _++_}
-use lib.Dec.{eqb, leb, ltb}
-use lib.IntN.{ℤ, pos, natAbs, _+ℤ_, _-ℤ_}
+use Prim.Native.Nat.{ℕ, suc, _+_, _-_, _%_, _^_}
+use mathlib.Core.Bool.{not, cond}
+use mathlib.Core.List.{List, [], _∷_}
+use lib.Dec.{eqb, ltb}
+use lib.IntN.{ℤ, pos, negsuc, natAbs, _-ℤ_}
 use lib.Signed.{quotZ}
 use Rattle.octets.specs.Answers.{Reason, reason, first}
+use Rattle.moments.specs.Moments.{ageAt}
 use Rattle.shapes.specs.Shape.{valuesIn}
 use Rattle.shapes.specs.Reading.{refusalAs}
 use Rattle.beacons.specs.Beacons.{beacon, beaconFrom}
 use Rattle.clock.specs.declared.steps.Stepped.{Stepped}
 
+-- ---- 32 bits, with a sign and without
+-- a number of 32 bits read with its sign: from 2^31 on it is 2^32 less
+unfoldable pub signed : ℕ → ℤ
+signed n = cond (ltb n (2 ^ 31)) (pos n) (pos n -ℤ pos (2 ^ 32))
+
+-- a whole number modulo 2^32
+unfoldable pub wrapped : ℤ → ℕ
+wrapped (pos n) = n % 2 ^ 32
+wrapped (negsuc n) = (2 ^ 32 - suc n % 2 ^ 32) % 2 ^ 32
+
 -- ---- the drift
 -- how far the local time with its offset is from the time that a beacon carries, the original one and the delay since
-unfoldable pub drift : ℕ → ℤ → ℕ → ℕ → ℤ
-drift local offset original delay = (pos local +ℤ offset) -ℤ pos (original + delay)
+unfoldable pub drift : ℕ → ℕ → ℕ → ℕ → ℤ
+drift local offset original delay = signed (ageAt (local + offset) (original + delay))
 
 -- half of it, rounded toward zero
 unfoldable pub half : ℤ → ℤ
@@ -26,21 +37,14 @@ half d = quotZ d (pos 2)
 unfoldable pub correction : ℤ → ℤ
 correction d = cond (ltb 100 (natAbs d)) d (cond (ltb 50 (natAbs d)) (half d) (pos 0))
 
-unfoldable pub corrected : ℕ → ℤ → ℕ → ℕ → ℤ
-corrected local offset original delay = offset -ℤ correction (drift local offset original delay)
-
 -- ---- the calls
--- an offset handed in lies within 2^34 either way
-abbrev pub offsetRule : ℤ → Bool
-offsetRule offset = leb (natAbs offset) (2 ^ 34)
+-- the offset after a step by the two times that a beacon carries, which is never refused
+unfoldable pub corrected : ℕ → ℕ → ℕ → ℕ → ℕ
+corrected local offset original delay = wrapped (pos offset -ℤ correction (drift local offset original delay))
 
 -- the first refusal with the offset as it was, or the next offset
-abbrev pub stepped : List Reason → ℤ → ℤ → Stepped
-stepped reasons offset next = record { refused = first reasons; offset = cond (eqb (first reasons) 0) next offset }
-
--- a step by the two times that a beacon carries: 14
-unfoldable pub stepOf : ℤ → ℕ → ℕ → ℕ → Stepped
-stepOf offset local original delay = stepped (reason (not (offsetRule offset)) 14 ∷ []) offset (corrected local offset original delay)
+abbrev pub stepped : ℕ → ℕ → ℕ → Stepped
+stepped number offset next = record { refused = number; offset = cond (eqb number 0) next offset }
 
 -- why a frame that is refused by this number, and has this network, gives no step to a caller of a network: 1, 2, 1, 3, 4 of the frame,
 -- 4 of the caller's network, 15
@@ -51,9 +55,9 @@ heardReasons unread heard network =
     reason (not (eqb network heard)) 15 ∷
     []
 
--- a step by a beacon's frame: those, then 14
-unfoldable pub beaconStepOf : ℤ → ℕ → ℕ → List ℕ → Stepped
+-- a step by a beacon's frame
+unfoldable pub beaconStepOf : ℕ → ℕ → ℕ → List ℕ → Stepped
 beaconStepOf offset local network s =
     let heard = beaconFrom (valuesIn beacon s) in
-    stepped (heardReasons (refusalAs beacon s) (heard .network) network ++ (reason (not (offsetRule offset)) 14 ∷ [])) offset
+    stepped (first (heardReasons (refusalAs beacon s) (heard .network) network)) offset
     (corrected local offset (heard .«original_time») (heard .delay))

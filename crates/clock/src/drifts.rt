@@ -1,41 +1,47 @@
-// The drift between a unit's time and the network's, and how much of it a step takes away.
+// A drift as its 32 bits, and how much of it a step takes away, modulo 2^32 like all that is taken from an offset.
 ghost use mathlib.Core.Path.{_≡_};
-ghost use Prim.Native.Nat.{_^_, _≤_};
+ghost use mathlib.Core.Bool.{cond};
+ghost use Prim.Native.Nat.{_-_, _%_, _^_};
+ghost use lib.Dec.{ltb};
 ghost use lib.IntN.{natAbs};
-ghost use Rattle.clock.specs.Clock.{correction, corrected, drift};
-use crate::signed::difference;
-use crate::signed::half;
-use crate::signed::magnitude;
-use crate::signed::sum;
-use crate::signed::wide;
+ghost use Rattle.clock.specs.Clock.{signed, wrapped, half, correction};
+use std::num::wrapping_sub_u32;
 
-fn drift(local: u32, offset: i64, original_time: u32, delay: u32) -> i64
-    requires { ⌜ natAbs offset ≤ 2 ^ 34 ⌝ }
-    ensures { λ r. ⌜ r ≡ drift local offset «original_time» delay ⌝ }
+// A number, or 0 less it where the drift is below zero.
+fn signed_by(drift: u32, number: u32) -> u32
+    ensures { λ r. ⌜ r ≡ cond (ltb drift (2 ^ 31)) number ((2 ^ 32 - number) % 2 ^ 32) ⌝ }
 {
-    let here = sum(wide(local), offset);
-    let sent = sum(wide(original_time), wide(delay));
-    difference(here, sent)
+    if drift < 0x80000000 {
+        number
+    } else {
+        wrapping_sub_u32(0, number)
+    }
+}
+
+// How far a drift is from zero, either way.
+fn size(drift: u32) -> u32
+    ensures { λ r. ⌜ r ≡ natAbs (signed drift) ⌝ }
+{
+    signed_by(drift, drift)
+}
+
+// Half of it, rounded toward zero.
+fn half(drift: u32) -> u32
+    ensures { λ r. ⌜ r ≡ wrapped (half (signed drift)) ⌝ }
+{
+    signed_by(drift, size(drift) / 2)
 }
 
 // All of a large drift, half of a middling one, nothing of a small one.
-fn correction(drift: i64) -> i64
-    ensures { λ r. ⌜ r ≡ correction drift ⌝ }
+pub(crate) fn correction(drift: u32) -> u32
+    ensures { λ r. ⌜ r ≡ wrapped (correction (signed drift)) ⌝ }
 {
-    let size = magnitude(drift);
+    let size = size(drift);
     if 100 < size {
-        return drift;
+        drift
+    } else if 50 < size {
+        half(drift)
+    } else {
+        0
     }
-    if 50 < size {
-        return half(drift);
-    }
-    0
-}
-
-pub(crate) fn corrected(local: u32, offset: i64, original_time: u32, delay: u32) -> i64
-    requires { ⌜ natAbs offset ≤ 2 ^ 34 ⌝ }
-    ensures { λ r. ⌜ r ≡ corrected local offset «original_time» delay ⌝ }
-{
-    let drift = drift(local, offset, original_time, delay);
-    difference(offset, correction(drift))
 }

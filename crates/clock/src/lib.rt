@@ -1,4 +1,3 @@
 // Clock: how far a unit's time is from the network's, and the step that brings it nearer.
 mod drifts;
-mod signed;
 pub mod steps;

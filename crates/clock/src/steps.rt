@@ -1,69 +1,60 @@
 // The clock's step, by the two times that a beacon carries, and by the beacon's frame.
 ghost use mathlib.Core.Path.{_≡_};
-ghost use mathlib.Core.List.{[], _∷_};
-ghost use mathlib.Core.Bool.{not};
-ghost use lib.Dec.{eqb};
-ghost use Rattle.octets.specs.Answers.{reason, first};
-ghost use Rattle.clock.specs.Clock.{corrected, offsetRule, stepped, stepOf, heardReasons, beaconStepOf};
-use crate::drifts::corrected;
-use crate::signed::magnitude;
+ghost use Rattle.octets.specs.Answers.{first};
+ghost use Rattle.clock.specs.Clock.{corrected, stepped, heardReasons, beaconStepOf};
+use crate::drifts::correction;
 use beacons::beacon::Beacon;
+use moments::age;
+use octets::answers::refuse_if;
 use readers::refusals::beacon;
+use std::num::wrapping_add_u32;
+use std::num::wrapping_sub_u32;
 
 // What a step gives: the offset, which is as it was where `refused` is not 0.
 pub struct Stepped {
     pub refused: u8,
-    pub offset: i64,
-}
-
-// What an offset may be, either way.
-const LARGEST_OFFSET: u64 = 17_179_869_184;
-
-// What both steps share: the number that refuses already, or that of the offset, or the offset corrected.
-fn step_unless(refused: u8, offset: i64, local: u32, original_time: u32, delay: u32) -> Stepped
-    ensures { λ r. ⌜ r ≡ stepped (reason (not (eqb refused 0)) refused ∷ reason (not (offsetRule offset)) 14 ∷ []) offset (corrected local offset «original_time» delay) ⌝ }
-{
-    if refused != 0 {
-        return Stepped { refused, offset };
-    }
-    if LARGEST_OFFSET < magnitude(offset) {
-        return Stepped {
-            refused: 14,
-            offset,
-        };
-    }
-    Stepped {
-        refused: 0,
-        offset: corrected(local, offset, original_time, delay),
-    }
+    pub offset: u32,
 }
 
 // The step by a beacon that was sent at `original_time` and was `delay` ms under way.
-pub fn step(offset: i64, local: u32, original_time: u32, delay: u32) -> Stepped
-    ensures { λ r. ⌜ r ≡ stepOf offset local «original_time» delay ⌝ }
+pub fn step(offset: u32, local: u32, original_time: u32, delay: u32) -> u32
+    ensures { λ r. ⌜ r ≡ corrected local offset «original_time» delay ⌝ }
 {
-    step_unless(0, offset, local, original_time, delay)
+    let here = wrapping_add_u32(local, offset);
+    let sent = wrapping_add_u32(original_time, delay);
+    wrapping_sub_u32(offset, correction(age(here, sent)))
 }
 
 // Why a frame that is refused by `unread`, and has the network `heard`, gives no step to a caller of a network.
 fn refusal(unread: u8, heard: u16, network: u16) -> u8
     ensures { λ r. ⌜ r ≡ first (heardReasons unread heard network) ⌝ }
 {
-    if unread != 0 {
-        return unread;
+    let refused = refuse_if(!(network == heard), 15, 0);
+    let refused = refuse_if(network == 0, 4, refused);
+    refuse_if(!(unread == 0), unread, refused)
+}
+
+// The next offset, unless a number refuses it.
+fn unless(refused: u8, offset: u32, next: u32) -> Stepped
+    ensures { λ r. ⌜ r ≡ stepped refused offset next ⌝ }
+{
+    if refused == 0 {
+        Stepped {
+            refused,
+            offset: next,
+        }
+    } else {
+        Stepped { refused, offset }
     }
-    if network == 0 {
-        return 4;
-    }
-    if network != heard { 15 } else { 0 }
 }
 
 // The step by a beacon's frame, for a caller of this network.
-pub fn step_by_beacon(offset: i64, local: u32, network: u16, frame: &[u8]) -> Stepped
+pub fn step_by_beacon(offset: u32, local: u32, network: u16, frame: &[u8]) -> Stepped
     ensures { λ r. ⌜ r ≡ beaconStepOf offset local network (now (frame .entry)) ⌝ }
 {
     let unread = beacon(frame);
     let heard = Beacon::of(frame);
     let refused = refusal(unread, heard.network, network);
-    step_unless(refused, offset, local, heard.original_time, heard.delay)
+    let next = step(offset, local, heard.original_time, heard.delay);
+    unless(refused, offset, next)
 }

@@ -23,7 +23,7 @@ use Rattle.held.specs.HeldTables.{InC, Held, heldAfter, AllMachine, callsOf, in
 use Rattle.held.proofs.StoredLaws.{held-same, fresh-same}
 use Rattle.converges.specs.Sites.{Site, Sited, among}
 use Rattle.converges.specs.Courses.{Heard, Course, Fair}
-use Rattle.converges.specs.RowRounds.{rowsAfter}
+use Rattle.converges.specs.RowRounds.{rowsAfter, untilAfter}
 use Rattle.converges.specs.Rounds.{pageBuffer, bytesOf, taking, pastAfter, tableAfter, Sent, Clocks, Rounds, Played}
 use Rattle.converges.specs.InC.{sentBy, takingInC, holdsAfter, bufferAfter, HoldsTables, ConvergesInC, AllKnownInC, AllArriveInC}
 use Rattle.converges.proofs.StepLaws.{Right}
@@ -57,10 +57,10 @@ module _ (s : Site) (c : Course) (z : Sited s) (w : Clocks s c) (r : ℕ) (a : R
   abbrev before : ℕ → Table
   before = tableAfter c r
 
-  same : (o : ℕ) → among o (s .units) ≡ true → Holds c o (before o) (rowsAfter c r o)
-  same = tables-hold s c z w r a .1
+  same : (o : ℕ) → among o (s .units) ≡ true → Holds c o (untilAfter c r o) (before o) (rowsAfter c r o)
+  same o i = tables-hold s c z w r a .1 o i .held
 
-  right : (o : ℕ) → among o (s .units) ≡ true → Right s c o r r (rowsAfter c r o)
+  right : (o : ℕ) → among o (s .units) ≡ true → Right s c o (untilAfter c r o) r r (rowsAfter c r o)
   right = rounds-right s c z r (tables-hold s c z w r a .0)
 
   -- what a neighbour's buffer sends is what its table sends
@@ -70,7 +70,7 @@ module _ (s : Site) (c : Course) (z : Sited s) (w : Clocks s c) (r : ℕ) (a : R
       let unit = z .inside u o (f .near) in
       let sent : sentBy (buffers o) (h .page) (h .written) ≡ bytesOf (before o) (h .page) (h .written) =
       ap (λ (b : List ℕ). sentBy b (h .page) (h .written)) (held o unit)
-      ∙ sent-same (before o) (same o unit .sized) (h .page) (h .written) (written s c z w r before (rowsAfter c r) same right u m h f g) in
+      ∙ sent-same (before o) (same o unit .sized) (h .page) (h .written) (written s c z r before (rowsAfter c r) (untilAfter c r) same right u m h f g) in
       λ i. record { call = history.merge (sent i) (h .quality) (h .time); filled = λ number. 0 }
 
   all-calls : (hs : List Heard) → Each (Fair s c u) hs → Each (Sent before) hs → map (takingInC buffers) hs ≡ map (inC before) hs
@@ -82,7 +82,7 @@ module _ (s : Site) (c : Course) (z : Sited s) (w : Clocks s c) (r : ℕ) (a : R
 
   all-machine : (hs : List Heard) → Each (Fair s c u) hs → Each (Sent before) hs → AllMachine (map (inC before) hs)
   all-machine [] f g = tt
-  all-machine (h ∷ hs) f g = (machine s c z w r before (rowsAfter c r) same right u m h (f .0) (g .0), all-machine hs (f .1) (g .1))
+  all-machine (h ∷ hs) f g = (machine s c z r before (rowsAfter c r) (untilAfter c r) same right u m h (f .0) (g .0), all-machine hs (f .1) (g .1))
 
   round-held : (hs : List Heard) → Each (Fair s c u) hs → Each (Sent before) hs
       → heldAfter (inBytes (pastAfter c r u)) (map (takingInC buffers) hs) ≡ inBytes (history.after (pastAfter c r u) (map (taking before) hs))
@@ -107,7 +107,7 @@ holds-tables s c (suc r) p anything l u m =
 pub converges-in-c : ConvergesInC
 converges-in-c s c r p anything l u d time hop hops m a q =
     let t = tableAfter c r u in
-    let size = tables-hold s c (p .site) (p .clocks) r (p .rounds) .1 u m .sized in
+    let size = tables-hold s c (p .site) (p .clocks) r (p .rounds) .1 u m .held .sized in
     let said = lookupOf t d time in
     let left : lookupCall (bufferAfter anything c r u) d time hop hops
     ≡ lookupLeft (said .refusal) (after (said .refusal) hop (getD (said .values) 0 0)) (after (said .refusal) hops (getD (said .values) 1 0)) =

@@ -9,34 +9,54 @@ use native.Mathlib.Omega.{arith}
 use borrow.Author.Tests.{eqb-true, eq-eqb, ne-eqb}
 use lib.Dec.{eqb}
 use lib.ListN.{getD}
+use Rattle.moments.specs.Moments.{inOrder}
+use Rattle.moments.proofs.MomentLaws.{young-in-order}
+use Rattle.shapes.specs.Rules.{address}
 use Rattle.routes.specs.Rows.{rowFor}
 use Rattle.routes.specs.Tables.{rowsOf, leadsTo, lookupOf}
 use Rattle.routes.proofs.LookupLaws.{lookup-told, lookup-leads, not-led}
 use Rattle.converges.specs.Sites.{Site, Sited, Fewest, among, within}
-use Rattle.converges.specs.Courses.{Leads, toKnow}
-use Rattle.converges.specs.Rounds.{tableAfter}
+use Rattle.converges.specs.Courses.{Course, Leads, toKnow}
+use Rattle.converges.specs.RowRounds.{untilAfter}
+use Rattle.converges.specs.Rounds.{tableAfter, Played, Asked}
 use Rattle.converges.specs.Laws.{LookupsConverge, Ready, AllKnown, steps, Arrives, AllArrive}
 use Rattle.converges.proofs.SiteLaws.{within-none, within-self}
-use Rattle.converges.proofs.TableLaws.{unit-address, tables-hold, converges}
+use Rattle.converges.proofs.StepLaws.{Right, aged}
+use Rattle.converges.proofs.RoundLaws.{rounds-right, row}
+use Rattle.converges.proofs.TableLaws.{no-sooner, unit-address, tables-hold, converges}
 
 -- ---- lookups
+-- a lookup is made no sooner than the row that it finds
+row-before : (s : Site) (c : Course) (r : ℕ) (p : Played s c r) (u : ℕ) (m : among u (s .units) ≡ true) (d : ℕ) → address d ≡ true
+    → let x = rowFor d (rowsOf (tableAfter c r u)) in x .destination ≡ d → (time : ℕ) → Asked c r u time → inOrder (x .time) time ≡ true
+row-before s c r p u m d a there time q =
+    let (rounds, comes) = tables-hold s c (p .site) (p .clocks) r (p .rounds) in
+    let k = comes u m .held in
+    let now = untilAfter c r u in
+    let right = subst (Right s c u now r r) (sym (k .holds)) (rounds-right s c (p .site) r rounds u m) in
+    let x = rowFor d (rowsOf (tableAfter c r u)) in
+    let y = row s c (p .site) r u now (rowsOf (tableAfter c r u)) right d a there in
+    let sooner = no-sooner c u (tableAfter c r u .time) time (k .at) (q .order) in
+    young-in-order time (x .time) 300000 (omega arith)
+    (aged s c u now r time x y (record { reached = omega (arith, sooner, k .since); until = q .within .until }))
+
 pub lookups-converge : LookupsConverge
 lookups-converge s c r p u d time m a q =
     let t = tableAfter c r u in
     let x = rowFor d (rowsOf t) in
     let n = converges s c r p u m in
-    let rule = tables-hold s c (p .site) (p .clocks) r (p .rounds) .1 u m .rule in
+    let held = tables-hold s c (p .site) (p .clocks) r (p .rounds) .1 u m .held in
     record {
       known =
           λ e.
           let there : x .destination ≡ d = eqb-true (x .destination) d (n .exactly d a ∙ e) in
-          let leads : leadsTo t d time ≡ true = rw (eq-eqb (x .destination) d there) (n .lasting d time a there (q .within)) in
-          let ok : lookupOf t d time .refusal ≡ 0 = eqb-true (lookupOf t d time .refusal) 0 (lookup-leads t d time rule a (q .order) ∙ leads) in
+          let leads : leadsTo t d time ≡ true = rw (eq-eqb (x .destination) d there) (n .lasting d time a there (q .within) (row-before s c r p u m d a there time q)) in
+          let ok : lookupOf t d time .refusal ≡ 0 = eqb-true (lookupOf t d time .refusal) 0 (lookup-leads t d time (held .rule) a (q .order) ∙ leads) in
           (ok, subst (λ (vs : List ℕ). Leads s u d (getD vs 0 0) (getD vs 1 0)) (sym (lookup-told t d time ok)) (n .leads d a there));
       unknown =
           λ e.
           let none : leadsTo t d time ≡ false = rw (n .exactly d a ∙ e) in
-          not-led t d time rule a (q .order) none;
+          not-led t d time (held .rule) a (q .order) none;
     }
 
 -- ---- from as many rounds on as the diameter

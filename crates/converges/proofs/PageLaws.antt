@@ -16,15 +16,15 @@ use Rattle.merges.specs.Candidates.{offered, passedOver, offers, candidates}
 use Rattle.pages.specs.Pages.{entryFor}
 use Rattle.pages.proofs.EntryLaws.{entry-hops, entry-quality, entry-destination}
 use Rattle.converges.specs.Sites.{Site}
-use Rattle.converges.specs.Courses.{Course, InTime}
+use Rattle.converges.specs.Courses.{Course}
 use Rattle.converges.proofs.SiteLaws.{fewest-self}
-use Rattle.converges.proofs.StepLaws.{Good, Offer, good-usable}
+use Rattle.converges.proofs.StepLaws.{Good, Offer, Reaches, good-usable}
 
 -- ---- what a page offers
-module _ (s : Site) (c : Course) (u r o : ℕ) (near : s .linked u o ≡ true) (quality : ℕ) (clear : 40 ≤ quality) (byte : quality ≤ 255) (written : ℕ) (t : InTime c o written) where
-  row-offer : (x : Row) → Good s c o r x → passedOver u o (entryFor written x) ≡ false → Offer s u r o (offered quality (entryFor written x))
+module _ (s : Site) (c : Course) (u r o : ℕ) (near : s .linked u o ≡ true) (quality : ℕ) (clear : 40 ≤ quality) (byte : quality ≤ 255) (now written : ℕ) (t : Reaches c o now written) where
+  row-offer : (x : Row) → Good s c o now r x → passedOver u o (entryFor written x) ≡ false → Offer s u r o (offered quality (entryFor written x))
   row-offer x g q =
-      let live = good-usable s c o r written x g t in
+      let live = good-usable s c o now r written x g t in
       let hops = entry-hops written x live in
       let best = entry-quality written x live in
       let unlike = neither (eqb (entryFor written x .destination) u) (eqb (entryFor written x .destination) o) (neither _ (eqb (entryFor written x .«next_hop») u) q .0) in
@@ -39,7 +39,7 @@ module _ (s : Site) (c : Course) (u r o : ℕ) (near : s .linked u o ≡ true) (
         byte = omega (arith, best, g .byte);
       }
 
-  offers-fit : (rs : List Row) → Each (Good s c o r) rs → Each (Offer s u r o) (offers u o quality (map (entryFor written) rs))
+  offers-fit : (rs : List Row) → Each (Good s c o now r) rs → Each (Offer s u r o) (offers u o quality (map (entryFor written) rs))
   offers-fit [] e = tt
   offers-fit (x ∷ rs) e = go (passedOver u o (entryFor written x)) refl (offers-fit rs (e .1))
     where
@@ -48,7 +48,7 @@ module _ (s : Site) (c : Course) (u r o : ℕ) (near : s .linked u o ≡ true) (
       go true q later = later
       go false q later = (row-offer x (e .0) q, later)
 
-  pub candidates-fit : (o ≡ u → ⊥) → (rs : List Row) → Each (Good s c o r) rs → Each (Offer s u r o) (candidates u o quality (map (entryFor written) rs))
+  pub candidates-fit : (o ≡ u → ⊥) → (rs : List Row) → Each (Good s c o now r) rs → Each (Offer s u r o) (candidates u o quality (map (entryFor written) rs))
   candidates-fit n rs e =
       (record { near = near; other = n; less = 0; down = refl; low = omega arith; fewest = fewest-self s o; clear = clear; byte = byte }, offers-fit rs e)
 

@@ -12,6 +12,7 @@ use Rattle.octets.specs.Lists.{Each}
 use Rattle.octets.proofs.EachLaws.{each-also}
 use Rattle.octets.proofs.TestLaws.{of-cond, or-elim, by-bool}
 use Rattle.moments.specs.Moments.{ageAt}
+use Rattle.moments.proofs.MomentLaws.{age-between}
 use Rattle.shapes.specs.Rules.{address}
 use Rattle.routes.specs.declared.row.Row.{Row}
 use Rattle.routes.specs.Rows.{usable, stands, ascending, rowFor}
@@ -22,16 +23,17 @@ use Rattle.merges.specs.Learning.{put, rowBy, givesWay, takenBack, Learned, met
 use Rattle.merges.proofs.PutLaws.{put-ascending}
 use Rattle.merges.proofs.HasLaws.{put-has, row-put, each-put, learn-all-has}
 use Rattle.converges.specs.Sites.{Site, Sited, Fewest, among, within}
-use Rattle.converges.specs.Courses.{Course, InTime}
+use Rattle.converges.specs.Courses.{Course, span, sinceBegan, InTime}
 use Rattle.converges.proofs.SiteLaws.{among-every, within-more, reached, fewest-step}
 use Rattle.converges.proofs.CountLaws.{For, without, without-shorter, without-other, no-more, one-more}
 
 -- ---- right rows
--- a row of the unit u: for another unit, usable, by the fewest hops and at most so many, over a neighbour that is one hop nearer
-pub record Good (s : Site) (c : Course) (u limit : ℕ) (r : Row) : Type 0 where
+-- a row of the unit u, so many ms after it began: for another unit, not withdrawn, by the fewest hops and at most so many, over a neighbour that is one hop
+-- nearer
+pub record Good (s : Site) (c : Course) (u now limit : ℕ) (r : Row) : Type 0 where
   pub other : r .destination ≡ u → ⊥
   pub awake : r .withdrawn ≡ false
-  pub at : InTime c u (r .time)
+  pub at : sinceBegan c u (r .time) ≤ now
   pub clear : 40 ≤ r .quality
   pub byte : r .quality ≤ 255
   pub fewest : Fewest s (r .hops) u (r .destination)
@@ -41,10 +43,10 @@ pub record Good (s : Site) (c : Course) (u limit : ℕ) (r : Row) : Type 0 where
   pub down : r .hops ≡ suc less
   pub on : within s less (r .«next_hop») (r .destination) ≡ true
 
--- rows of the unit u that are right, and name at least the units within `from` links and at most those within `to`
-pub record Right (s : Site) (c : Course) (u from to : ℕ) (rows : List Row) : Type 0 where
+-- rows of the unit u that are right by then, and name at least the units within `from` links and at most those within `to`
+pub record Right (s : Site) (c : Course) (u now from to : ℕ) (rows : List Row) : Type 0 where
   pub up : ascending rows ≡ true
-  pub good : Each (Good s c u to) rows
+  pub good : Each (Good s c u now to) rows
   pub known : (d : ℕ) → (d ≡ u → ⊥) → within s from u d ≡ true → Has d rows
 
 -- a candidate by a neighbour: one hop more than the fewest from there
@@ -58,25 +60,34 @@ pub record Offer (s : Site) (u r via : ℕ) (x : Candidate) : Type 0 where
   pub clear : 40 ≤ x .quality
   pub byte : x .quality ≤ 255
 
+-- a time that is in time, and no sooner than so many ms after the unit began
+pub record Reaches (c : Course) (u now time : ℕ) : Type 0 where
+  pub reached : now ≤ sinceBegan c u time
+  pub until : sinceBegan c u time ≤ span
+
+-- every time in time reaches itself
+pub reaches : (c : Course) (u time : ℕ) → InTime c u time → Reaches c u (sinceBegan c u time) time
+reaches c u time t = record { reached = omega arith; until = t .until }
+
 module _ (s : Site) (c : Course) (u : ℕ) where
-  aged : (limit time : ℕ) (r : Row) → Good s c u limit r → InTime c u time → ageAt time (r .time) ≤ 300000
-  unfolding ageAt
-  aged limit time r g t = omega (arith, g .at .since, t .until)
+  pub aged : (now limit time : ℕ) (r : Row) → Good s c u now limit r → Reaches c u now time → ageAt time (r .time) ≤ 300000
+  aged now limit time r g t = omega (arith, t .until, age-between (c .began u) (r .time) time (omega (arith, g .at, t .reached)))
 
-  pub good-usable : (limit time : ℕ) (r : Row) → Good s c u limit r → InTime c u time → usable time r ≡ true
-  good-usable limit time r g t = rw (g .awake, le-leb (ageAt time (r .time)) 300000 (aged limit time r g t))
+  pub good-usable : (now limit time : ℕ) (r : Row) → Good s c u now limit r → Reaches c u now time → usable time r ≡ true
+  good-usable now limit time r g t = rw (g .awake, le-leb (ageAt time (r .time)) 300000 (aged now limit time r g t))
 
-  pub good-stands : (limit time : ℕ) (r : Row) → Good s c u limit r → InTime c u time → stands time r ≡ true
-  good-stands limit time r g t =
-      let a = aged limit time r g t in
+  pub good-stands : (now limit time : ℕ) (r : Row) → Good s c u now limit r → Reaches c u now time → stands time r ≡ true
+  good-stands now limit time r g t =
+      let a = aged now limit time r g t in
       rw (g .awake) (le-leb (ageAt time (r .time)) 360000 (omega (arith, a)))
 
-  pub good-more : (limit more : ℕ) → limit ≤ more → (r : Row) → Good s c u limit r → Good s c u more r
-  good-more limit more h r g =
+  -- at any time from the row's own on, and with any higher limit
+  pub good-more : (now later limit more : ℕ) → limit ≤ more → (r : Row) → sinceBegan c u (r .time) ≤ later → Good s c u now limit r → Good s c u later more r
+  good-more now later limit more h r k g =
       record {
         other = g .other;
         awake = g .awake;
-        at = g .at;
+        at = k;
         clear = g .clear;
         byte = g .byte;
         fewest = g .fewest;
@@ -87,29 +98,36 @@ module _ (s : Site) (c : Course) (u : ℕ) where
         on = g .on;
       }
 
+  pub right-more : (now later from to more : ℕ) → now ≤ later → to ≤ more → (rows : List Row) → Right s c u now from to rows → Right s c u later from more rows
+  right-more now later from to more k h rows g =
+      record { up = g .up; good = each-also (Good s c u now to) (Good s c u later more) (λ r y. good-more now later to more h r (omega (arith, y .at)) y) rows (g .good); known = g .known }
+
 module _ (s : Site) (c : Course) (z : Sited s) (u : ℕ) (m : among u (s .units) ≡ true) (r : ℕ) where
   pub some-unit : (d : ℕ) → among d (s .units) ≡ true → 0 < d
   some-unit d k = omega (arith, leb-true 1 d (and-eq-true-iff (leb 1 d) (leb d 0xFFFE) .0 (among-every address (s .units) (z .addresses) d k) .0))
 
-  pub named : (limit : ℕ) (x : Row) → Good s c u limit x → among (x .destination) (s .units) ≡ true
-  named limit x g = reached s (x .hops) u (x .destination) m (g .fewest .enough)
+  pub named : (now limit : ℕ) (x : Row) → Good s c u now limit x → among (x .destination) (s .units) ≡ true
+  named now limit x g = reached s (x .hops) u (x .destination) m (g .fewest .enough)
 
   -- right rows are at most 48
-  pub few-rows : (limit : ℕ) (rows : List Row) → ascending rows ≡ true → Each (Good s c u limit) rows → length rows ≤ 48
-  few-rows limit rows up good =
-      let each = each-also (Good s c u limit) (For (without u (s .units))) (λ x y. without-other u (x .destination) (y .other) (s .units) (named limit x y)) rows good in
+  pub few-rows : (now limit : ℕ) (rows : List Row) → ascending rows ≡ true → Each (Good s c u now limit) rows → length rows ≤ 48
+  few-rows now limit rows up good =
+      let each = each-also (Good s c u now limit) (For (without u (s .units))) (λ x y. without-other u (x .destination) (y .other) (s .units) (named now limit x y)) rows good in
       omega (arith, no-more rows (without u (s .units)) up each, without-shorter u (s .units) m, z .few)
 
   module _ (via time : ℕ) (t : InTime c u time) (x : Candidate) (o : Offer s u r via x) where
     abbrev d : ℕ
     d = x .destination
 
+    abbrev now : ℕ
+    now = sinceBegan c u time
+
     -- the candidate's destination is a unit of the site
     unit : among d (s .units) ≡ true
     unit = reached s (o .less) via d (z .inside u via (o .near)) (o .fewest .enough)
 
     -- ---- a candidate that is no better than the row there is
-    module _ (y : Row) (e : y .destination ≡ d) (g : Good s c u (suc r) y) (w : within s (o .less) u d ≡ true) where
+    module _ (y : Row) (e : y .destination ≡ d) (g : Good s c u now (suc r) y) (w : within s (o .less) u d ≡ true) where
       shorter : y .hops ≤ o .less
       shorter = g .fewest .least (o .less) (rw (← e) at w)
 
@@ -129,7 +147,7 @@ module _ (s : Site) (c : Course) (z : Sited s) (u : ℕ) (m : among u (s .units)
           or-elim ⊥ (not (usable time y) || eqb (y .«next_hop») via) (ltb (x .hops) (y .hops)) a
           (λ b.
           or-elim ⊥ (not (usable time y)) (eqb (y .«next_hop») via) b
-          (λ f. false≢true (sym (ap not (good-usable s c u (suc r) time y g t)) ∙ f))
+          (λ f. false≢true (sym (ap not (good-usable s c u now (suc r) time y g (reaches c u time t))) ∙ f))
           (λ f. elsewhere (eqb-true (y .«next_hop») via f)))
           (λ b. omega (arith, ltb-true (x .hops) (y .hops) b, o .down, shorter)))
           (λ a.
@@ -145,12 +163,12 @@ module _ (s : Site) (c : Course) (z : Sited s) (u : ℕ) (m : among u (s .units)
           let short = best .least _ (z .across u d m unit) in
           rw (le-ltb 16 (x .hops) (omega (arith, short, o .down)), le-ltb (x .quality) 40 (o .clear))
 
-      new : Good s c u (suc r) (rowBy via time x)
+      new : Good s c u now (suc r) (rowBy via time x)
       new =
           record {
             other = o .other;
             awake = refl;
-            at = t;
+            at = omega arith;
             clear = o .clear;
             byte = o .byte;
             fewest = rw (o .down) best;
@@ -162,21 +180,21 @@ module _ (s : Site) (c : Course) (z : Sited s) (u : ℕ) (m : among u (s .units)
           }
 
     -- ---- either
-    module _ (l : Learned) (h : Right s c u r (suc r) (l .rows)) where
+    module _ (l : Learned) (h : Right s c u now r (suc r) (l .rows)) where
       abbrev y : Row
       y = rowFor d (l .rows)
 
-      there : Has d (l .rows) → Good s c u (suc r) y
-      there e = each-row (Good s c u (suc r)) d (some-unit d unit) (l .rows) (h .good) e
+      there : Has d (l .rows) → Good s c u now (suc r) y
+      there e = each-row (Good s c u now (suc r)) d (some-unit d unit) (l .rows) (h .good) e
 
       abbrev After : Learned → Type 0
-      After k = Right s c u r (suc r) (k .rows) × Has d (k .rows) × (k .skipped ≡ l .skipped)
+      After k = Right s c u now r (suc r) (k .rows) × Has d (k .rows) × (k .skipped ≡ l .skipped)
 
-      put-right : Good s c u (suc r) (rowBy via time x) → Right s c u r (suc r) (put (rowBy via time x) (l .rows))
+      put-right : Good s c u now (suc r) (rowBy via time x) → Right s c u now r (suc r) (put (rowBy via time x) (l .rows))
       put-right g =
           record {
             up = put-ascending (rowBy via time x) (l .rows) (h .up);
-            good = each-put (Good s c u (suc r)) (rowBy via time x) g (l .rows) (h .good);
+            good = each-put (Good s c u now (suc r)) (rowBy via time x) g (l .rows) (h .good);
             known = λ k n w. put-has k (rowBy via time x) (l .rows) (h .known k n w);
           }
 
@@ -185,7 +203,7 @@ module _ (s : Site) (c : Course) (z : Sited s) (u : ℕ) (m : among u (s .units)
 
       room : (Has d (l .rows) → ⊥) → length (l .rows) < 48
       room n =
-          let each = each-also (Good s c u (suc r)) (λ q. For (s .units) q × (q .destination ≡ u → ⊥)) (λ q g. (named (suc r) q g, g .other)) (l .rows) (h .good) in
+          let each = each-also (Good s c u now (suc r)) (λ q. For (s .units) q × (q .destination ≡ u → ⊥)) (λ q g. (named now (suc r) q g, g .other)) (l .rows) (h .good) in
           omega (arith, one-more (s .units) u d m unit (o .other) (l .rows) (h .up) each n, z .few)
 
       learn-right : After (learn via time x l)
@@ -217,8 +235,8 @@ module _ (s : Site) (c : Course) (z : Sited s) (u : ℕ) (m : among u (s .units)
           (λ k. absurd (let full = ltb-false (length (l .rows)) 48 k in let free = room (eqb-false (y .destination) d q) in omega arith)))))
 
   -- ---- one candidate after the other
-  pub learn-all-right : (via time : ℕ) → InTime c u time → (xs : List Candidate) → Each (Offer s u r via) xs → (l : Learned) → Right s c u r (suc r) (l .rows)
-      → Right s c u r (suc r) (learnAll via time xs l .rows) × Each (λ x. Has (x .destination) (learnAll via time xs l .rows)) xs × (learnAll via time xs l .skipped ≡ l .skipped)
+  pub learn-all-right : (via time : ℕ) → InTime c u time → (xs : List Candidate) → Each (Offer s u r via) xs → (l : Learned) → Right s c u (sinceBegan c u time) r (suc r) (l .rows)
+      → Right s c u (sinceBegan c u time) r (suc r) (learnAll via time xs l .rows) × Each (λ x. Has (x .destination) (learnAll via time xs l .rows)) xs × (learnAll via time xs l .skipped ≡ l .skipped)
   learn-all-right via time t [] os l h = (h, tt, refl)
   learn-all-right via time t (x ∷ xs) os l h =
       let (now, has, kept) = learn-right via time t x (os .0) l h in

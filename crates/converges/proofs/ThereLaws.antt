@@ -4,25 +4,25 @@ use mathlib.Core.Path.{_≡_, refl, sym, ap, subst}
 use mathlib.Core.Bool.{Bool, true, false, cond, false≢true}
 use mathlib.Core.List.{List, [], _∷_, _++_, map}
 use mathlib.Core.Logic.{inl, inr}
-use Prim.Native.Nat.{ℕ, zero, suc, _+_, _*_, _≤_}
+use Prim.Native.Nat.{ℕ, zero, suc, _*_, _≤_}
 use native.Mathlib.Decide.{ℕ-discrete}
 use native.Mathlib.Omega.{arith}
-use borrow.Author.Tests.{eqb-true, ltb-true, le-leb}
+use borrow.Author.Tests.{eqb-true, ltb-true}
 use lib.Dec.{eqb, ltb}
 use lib.ListN.{length}
 use Rattle.octets.specs.Lists.{Some, Each, some}
 use Rattle.octets.proofs.EachLaws.{each-append, each-also, some-behind, some-first}
 use Rattle.octets.proofs.TestLaws.{or-elim}
-use Rattle.moments.specs.Moments.{inOrder}
-use Rattle.moments.proofs.MomentLaws.{in-order-self}
+use Rattle.moments.specs.Moments.{ageAt, inOrder}
+use Rattle.moments.proofs.MomentLaws.{in-order-self, young-in-order, age-between}
 use Rattle.routes.specs.declared.row.Row.{Row}
 use Rattle.routes.specs.declared.table.Table.{Table}
 use Rattle.routes.specs.Tables.{rowsOf}
 use Rattle.pages.specs.Pages.{pageThere}
 use Rattle.history.specs.TableCalls.{Past, after, fresh}
 use Rattle.converges.specs.Sites.{Site, Sited, among}
-use Rattle.converges.specs.Courses.{Heard, Course, Fair}
-use Rattle.converges.specs.RowRounds.{rowsAfter, toHear, Hears}
+use Rattle.converges.specs.Courses.{Heard, Course, InTime, Fair}
+use Rattle.converges.specs.RowRounds.{rowsAfter, untilAfter, toHear, Hears}
 use Rattle.converges.specs.Rounds.{taking, pastAfter, tableAfter, ordered, Sent, Round, Rounds, Clocks}
 use Rattle.converges.specs.Laws.{RoundsAreThere}
 use Rattle.converges.proofs.StepLaws.{Right, few-rows}
@@ -54,6 +54,14 @@ pasts-are s zero = refl
 pasts-are s (suc r) =
     ap (λ (b : ℕ → Past). λ (u : ℕ). after (b u) (map (taking (λ o. b o .table)) (hearing s (λ o. pasts s r o .table) u (s .units)))) (pasts-are s r)
 
+-- 300,000 is in time for each unit
+all-the-time : ageAt 300000 0 ≡ 300000
+unfolding ageAt
+all-the-time = refl
+
+in-time : (s : Site) (u : ℕ) → InTime (course s) u 300000
+in-time s u = record { bits = omega arith; until = omega (arith, all-the-time) }
+
 module _ (s : Site) (u : ℕ) (before : ℕ → Table) (timely : (o : ℕ) → s .linked u o ≡ true → inOrder (before o .time) 300000 ≡ true) where
   -- what each call is
   abbrev Fine : Heard → Type 0
@@ -65,8 +73,8 @@ module _ (s : Site) (u : ℕ) (before : ℕ → Table) (timely : (o : ℕ) → s
       near = l;
       clear = omega arith;
       byte = omega arith;
-      wrote = record { since = omega arith; until = omega arith };
-      merged = record { since = omega arith; until = omega arith };
+      wrote = in-time s o;
+      merged = in-time s u;
     },
     record { there = t; timely = timely o l },
     refl,
@@ -125,15 +133,15 @@ module _ (s : Site) (u : ℕ) (before : ℕ → Table) (timely : (o : ℕ) → s
       go false i = i
 
 -- right rows are at most 48, and so there are at most two pages
-two-pages : (s : Site) (c : Course) → Sited s → (u : ℕ) → among u (s .units) ≡ true → (r : ℕ) (rows : List Row) → Right s c u r r rows → (p : ℕ) → pageThere rows p ≡ true → p ≤ 1
-two-pages s c z u m r rows g p t =
+two-pages : (s : Site) (c : Course) → Sited s → (u : ℕ) → among u (s .units) ≡ true → (now r : ℕ) (rows : List Row) → Right s c u now r r rows → (p : ℕ) → pageThere rows p ≡ true → p ≤ 1
+two-pages s c z u m now r rows g p t =
     or-elim (p ≤ 1) (eqb p 0) (ltb (24 * p) (length rows)) t
     (λ e. omega (arith, eqb-true p 0 e))
-    (λ e. omega (arith, ltb-true (24 * p) (length rows) e, few-rows s c z u m r r rows (g .up) (g .good)))
+    (λ e. omega (arith, ltb-true (24 * p) (length rows) e, few-rows s c z u m r now r rows (g .up) (g .good)))
 
-late : (n : ℕ) → n ≤ 0 + 300000 → inOrder n 300000 ≡ true
-unfolding inOrder
-late n h = le-leb n 300000 (omega arith)
+-- it is in order with every time in time
+late : (s : Site) (u n : ℕ) → InTime (course s) u n → inOrder n 300000 ≡ true
+late s u n t = young-in-order 300000 n 300000 (omega arith) (omega (arith, age-between 0 n 300000 (omega (arith, t .until, all-the-time)), all-the-time))
 
 module _ (s : Site) (z : Sited s) where
   clocks : Clocks s (course s)
@@ -143,19 +151,19 @@ module _ (s : Site) (z : Sited s) where
   one-round r a u m =
       let c = course s in
       let before = tableAfter c r in
-      let (rounds, same) = tables-hold s c z clocks r a in
+      let (rounds, comes) = tables-hold s c z clocks r a in
       let right = rounds-right s c z r rounds in
-      let timely : (o : ℕ) → s .linked u o ≡ true → inOrder (before o .time) 300000 ≡ true = λ o l. late (before o .time) (same o (z .inside u o l) .at .until) in
+      let timely : (o : ℕ) → s .linked u o ≡ true → inOrder (before o .time) 300000 ≡ true = λ o l. late s o (before o .time) (comes o (z .inside u o l) .held .at) in
       let all = hearing-fine s u before timely (s .units) in
       let here : Round s c u before (hearing s before u (s .units)) =
       record {
         fair = each-also (Fine s u before timely) (Fair s c u) (λ h f. f .0) (hearing s before u (s .units)) all;
         sent = each-also (Fine s u before timely) (Sent before) (λ h f. f .1) (hearing s before u (s .units)) all;
-        order = in-order s u before timely (before u .time) (late (before u .time) (same u m .at .until)) (hearing s before u (s .units)) all;
+        order = in-order s u before timely (before u .time) (late s u (before u .time) (comes u m .held .at)) (hearing s before u (s .units)) all;
         all =
             λ o p l t.
             let unit = z .inside u o l in
-            let few = two-pages s c z o unit r (rowsAfter c r o) (right o unit) p (subst (λ (rs : List Row). toHear rs p ≡ true) (same o unit .holds) t) in
+            let few = two-pages s c z o unit (untilAfter c r o) r (rowsAfter c r o) (right o unit) p (subst (λ (rs : List Row). toHear rs p ≡ true) (comes o unit .held .holds) t) in
             hearing-all s u before timely o p l few t (s .units) unit;
       } in
       subst (λ (b : ℕ → Past). Round s c u before (hearing s (λ o. b o .table) u (s .units))) (sym (pasts-are s r)) here

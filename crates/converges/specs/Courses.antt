@@ -1,10 +1,11 @@
 -- A course of updates at a site: which pages each unit hears in each round; what is asked of each of them; and what a unit's rows are to name.
 -- Assumes nothing.
-use Prim.Native.Nat.{ℕ, _+_, _-_, _≤_}
+use Prim.Native.Nat.{ℕ, _-_, _^_, _≤_, _<_}
 use mathlib.Core.Path.{_≡_}
 use mathlib.Core.Bool.{Bool, true, not, _&&_}
 use mathlib.Core.List.{List}
 use lib.Dec.{eqb}
+use Rattle.moments.specs.Moments.{ageAt, inOrder}
 use Rattle.shapes.specs.Rules.{address}
 use Rattle.routes.specs.declared.row.Row.{Row}
 use Rattle.routes.specs.Rows.{usable, rowFor}
@@ -31,10 +32,14 @@ leastQuality = 40
 abbrev pub span : ℕ
 span = 300000
 
--- a time is at most 300,000 ms after a unit began
+-- the ms since a unit began, at a time of its clock
+abbrev pub sinceBegan : Course → ℕ → ℕ → ℕ
+sinceBegan c unit time = ageAt time (c .began unit)
+
+-- a time of 32 bits at most 300,000 ms after a unit began
 pub record InTime (c : Course) (unit time : ℕ) : Type 0 where
-  pub since : c .began unit ≤ time
-  pub until : time ≤ c .began unit + span
+  pub bits : time < 2 ^ 32
+  pub until : sinceBegan c unit time ≤ span
 
 -- a page that is heard is that of a neighbour, over a link whose quality, a byte, is at least 40; and it is written and merged in time
 pub record Fair (s : Site) (c : Course) (u : ℕ) (h : Heard) : Type 0 where
@@ -55,8 +60,10 @@ pub record Leads (s : Site) (u d hop hops : ℕ) : Type 0 where
 abbrev pub toKnow : Site → ℕ → ℕ → ℕ → Bool
 toKnow s r u d = not (eqb d u) && within s r u d
 
--- rows name exactly the units that are to be known after r rounds, lead to each, and are usable as long as the time runs
+-- rows name exactly the units that are to be known after r rounds, lead to each, and from their own time on are usable as long as the time runs
 pub record Names (s : Site) (c : Course) (r u : ℕ) (rows : List Row) : Type 0 where
   pub exactly : (d : ℕ) → address d ≡ true → eqb (rowFor d rows .destination) d ≡ toKnow s r u d
   pub leads : (d : ℕ) → address d ≡ true → rowFor d rows .destination ≡ d → Leads s u d (rowFor d rows .«next_hop») (rowFor d rows .hops)
-  pub lasting : (d time : ℕ) → address d ≡ true → rowFor d rows .destination ≡ d → InTime c u time → usable time (rowFor d rows) ≡ true
+  pub lasting :
+      (d time : ℕ) → address d ≡ true → rowFor d rows .destination ≡ d → InTime c u time → inOrder (rowFor d rows .time) time ≡ true
+      → usable time (rowFor d rows) ≡ true

@@ -39,7 +39,7 @@ abbrev pub Buffers : (ℕ → List ℕ) → Type 0
 Buffers anything = (u : ℕ) → length (anything u) ≡ 539
 
 -- ---- what comes of it
--- each buffer holds the bytes of the table, and the log is the log, that the same calls give on values
+-- each buffer holds the bytes of the table, and clock and log are those, that the same calls give on values
 abbrev pub HoldsTables : Type 0
 HoldsTables =
     (s : Site) (c : Course) (r : ℕ) → Played s c r → (anything : ℕ → List ℕ) → Buffers anything

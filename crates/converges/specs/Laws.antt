@@ -6,6 +6,7 @@ use mathlib.Core.Path.{_≡_}
 use mathlib.Core.Bool.{true, false}
 use mathlib.Core.List.{List, [], _∷_}
 use lib.ListN.{getD}
+use Rattle.moments.specs.Elapsed.{nowAt}
 use Rattle.shapes.specs.Rules.{address}
 use Rattle.routes.specs.declared.table.Table.{Table}
 use Rattle.routes.specs.Tables.{rowsOf, lookupOf}
@@ -13,13 +14,20 @@ use Rattle.merges.specs.Merges.{mergeOf}
 use Rattle.pages.specs.Pages.{pageOf}
 use Rattle.history.specs.TableCalls.{next}
 use Rattle.converges.specs.Sites.{Site, Sited, Fewest, Across, among}
-use Rattle.converges.specs.Courses.{Heard, Course, Leads, toKnow, Names}
-use Rattle.converges.specs.Rounds.{pageBuffer, bytesOf, taking, tableAfter, Played, Asked}
+use Rattle.converges.specs.Courses.{Heard, Course, span, sinceBegan, Leads, toKnow, Names}
+use Rattle.converges.specs.Rounds.{pageBuffer, bytesOf, taking, pastAfter, tableAfter, Played, Asked}
 
 -- ---- the theorem
 -- after r rounds each table names exactly the other units within r links, each with the fewest hops
 abbrev pub Converges : Type 0
 Converges = (s : Site) (c : Course) (r : ℕ) → Played s c r → (u : ℕ) → among u (s .units) ≡ true → Names s c r u (rowsOf (tableAfter c r u))
+
+-- and all is within 300,000 ms of elapsed time: what has elapsed by the clock of a unit's calls is the age of its beginning
+abbrev pub ElapsesInTime : Type 0
+ElapsesInTime =
+    (s : Site) (c : Course) (r : ℕ) → Played s c r → (u : ℕ) → among u (s .units) ≡ true
+    → let p = pastAfter c r u in
+    (p .clock .elapsed ≤ span) × ((time : ℕ) → Asked c r u time → nowAt (p .clock) time ≡ sinceBegan c u time)
 
 -- what a lookup is to say: for exactly the units that are to be known a next hop and hops that lead there, and 11 for every other address
 pub record Told (s : Site) (r u d status hop hops : ℕ) : Type 0 where

@@ -1,6 +1,6 @@
--- A site of three units in a line, 1 - 2 - 3, and two rounds of updates there.
+-- A site of three units in a line, 1 - 2 - 3, and two rounds of updates there, between which their clocks pass the top.
 -- Assumes nothing.
-use Prim.Native.Nat.{ℕ, _+_, _*_}
+use Prim.Native.Nat.{ℕ, _+_, _-_, _*_, _%_, _^_}
 use mathlib.Core.Path.{_≡_}
 use mathlib.Core.Bool.{_&&_, _||_, cond}
 use mathlib.Core.List.{List, [], _∷_}
@@ -22,12 +22,12 @@ line =
 abbrev pub firstPage : ℕ → ℕ → Heard
 firstPage unit time = record { from = unit; page = 0; written = time; quality = 100; time = time }
 
--- all begin at 0; round k, from 0, is at 1,000 k + 1,000; unit 2 hears unit 3 before unit 1
+-- all begin 1,500 ms before the top; round k, from 0, is 1,000 k + 1,000 ms later; unit 2 hears unit 3 before unit 1
 abbrev pub lineHears : ℕ → ℕ → List Heard
 lineHears time u = cond (eqb u 2) (firstPage 3 time ∷ firstPage 1 time ∷ []) (firstPage 2 time ∷ [])
 
 abbrev pub lineCourse : Course
-lineCourse = record { began = λ u. 0; heard = λ k u. lineHears (1000 * k + 1000) u }
+lineCourse = record { began = λ u. 2 ^ 32 - 1500; heard = λ k u. lineHears ((2 ^ 32 - 1500 + (1000 * k + 1000)) % 2 ^ 32) u }
 
 -- it is a site as the request has it; the units at the ends do not know each other after one round, and after two they do: by unit 2, two hops away
 abbrev pub LineTells : Type 0

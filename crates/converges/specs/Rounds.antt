@@ -1,6 +1,6 @@
 -- Rounds of updates through the calls: each page is written as bytes by its unit's table, and merged from them by each neighbour's.
 -- Assumes nothing.
-use Prim.Native.Nat.{ℕ, zero, suc, _+_, _≤_, _<_}
+use Prim.Native.Nat.{ℕ, zero, suc, _^_, _≤_, _<_}
 use mathlib.Core.Path.{_≡_}
 use mathlib.Core.Bool.{Bool, true, _&&_}
 use mathlib.Core.List.{List, [], _∷_, map}
@@ -12,7 +12,7 @@ use Rattle.routes.specs.Tables.{rowsOf}
 use Rattle.pages.specs.Pages.{pageOf}
 use Rattle.history.specs.TableCalls.{Call, merge, Past, after, fresh}
 use Rattle.converges.specs.Sites.{Site, Sited, among}
-use Rattle.converges.specs.Courses.{Heard, Course, InTime, Fair, span}
+use Rattle.converges.specs.Courses.{Heard, Course, InTime, Fair}
 use Rattle.converges.specs.RowRounds.{toHear, Hears}
 
 -- ---- what goes on
@@ -60,9 +60,9 @@ pub record Round (s : Site) (c : Course) (u : ℕ) (before : ℕ → Table) (hs 
   pub order : ordered (before u .time) hs ≡ true
   pub all : (o p : ℕ) → s .linked u o ≡ true → toHear (rowsOf (before o)) p ≡ true → Hears hs o p
 
--- clocks of 32 bits do not run out
+-- each unit begins at a time of 32 bits, which may be as near to the top as it likes
 abbrev pub Clocks : Site → Course → Type 0
-Clocks s c = (u : ℕ) → among u (s .units) ≡ true → c .began u + span < 0x100000000
+Clocks s c = (u : ℕ) → among u (s .units) ≡ true → c .began u < 2 ^ 32
 
 -- r rounds of all units of a site
 abbrev pub Rounds : Site → Course → ℕ → Type 0

@@ -11,7 +11,7 @@ use Rattle.merges.specs.Candidates.{candidates}
 use Rattle.merges.specs.Learning.{Learned, learned, learnAll}
 use Rattle.pages.specs.Pages.{entryFor, onPage, pageThere}
 use Rattle.converges.specs.Sites.{Site, Sited, among}
-use Rattle.converges.specs.Courses.{Heard, Course, Fair, Names}
+use Rattle.converges.specs.Courses.{Heard, Course, sinceBegan, Fair, Names}
 
 -- ---- what goes on
 -- what a unit's rows learn from a page of another's: by the rows that stand, of those that the other had before the round, ..
@@ -33,6 +33,15 @@ unfoldable pub rowsAfter : Course → ℕ → ℕ → List Row
 rowsAfter c zero u = []
 rowsAfter c (suc r) u = learnsAll u (rowsAfter c r) (c .heard r u) (rowsAfter c r u)
 
+-- the ms since it began at which a unit merged the last page of so many rounds
+abbrev pub mergedUntil : Course → ℕ → ℕ → List Heard → ℕ
+mergedUntil c u now [] = now
+mergedUntil c u now (h ∷ hs) = mergedUntil c u (sinceBegan c u (h .time)) hs
+
+unfoldable pub untilAfter : Course → ℕ → ℕ → ℕ
+untilAfter c zero u = 0
+untilAfter c (suc r) u = mergedUntil c u (untilAfter c r u) (c .heard r u)
+
 -- ---- what is asked of it
 -- the pages of a neighbour with these rows that are to be heard in a round: all that there are
 abbrev pub toHear : List Row → ℕ → Bool
@@ -42,14 +51,25 @@ toHear rows p = pageThere rows p
 abbrev pub Hears : List Heard → ℕ → ℕ → Type 0
 Hears hs o p = Some (λ h. (h .from ≡ o) × (h .page ≡ p)) hs
 
+-- a page is written no sooner than its unit merged its last one before the round, and merged no sooner than now
+pub record InTurn (c : Course) (u : ℕ) (until : ℕ → ℕ) (now : ℕ) (h : Heard) : Type 0 where
+  pub wrote : until (h .from) ≤ sinceBegan c (h .from) (h .written)
+  pub merged : now ≤ sinceBegan c u (h .time)
+
+-- each page behind the one before
+abbrev pub AllInTurn : Course → ℕ → (ℕ → ℕ) → ℕ → List Heard → Type 0
+AllInTurn c u until now [] = Unit
+AllInTurn c u until now (h ∷ hs) = InTurn c u until now h × AllInTurn c u until (sinceBegan c u (h .time)) hs
+
 -- a unit hears each page of each neighbour's rows, in any order, and nothing else; to hear one again does no harm
-pub record Round (s : Site) (c : Course) (u : ℕ) (before : ℕ → List Row) (hs : List Heard) : Type 0 where
+pub record Round (s : Site) (c : Course) (u : ℕ) (before : ℕ → List Row) (until : ℕ → ℕ) (hs : List Heard) : Type 0 where
   pub fair : Each (Fair s c u) hs
+  pub turn : AllInTurn c u until (until u) hs
   pub all : (o p : ℕ) → s .linked u o ≡ true → toHear (before o) p ≡ true → Hears hs o p
 
 -- r rounds of all units of a site
 abbrev pub Rounds : Site → Course → ℕ → Type 0
-Rounds s c r = (k : ℕ) → suc k ≤ r → (u : ℕ) → among u (s .units) ≡ true → Round s c u (rowsAfter c k) (c .heard k u)
+Rounds s c r = (k : ℕ) → suc k ≤ r → (u : ℕ) → among u (s .units) ≡ true → Round s c u (rowsAfter c k) (untilAfter c k) (c .heard k u)
 
 -- ---- what comes of it
 -- after r rounds the rows of each unit name exactly the other units within r links, each with the fewest hops

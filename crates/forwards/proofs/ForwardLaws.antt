@@ -215,4 +215,4 @@ forward-within t network s delay time out e =
     let w = within t (o .right) in
     let rs = rowsOf t in
     rw e (within-pad (t .own) time true (beaconIn s .«original_source») (beaconIn s .sequence) (standing time rs) (w .unit) (read-ruled s (o .unread) .origin)
-    (few-stand t (o .right) time) (standing-ascending time rs (w .ascends)) (standing-rules (t .own) (t .time) time (o .ordered) time rs (w .rules)))
+    (few-stand t (o .right) time) (standing-ascending time rs (w .ascends)) (standing-rules (t .own) (t .time) time rs (w .rules)))

@@ -1,26 +1,36 @@
 -- Every book of a history is within rule, and 14 is only for a hop.
 -- Assumes nothing.
 use mathlib.Core.Path.{_≡_, refl, sym, ap, _∙_}
-use mathlib.Core.Bool.{Bool, true, false, not, _&&_, and-eq-true-iff}
+use mathlib.Core.Bool.{Bool, true, false, not, _&&_, _||_, cond, and-eq-true-iff, or-true}
 use mathlib.Core.List.{List, [], _∷_, _++_}
-use Prim.Native.Nat.{ℕ}
+use Prim.Native.Nat.{ℕ, zero, suc}
 use native.Mathlib.Omega.{arith}
-use borrow.Author.Tests.{not-false}
+use borrow.Author.Tests.{eq-eqb, not-false}
 use lib.Dec.{eqb}
-use lib.ListN.{length}
+use lib.ListN.{length, take, length-take}
 use Rattle.octets.specs.Answers.{reason, first}
 use Rattle.octets.proofs.AnswerLaws.{numbered, never-given, none-holds, unless-number}
+use Rattle.octets.specs.Lists.{every}
 use Rattle.octets.proofs.CallLaws.{after-accepted}
+use Rattle.octets.proofs.ListLaws.{length-tab, every-tab}
 use Rattle.requests.specs.Requests.{joinRequest, slotRequest}
-use Rattle.book.specs.Books.{Stated, withinRule, liveAt, noBook, memberReasons, heardOf, leaveOf}
+use Rattle.site.specs.declared.plan.Plan.{Plan}
+use Rattle.site.proofs.PlanLaws.{rule-bounds}
+use Rattle.members.specs.Members.{Row, vacantRow}
+use Rattle.members.proofs.RowLaws.{length-current}
+use Rattle.book.specs.Books.{Stated, withinRule, rowsIn, rowsAt, liveAt, noBook, freshBook, freshOf, memberReasons, heardOf, leaveOf}
+use Rattle.book.proofs.WithinLaws.{within}
 use Rattle.book.specs.Schedules.{hopRule, scheduleReasons, scheduleRefusal, scheduleOf}
 use Rattle.joins.specs.Joins.{joinIn, noRowFor, joinReasons, joinOf, askIn, askReasons, askOf}
 use Rattle.keeping.specs.Calls.{join, ask, heard, leave, schedule}
+use Rattle.keeping.specs.Calls as keeping
 use Rattle.keeping.proofs.CallLaws.{joinShort, askShort}
 use Rattle.keeping.proofs.RuleLaws.{keeps-rule, keeps-plan}
+use Rattle.keeping.proofs.FreshLaws.{every-empty}
 use Rattle.keeping.proofs.HoldingLaws.{by-refusal}
 use Rattle.image.specs.Forms.{fits}
-use Rattle.image.specs.Images.{sections, planIn, bookIn, acceptedImage, restoreOf, imageReasons, imageWritten}
+use Rattle.image.specs.Images.{sections, planIn, rowIn, bookIn, acceptedImage, restoreOf, imageReasons, imageWritten}
+use Rattle.image.proofs.AcceptedLaws.{rows-used, good}
 use Rattle.history.specs.BookEvents.{Start, fresh, restored, begun, Event, call, image, next, after, answer}
 use Rattle.history.specs.BookLaws.{StaysWithinRule, wrongHop, OnlyForHops, bookAfter}
 use Rattle.history.proofs.ReasonLaws.{some-number, in-rule, read-never, only-so}
@@ -36,6 +46,28 @@ pub begun-within : (start : Start) → begun start .refused ≡ 0 → withinRule
 begun-within (fresh p time) z = keeps-rule .0 p time z
 begun-within (restored s time) z = restored-within s time z
 
+-- every member of a book that begins is of its time
+new-in : (s : List ℕ) (time i : ℕ) → (vacantRow (rowIn s time i) || eqb (rowIn s time i .time) time) ≡ true
+unfolding rowIn
+new-in s time i = go (vacantRow (rowIn s time i))
+  where
+    go : (t : Bool) → (t || eqb (cond t 0 time) time) ≡ true
+    go true = refl
+    go false = eq-eqb time time refl
+
+fresh-new : (p : Plan) (time n : ℕ) → every (λ r. vacantRow r || eqb (r .time) time) (take n (freshBook p time .places)) ≡ true
+unfolding every
+fresh-new p time zero = refl
+fresh-new p time (suc n) = rw (eq-eqb time time refl, or-true) (every-empty (λ r. vacantRow r || eqb (r .time) time) refl 20 n .0)
+
+pub begun-new : (start : Start) → begun start .refused ≡ 0 → every (λ r. vacantRow r || eqb (r .time) (begun start .book .time)) (rowsIn (begun start .book)) ≡ true
+unfolding freshOf restoreOf bookIn
+begun-new (fresh p time) z = rw (after-accepted _ noBook (freshBook p time) z) (fresh-new p time (p .rows))
+begun-new (restored s time) z =
+    let good-image = good s time (not-false (acceptedImage s time) (none-holds (reason (not (acceptedImage s time)) 14 ∷ []) (numbered _ 14 (λ e. omega arith), tt) z .0)) in
+    let test : Row → Bool = λ r. vacantRow r || eqb (r .time) time in
+    rw (after-accepted _ noBook (bookIn s time) z, rows-used s time (good-image .plan)) (every-tab test (planIn s .rows) (rowIn s time) (λ i h. new-in s time i))
+
 pub rule-next : (b : Stated) (e : Event) → withinRule b ≡ true → withinRule (next b e) ≡ true
 rule-next b (call c) w = by-refusal (λ new. withinRule new ≡ true) b c w (keeps-rule .1 b c)
 rule-next b (image time out) w = w
@@ -47,7 +79,7 @@ rule-after b (e ∷ es) w = rule-after (next b e) es (rule-next b e w)
 pub stays-within-rule : StaysWithinRule
 stays-within-rule start es z = rule-after (begun start .book) es (begun-within start z)
 
--- ---- the plan, and a history that goes on
+-- ---- the plan, the places, and a history that goes on
 pub plan-next : (b : Stated) (e : Event) → next b e .plan ≡ b .plan
 plan-next b (call c) = keeps-plan b c .0
 plan-next b (image time out) = refl
@@ -55,6 +87,23 @@ plan-next b (image time out) = refl
 pub plan-after : (b : Stated) (es : List Event) → after b es .plan ≡ b .plan
 plan-after b [] = refl
 plan-after b (e ∷ es) = plan-after (next b e) es ∙ plan-next b e
+
+places-after : (b : Stated) (es : List Event) → length (after b es .places) ≡ length (b .places)
+places-after b [] = refl
+places-after b (call c ∷ es) = places-after (keeping.next b c) es ∙ keeps-plan b c .1
+places-after b (image time out ∷ es) = places-after b es
+
+begun-places : (start : Start) → begun start .refused ≡ 0 → length (begun start .book .places) ≡ 21
+unfolding freshOf restoreOf bookIn
+begun-places (fresh p time) z = ap (λ (b : Stated). length (b .places)) (after-accepted _ noBook (freshBook p time) z)
+begun-places (restored s time) z = ap (λ (b : Stated). length (b .places)) (after-accepted _ noBook (bookIn s time) z) ∙ length-tab 21 _
+
+-- there are always as many rows as the plan says
+pub rows-many : (start : Start) (es : List Event) (time : ℕ) → begun start .refused ≡ 0 → length (rowsAt (bookAfter start es) time) ≡ bookAfter start es .plan .rows
+rows-many start es time z =
+    let b = bookAfter start es in
+    let few = rule-bounds (b .plan) (within b (stays-within-rule start es z) .plan) .few-rows in
+    omega (arith, few, length-current time (rowsIn b), length-take (b .plan .rows) (b .places), places-after (begun start .book) es, begun-places start z)
 
 pub after-more : (b : Stated) (es more : List Event) → after b (es ++ more) ≡ after (after b es) more
 after-more b [] more = refl

@@ -1,21 +1,24 @@
--- Freshness: every row that is not withdrawn is no younger than the last accepted update from its next hop.
+-- Freshness: a row that is not withdrawn is at least as old as the last accepted update from its next hop.
 -- Assumes nothing.
 use mathlib.Core.Path.{_≡_, refl, sym, ap, _∙_}
 use mathlib.Core.Bool.{Bool, true, false, not, _||_, cond, and-eq-true-iff, false≢true}
 use mathlib.Core.List.{List, [], _∷_}
 use mathlib.Core.Logic.{⊎-elim}
-use Prim.Native.Nat.{ℕ, _≤_}
+use Prim.Native.Nat.{ℕ, _+_, _≤_}
 use native.Mathlib.Omega.{arith}
-use borrow.Author.Tests.{eq-eqb, leb-true, not-true}
+use borrow.Author.Tests.{eq-eqb, le-leb, leb-true, not-true}
 use lib.Dec.{eqb, leb}
 use Rattle.octets.specs.Lists.{every}
+use Rattle.moments.specs.Elapsed.{nowAt}
 use Rattle.moments.specs.Moments.{ageAt, inOrder}
-use Rattle.moments.proofs.MomentLaws.{in-order-self, in-order-on, younger}
+use Rattle.moments.proofs.MomentLaws.{ages-add}
 use Rattle.routes.specs.declared.row.Row.{Row}
-use Rattle.routes.specs.Rows.{forgotten}
+use Rattle.routes.specs.declared.table.Table.{Table}
+use Rattle.routes.specs.Rows.{rowRule, forgotten}
 use Rattle.routes.specs.Tables.{rowsOf}
 use Rattle.routes.proofs.KeepLaws.{by-forgotten}
-use Rattle.routes.proofs.TableLaws.{address-some}
+use Rattle.routes.proofs.RuleLaws.{ruled}
+use Rattle.routes.proofs.TableLaws.{within, address-some}
 use Rattle.merges.specs.declared.candidate.Candidate.{Candidate}
 use Rattle.merges.specs.Learning.{rowBy}
 use Rattle.merges.proofs.LearnLaws.{Kept, row-for-every}
@@ -23,41 +26,56 @@ use Rattle.history.specs.TableCalls.{Update, Past, timesFrom}
 use Rattle.history.specs.TableLaws.{Heard, since, borne, before, Accounts}
 use Rattle.history.proofs.LookupLaws.{answering, Found}
 
+-- ---- time passes
+since-on : (now age more : ℕ) (times : List ℕ) → since now age times ≡ true → since (now + more) (more + age) times ≡ true
+since-on now age more [] b = absurd (false≢true b)
+since-on now age more (last ∷ earlier) b = le-leb (now + more) (last + (more + age)) (omega (arith, leb-true now (last + age) b))
+
+-- a row of the past stays borne, as it ages as long as time passes
+pub borne-later : (now last time : ℕ) (log : List Update) (r : Row) → inOrder last time ≡ true → inOrder (r .time) last ≡ true
+    → borne now last log r ≡ true → borne (now + ageAt time last) time log r ≡ true
+borne-later now last time log r o past b = rw (ages-add (r .time) last time past o) (go (r .withdrawn) b)
+  where
+    go : (w : Bool) → (w || since now (ageAt last (r .time)) (timesFrom (r .«next_hop») log)) ≡ true
+        → (w || since (now + ageAt time last) (ageAt time last + ageAt last (r .time)) (timesFrom (r .«next_hop») log)) ≡ true
+    go true b = refl
+    go false b = since-on now (ageAt last (r .time)) (ageAt time last) (timesFrom (r .«next_hop») log) b
+
 -- ---- the log grows
-module _ (from at : ℕ) (log : List Update) where
+module _ (from at time : ℕ) (log : List Update) where
   abbrev grown : List Update
   grown = record { from = from; at = at } ∷ log
 
-  -- a row of the past stays borne
-  pub borne-on : (r : Row) → inOrder (r .time) at ≡ true → borne log r ≡ true → borne grown r ≡ true
-  borne-on r past b = go (r .withdrawn) (eqb from (r .«next_hop»)) b
+  -- a row stays borne
+  pub borne-on : (r : Row) → borne at time log r ≡ true → borne at time grown r ≡ true
+  borne-on r b = go (r .withdrawn) (eqb from (r .«next_hop»)) b
     where
-      go : (w same : Bool) → (w || since (r .time) (timesFrom (r .«next_hop») log)) ≡ true
-          → (w || since (r .time) (cond same (at ∷ timesFrom (r .«next_hop») log) (timesFrom (r .«next_hop») log))) ≡ true
+      go : (w same : Bool) → (w || since at (ageAt time (r .time)) (timesFrom (r .«next_hop») log)) ≡ true
+          → (w || since at (ageAt time (r .time)) (cond same (at ∷ timesFrom (r .«next_hop») log) (timesFrom (r .«next_hop») log))) ≡ true
       go true same b = refl
-      go false true b = past
+      go false true b = le-leb at (at + ageAt time (r .time)) (omega arith)
       go false false b = b
 
   -- a row that the update gives is borne by it
-  pub borne-new : (c : Candidate) → borne grown (rowBy from at c) ≡ true
-  borne-new c = rw (eq-eqb from from refl) (in-order-self at)
+  pub borne-new : (c : Candidate) → borne at time grown (rowBy from time c) ≡ true
+  borne-new c = rw (eq-eqb from from refl) (le-leb at (at + ageAt time time) (omega arith))
 
 -- a row that is withdrawn needs no bearer
-pub borne-kept : (log : List Update) (via time : ℕ) (c : Candidate) → borne log (rowBy via time c) ≡ true → Kept (borne log) via time c
-borne-kept log via time c b = record { new = λ e. b; back = λ r e. refl }
+pub borne-kept : (now : ℕ) (log : List Update) (via time : ℕ) (c : Candidate) → borne now time log (rowBy via time c) ≡ true → Kept (borne now time log) via time c
+borne-kept now log via time c b = record { new = λ e. b; back = λ r e. refl }
 
-pub borne-forgotten : (log : List Update) (unit time : ℕ) (r : Row) → borne log r ≡ true → borne log (forgotten unit time r) ≡ true
-borne-forgotten log unit time r b = by-forgotten (λ x. borne log x ≡ true) unit time r b refl
+pub borne-forgotten : (now : ℕ) (log : List Update) (unit time : ℕ) (r : Row) → borne now time log r ≡ true → borne now time log (forgotten unit time r) ≡ true
+borne-forgotten now log unit time r b = by-forgotten (λ x. borne now time log x ≡ true) unit time r b refl
 
 -- ---- what is logged is past
-pub logged-on : (time later : ℕ) → inOrder time later ≡ true → (log : List Update) → every (before time) log ≡ true → every (before later) log ≡ true
+pub logged-on : (time later : ℕ) → time ≤ later → (log : List Update) → every (before time) log ≡ true → every (before later) log ≡ true
 unfolding every
 logged-on time later o [] e = refl
 logged-on time later o (u ∷ us) e =
     let (here, rest) = and-eq-true-iff (before time u) (every (before time) us) .0 e in
-    rw (in-order-on (u .at) time later here o) (logged-on time later o us rest)
+    rw (le-leb (u .at) later (omega (arith, leb-true (u .at) time here))) (logged-on time later o us rest)
 
-logged-past : (time unit : ℕ) (log : List Update) (last : ℕ) (earlier : List ℕ) → every (before time) log ≡ true → timesFrom unit log ≡ last ∷ earlier → inOrder last time ≡ true
+logged-past : (time unit : ℕ) (log : List Update) (last : ℕ) (earlier : List ℕ) → every (before time) log ≡ true → timesFrom unit log ≡ last ∷ earlier → last ≤ time
 unfolding every
 logged-past time unit [] last earlier e q = absurd (nothing q)
   where
@@ -67,31 +85,43 @@ logged-past time unit (u ∷ us) last earlier e q =
     let (here, rest) = and-eq-true-iff (before time u) (every (before time) us) .0 e in
     go (eqb (u .from) unit) here (logged-past time unit us last earlier rest) q
   where
-    go : (b : Bool) → before time u ≡ true → (timesFrom unit us ≡ last ∷ earlier → inOrder last time ≡ true)
-        → cond b (u .at ∷ timesFrom unit us) (timesFrom unit us) ≡ last ∷ earlier → inOrder last time ≡ true
+    go : (b : Bool) → before time u ≡ true → (timesFrom unit us ≡ last ∷ earlier → last ≤ time)
+        → cond b (u .at ∷ timesFrom unit us) (timesFrom unit us) ≡ last ∷ earlier → last ≤ time
     go true here later q =
         let same : u .at ≡ last = ap (λ (l : List ℕ). lib.ListN.getD l 0 0) q in
-        rw (← same) here
+        omega (arith, same, leb-true (u .at) time here)
     go false here later q = later q
 
 -- ---- a lookup's next hop was heard
-pub heard : (p : Past) (d time : ℕ) → Accounts p → Found (p .table) d time → Heard (p .log) (answering (p .table) d .«next_hop») time
-heard p d time a f =
-    let r = answering (p .table) d in
-    let (live, young) = and-eq-true-iff (not (r .withdrawn)) (leb (ageAt time (r .time)) 300000) .0 (f .carries) in
-    let b : borne (p .log) r ≡ true =
-    ⊎-elim (λ h. h) (λ z. absurd (address-some d (f .unit) (sym (f .same) ∙ ap (λ (x : Row). x .destination) z))) (row-for-every (borne (p .log)) d (rowsOf (p .table)) (a .rows)) in
-    go (timesFrom (r .«next_hop») (p .log)) refl (leb-true _ _ young) (rw (not-true (r .withdrawn) live) at b)
-  where
-    go : (times : List ℕ) → timesFrom (answering (p .table) d .«next_hop») (p .log) ≡ times → ageAt time (answering (p .table) d .time) ≤ 300000
-        → since (answering (p .table) d .time) times ≡ true → Heard (p .log) (answering (p .table) d .«next_hop») time
-    go [] q young b = absurd (false≢true b)
-    go (last ∷ earlier) q young b =
-        let recent = younger time (answering (p .table) d .time) last b in
-        record {
-          last = last;
-          earlier = earlier;
-          were = q;
-          past = in-order-on last (p .table .time) time (logged-past (p .table .time) (answering (p .table) d .«next_hop») (p .log) last earlier (a .past) q) (f .timely);
-          recent = omega (arith, recent, young);
-        }
+module _ (p : Past) (d time : ℕ) (a : Accounts p) (f : Found (p .table) d time) where
+  abbrev t : Table
+  t = p .table
+
+  abbrev row : Row
+  row = answering t d
+
+  abbrev now : ℕ
+  now = p .clock .elapsed + ageAt time (t .time)
+
+  -- what holds of every row holds of the one that answers
+  known : (test : Row → Bool) → every test (rowsOf t) ≡ true → test row ≡ true
+  known test e =
+      ⊎-elim (λ h. h) (λ z. absurd (address-some d (f .unit) (sym (f .same) ∙ ap (λ (x : Row). x .destination) z))) (row-for-every test d (rowsOf t) e)
+
+  by-last : (times : List ℕ) → timesFrom (row .«next_hop») (p .log) ≡ times → ageAt time (row .time) ≤ 300000
+      → ageAt time (row .time) ≡ ageAt time (t .time) + ageAt (t .time) (row .time) → since (p .clock .elapsed) (ageAt (t .time) (row .time)) times ≡ true
+      → Heard (p .log) (row .«next_hop») now
+  by-last [] q young adds b = absurd (false≢true b)
+  by-last (last ∷ earlier) q young adds b =
+      let l = logged-past (p .clock .elapsed) (row .«next_hop») (p .log) last earlier (a .past) q in
+      let m = leb-true (p .clock .elapsed) (last + ageAt (t .time) (row .time)) b in
+      record { last = last; earlier = earlier; were = q; past = omega arith; recent = omega arith }
+
+  pub heard : Heard (p .log) (row .«next_hop») (nowAt (p .clock) time)
+  heard =
+      let (live, young) = and-eq-true-iff (not (row .withdrawn)) (leb (ageAt time (row .time)) 300000) .0 (f .carries) in
+      let past = ruled (t .own) (t .time) row (known (rowRule (t .own) (t .time)) (within t (f .within) .rules)) .past in
+      let b = known (borne (p .clock .elapsed) (t .time) (p .log)) (a .rows) in
+      rw (a .shown)
+      (by-last (timesFrom (row .«next_hop») (p .log)) refl (leb-true _ _ young) (ages-add (row .time) (t .time) time past (f .timely))
+      (rw (not-true (row .withdrawn) live) at b))

@@ -10,5 +10,6 @@ pub mod SlotsAtLaws
 pub mod StepLaws
 pub mod TableHistoryLaws
 pub mod TableRuleLaws
+pub mod TableTimeLaws
 pub mod ToldLaws
 pub mod UnitSums

@@ -47,7 +47,7 @@ module _ (unit : ℕ) (a : address unit ≡ true) where
   settled-own b c w s h live =
       let then : SameHolding b (keeping.timeOf c) (keeping.next b c) (keeping.next b c .time) unit =
       subst (λ (t : ℕ). SameHolding b (keeping.timeOf c) (keeping.next b c) t unit) (sym (s .time)) h in
-      same-on (stays-while-live b unit (b .time) (keeping.timeOf c) w a (s .order) (sym (then .live) ∙ live)) then
+      same-on (stays-while-live b unit (b .time) (keeping.timeOf c) w a (in-order-self (b .time)) (s .order) (s .order) (sym (then .live) ∙ live)) then
 
   -- a member that is heard keeps its own
   heard-own : (b : Stated) (time : ℕ) → refusalOf b (heard unit time) ≡ 0 → SameHolding b time (keeping.next b (heard unit time)) time unit
@@ -69,12 +69,12 @@ module _ (unit : ℕ) (a : address unit ≡ true) where
       → liveAt (keeping.next b c) unit (keeping.next b c .time) ≡ true → Same b (keeping.next b c)
   own-call b c w own live = go (ℕ-discrete (refusalOf b c) 0)
     where
-      accepted : refusalOf b c ≡ 0 → Dec (keeping.unitOf c ≡ unit) → SameHolding b (keeping.timeOf c) (keeping.next b c) (keeping.timeOf c) unit
-      accepted z (yes u) = own-kept b c z u (own z u)
-      accepted z (no n) = others-stay b c unit (keeping.timeOf c) a (λ e. n (sym e)) (in-order-self (keeping.timeOf c))
+      accepted : refusalOf b c ≡ 0 → Settled b c → Dec (keeping.unitOf c ≡ unit) → SameHolding b (keeping.timeOf c) (keeping.next b c) (keeping.timeOf c) unit
+      accepted z s (yes u) = own-kept b c z u (own z u)
+      accepted z s (no n) = others-stay b c unit (keeping.timeOf c) a (λ e. n (sym e)) (s .order) (in-order-self (keeping.timeOf c))
 
       settled : refusalOf b c ≡ 0 → Settled b c ⊎ (keeping.next b c ≡ b) → Same b (keeping.next b c)
-      settled z (inl s) = settled-own b c w s (accepted z (ℕ-discrete (keeping.unitOf c) unit)) live
+      settled z (inl s) = settled-own b c w s (accepted z s (ℕ-discrete (keeping.unitOf c) unit)) live
       settled z (inr same) = subst (Same b) (sym same) same-self
 
       go : Dec (refusalOf b c ≡ 0) → Same b (keeping.next b c)
@@ -98,7 +98,7 @@ module _ (unit : ℕ) (a : address unit ≡ true) where
   own-after : (b : Stated) (more : List Event) (time : ℕ) → withinRule b ≡ true → every (λ h. not (its unit h)) (recorded b more) ≡ true
       → inOrder (after b more .time) time ≡ true → liveAt (after b more) unit time ≡ true → SameHolding b (b .time) (after b more) time unit
   unfolding every
-  own-after b [] time w m o live = stays-while-live b unit (b .time) time w a o live
+  own-after b [] time w m o live = stays-while-live b unit (b .time) time w a (in-order-self (b .time)) o o live
   own-after b (e ∷ es) time w m o live =
       let (here, later) = and-eq-true-iff (not (its unit (record { event = e; answer = answer b e }))) (every (λ h. not (its unit h)) (recorded (next b e) es)) .0 m in
       let rest = own-after (next b e) es time (rule-next b e w) later o live in

@@ -14,14 +14,17 @@ pub record Settled (b : Stated) (c : Call) : Type 0 where
   pub order : inOrder (b .time) (timeOf c) ≡ true
   pub time : next b c .time ≡ timeOf c
 
-taken-settled : {b : Stated} {c : Call} {at : ℕ} {own : Slots 64} → Taken b c at own → Settled b c
+pub taken-settled : {b : Stated} {c : Call} {at : ℕ} {own : Slots 64} → Taken b c at own → Settled b c
 taken-settled t = record { order = t .allowed .order; time = ap (λ (new : Stated). new .time) (t .book) }
+
+pub left-settled : (b : Stated) (unit time : ℕ) → refusalOf b (leave unit time) ≡ 0 → Settled b (leave unit time)
+left-settled b unit time z =
+    let f = leave-freed b unit time z in
+    record { order = f .allowed .order; time = ap (λ (new : Stated). new .time) (f .book) }
 
 pub settles : (b : Stated) (c : Call) → refusalOf b c ≡ 0 → Settled b c ⊎ (next b c ≡ b)
 settles b (join s time out) z = inl (taken-settled (join-taken b s time out z))
 settles b (ask s time out) z = inl (taken-settled (ask-taken b s time out z))
 settles b (heard unit time) z = inl (taken-settled (heard-taken b unit time z))
-settles b (leave unit time) z =
-    let f = leave-freed b unit time z in
-    inl (record { order = f .allowed .order; time = ap (λ (new : Stated). new .time) (f .book) })
+settles b (leave unit time) z = inl (left-settled b unit time z)
 settles b (schedule unit hop time out) z = inr refl

@@ -1,12 +1,12 @@
 -- Calls on a member book, one after the other, from a fresh book or from a restored image on; what each of them answers; and what the answers alone say
 -- that each unit was granted.
 -- Assumes nothing.
-use Prim.Native.Nat.{ℕ, zero, suc, _+_, _/_}
-use mathlib.Core.Bool.{_&&_, _||_, cond}
-use mathlib.Core.List.{List, [], _∷_}
+use Prim.Native.Nat.{ℕ, zero, suc, _+_, _/_, min}
+use mathlib.Core.Bool.{Bool, true, false, _&&_, _||_, cond}
+use mathlib.Core.List.{List, [], _∷_, map}
 use lib.Dec.{eqb, leb}
 use lib.ListN.{length, getD, drop}
-use Rattle.moments.specs.Moments.{ageAt}
+use Rattle.moments.specs.Elapsed.{Clock, started, nowAt, Step, moved, clockAfter}
 use Rattle.site.specs.declared.plan.Plan.{Plan}
 use Rattle.members.specs.Members.{emptyRow, rowFor}
 use Rattle.book.specs.Books.{Stated, Left, rowsIn, heardOf, leaveOf, freshOf}
@@ -81,41 +81,61 @@ abbrev pub recorded : Stated → List Event → List Happened
 recorded b [] = []
 recorded b (e ∷ es) = record { event = e; answer = answer b e } ∷ recorded (next b e) es
 
+-- ---- elapsed time, from the record alone
+-- which events change the book, if they are accepted
+abbrev pub changes : Event → Bool
+changes (call (join s time out)) = true
+changes (call (ask s time out)) = true
+changes (call (heard unit time)) = true
+changes (call (leave unit time)) = true
+changes (call (schedule unit hop time out)) = false
+changes (image time out) = false
+
+-- what happened, as a step of elapsed time
+abbrev pub stepOf : Happened → Step
+stepOf h = record { time = timeOf (h .event); changes = eqb (h .answer .refused) 0 && changes (h .event) }
+
+-- the clock of a history that began with a book
+abbrev pub clockOf : Stated → List Happened → Clock
+clockOf b hs = clockAfter (started (b .time)) (map stepOf hs)
+
 -- ---- grants: what a unit was told, from the record alone
--- the slots that its last accepted request was answered with, the control slot first, and when its last accepted call was
+-- the slots that its last accepted request was answered with, the control slot first, and the ms that had elapsed at its last accepted call
 pub record Grant : Type 0 where
   pub told : List ℕ
-  pub time : ℕ
+  pub at : ℕ
 
 abbrev pub grant : List ℕ → ℕ → Grant
-grant told time = record { told = told; time = time }
+grant told at = record { told = told; at = at }
 
 -- how an answer is read: the slots that so many response frames in a buffer tell
 abbrev pub Telling : Type 0
 Telling = ℕ → List ℕ → List ℕ
 
--- what an accepted event of the unit itself makes of its grant, its answer read so
-abbrev pub renewedBy : Telling → Event → Answer → Grant → Grant
-renewedBy told (call (join s time out)) a g = grant (told (a .written / 13) (a .held)) time
-renewedBy told (call (ask s time out)) a g = grant (told (a .written / 13) (a .held)) time
-renewedBy told (call (heard unit time)) a g = grant (g .told) time
-renewedBy told (call (leave unit time)) a g = grant [] time
-renewedBy told (call (schedule unit hop time out)) a g = g
-renewedBy told (image time out) a g = g
+-- what an accepted event of the unit itself makes of its grant, now, its answer read so
+abbrev pub renewedBy : Telling → Event → Answer → ℕ → Grant → Grant
+renewedBy told (call (join s time out)) a now g = grant (told (a .written / 13) (a .held)) now
+renewedBy told (call (ask s time out)) a now g = grant (told (a .written / 13) (a .held)) now
+renewedBy told (call (heard unit time)) a now g = grant (g .told) now
+renewedBy told (call (leave unit time)) a now g = grant [] now
+renewedBy told (call (schedule unit hop time out)) a now g = g
+renewedBy told (image time out) a now g = g
 
 -- what any event makes of it: one that is refused, or about another unit, changes nothing
-abbrev pub changedBy : Telling → ℕ → Event → Answer → Grant → Grant
-changedBy told unit e a g = cond (eqb (a .refused) 0 && eqb (unitOf e) unit) (renewedBy told e a g) g
+abbrev pub changedBy : Telling → ℕ → Event → Answer → ℕ → Grant → Grant
+changedBy told unit e a now g = cond (eqb (a .refused) 0 && eqb (unitOf e) unit) (renewedBy told e a now g) g
 
-abbrev pub grantedBy : Telling → ℕ → Grant → List Happened → Grant
-grantedBy told unit g [] = g
-grantedBy told unit g (h ∷ hs) = grantedBy told unit (changedBy told unit (h .event) (h .answer) g) hs
+-- after what happened, by the clock at its beginning
+abbrev pub grantedBy : Telling → ℕ → Clock → Grant → List Happened → Grant
+grantedBy told unit k g [] = g
+grantedBy told unit k g (h ∷ hs) =
+    grantedBy told unit (moved k (stepOf h)) (changedBy told unit (h .event) (h .answer) (nowAt k (timeOf (h .event))) g) hs
 
 -- the slot of each frame, cut out of its 13 bytes
-abbrev pub renewed : Event → Answer → Grant → Grant
+abbrev pub renewed : Event → Answer → ℕ → Grant → Grant
 renewed = renewedBy toldIn
 
-abbrev pub granted : ℕ → Grant → List Happened → Grant
+abbrev pub granted : ℕ → Clock → Grant → List Happened → Grant
 granted = grantedBy toldIn
 
 -- what a unit has at the start: what its row says, in the fresh book or in the image
@@ -123,17 +143,21 @@ abbrev pub granting : Stated → ℕ → Grant
 granting b unit =
     let at = rowFor unit (rowsIn b) in
     let r = getD (rowsIn b) at emptyRow in
-    grant (cond (eqb (r .unit) unit) (slotsTold (b .plan) at (r .slots)) []) (r .time)
+    grant (cond (eqb (r .unit) unit) (slotsTold (b .plan) at (r .slots)) []) 0
 
--- at a time a grant counts for the manager always, for others up to 300,000 ms after their last accepted call
+-- now a grant counts for the manager always, for others up to 300,000 ms after their last accepted call
 abbrev pub counts : Plan → ℕ → ℕ → Grant → List ℕ
-counts p unit time g = cond (eqb unit (p .manager) || leb (ageAt time (g .time)) 300000) (g .told) []
+counts p unit now g = cond (eqb unit (p .manager) || leb now (g .at + 300000)) (g .told) []
+
+-- the slots that what happened since a book, its answers read so, grants to a unit at a time
+abbrev pub grantedSince : Telling → Stated → List Happened → ℕ → ℕ → List ℕ
+grantedSince told b hs unit time = counts (b .plan) unit (nowAt (clockOf b hs) time) (grantedBy told unit (started (b .time)) (granting b unit) hs)
 
 -- the slots that a history grants to a unit at a time
 abbrev pub grantedAt : Start → List Event → ℕ → ℕ → List ℕ
 grantedAt start es unit time =
     let b = begun start .book in
-    counts (b .plan) unit time (granted unit (granting b unit) (recorded b es))
+    grantedSince toldIn b (recorded b es) unit time
 
 -- addresses are 1 to this
 abbrev pub lastAddress : ℕ
@@ -143,3 +167,8 @@ lastAddress = 0xFFFE
 abbrev pub grantedTo : Start → List Event → ℕ → ℕ → ℕ
 grantedTo start es time zero = 0
 grantedTo start es time (suc n) = length (drop 1 (grantedAt start es (suc n) time)) + grantedTo start es time n
+
+-- how many of the units from 1 to n are granted anything at a time
+abbrev pub unitsGranted : Start → List Event → ℕ → ℕ → ℕ
+unitsGranted start es time zero = 0
+unitsGranted start es time (suc n) = min 1 (length (grantedAt start es (suc n) time)) + unitsGranted start es time n

@@ -3,11 +3,12 @@
 -- Assumes nothing.
 use mathlib.Core.Path.{_≡_}
 use mathlib.Core.Bool.{Bool, true, false, not, _&&_, _||_, cond}
-use mathlib.Core.List.{List, [], _++_}
-use Prim.Native.Nat.{ℕ, _+_, _*_, _≤_}
+use mathlib.Core.List.{List, [], _++_, map}
+use Prim.Native.Nat.{ℕ, _+_, _*_, _%_, _^_, _≤_}
 use lib.Dec.{eqb}
 use lib.ListN.{length}
 use Rattle.octets.specs.Lists.{every}
+use Rattle.moments.specs.Elapsed.{lastOf, Timely, IsTrue}
 use Rattle.moments.specs.Moments.{inOrder}
 use Rattle.shapes.specs.Rules.{address}
 use Rattle.slots.specs.Sets.{count}
@@ -19,7 +20,7 @@ use Rattle.joins.specs.Joins.{joinOf}
 use Rattle.joins.specs.Responses.{slotsTold}
 use Rattle.keeping.specs.Calls.{join, ask, heard, leave, schedule}
 use Rattle.keeping.specs.Laws.{full, Newcomer, due, Admitted, holding, kindIn}
-use Rattle.history.specs.BookEvents.{Start, begun, Event, call, image, unitOf, after, answer, Happened, recorded, grantedAt, lastAddress, grantedTo}
+use Rattle.history.specs.BookEvents.{Start, begun, Event, call, image, unitOf, after, answer, Happened, recorded, stepOf, clockOf, grantedAt, lastAddress, grantedTo, unitsGranted}
 
 -- the book after a history
 abbrev pub bookAfter : Start → List Event → Stated
@@ -53,6 +54,13 @@ JoinsExactly =
     → let b = bookAfter start es in Newcomer b s time
     → ((full b time ≡ true → joinOf b s time out .refused ≡ 12) × (joinOf b s time out .refused ≡ 12 → full b time ≡ true))
     × (full b time ≡ false → 13 * (1 + due b s time) ≤ length out → Admitted b s time out)
+
+-- every member row is live exactly if the start and the answers grant slots to as many units as there are rows: so a newcomer is refused for room exactly
+-- then, in elapsed time
+abbrev pub FullByAnswers : Type 0
+FullByAnswers =
+    (start : Start) (es : List Event) (time : ℕ) → begun start .refused ≡ 0
+    → let b = bookAfter start es in inOrder (b .time) time ≡ true → full b time ≡ eqb (unitsGranted start es time lastAddress) (b .plan .rows)
 
 -- ---- holding
 -- the slots that a book has for a unit at a time, its control slot first; none where it is no live member
@@ -107,3 +115,11 @@ OneSender =
     → (sends (kindIn (scheduleOf b unit hop time out .held) s) && sends (kindIn (scheduleOf b unit′ hop′ time out′ .held) s)) ≡ false)
     × (inBeacons (b .plan) s ≡ true
     → sends (kindIn (scheduleOf b unit hop time out .held) s) ≡ true → sends (kindIn (scheduleOf b unit′ hop′ time out′ .held) s) ≡ true → hop ≡ hop′)
+
+-- ---- true time
+-- where the events of a history are made in time, as document 02 asks, its elapsed time is true time: grants count and end by the true one
+abbrev pub TrueTime : Type 0
+TrueTime =
+    (start : Start) (es : List Event) (began : ℕ) (nows : List ℕ)
+    → let b = begun start .book in
+    let hs = recorded b es in b .time ≡ began % 2 ^ 32 → Timely began (map stepOf hs) nows → IsTrue began (clockOf b hs) (lastOf began (map stepOf hs) nows)

@@ -1,10 +1,12 @@
--- Calls on a unit's table of routes, one after the other, from a fresh table on; and the log of the updates that were accepted on the way.
+-- Calls on a unit's table of routes, one after the other, from a fresh table on; the time that elapses over them, and the log of the updates that were accepted
+-- on the way.
 -- Assumes nothing.
 use Prim.Native.Nat.{ℕ}
-use mathlib.Core.Bool.{cond}
+use mathlib.Core.Bool.{Bool, true, false, _&&_, cond}
 use mathlib.Core.List.{List, [], _∷_}
 use lib.Dec.{eqb}
 use Rattle.octets.specs.Answers.{Said, accepted, unless}
+use Rattle.moments.specs.Elapsed.{Clock, started, nowAt, Step, moved}
 use Rattle.routes.specs.declared.table.Table.{Table}
 use Rattle.routes.specs.Tables.{freshOf, lookupOf, forgetOf}
 use Rattle.merges.specs.Merges.{updateIn, mergeOf}
@@ -71,34 +73,59 @@ answer t (lookup d time) = answers (lookupOf t d time) [] []
 answer t (relay s time out) = answers (relayOf t s time out .said) (relayOf t s time out .held) []
 answer t (page p time out) = answers (pageOf t p time out .said) (pageOf t p time out .held) []
 
--- an update that was accepted: from which unit, and when
+-- ---- elapsed time, from the calls alone
+-- which calls change the table, if they are accepted
+abbrev pub changes : Call → Bool
+changes (merge s quality time) = true
+changes (forget unit time) = true
+changes (forward network s delay time out) = true
+changes (lookup d time) = false
+changes (relay s time out) = false
+changes (page p time out) = false
+
+-- a call as a step of elapsed time, and calls one after the other
+abbrev pub stepOf : Table → Call → Step
+stepOf t c = record { time = timeOf c; changes = eqb (answer t c .said .refusal) 0 && changes c }
+
+abbrev pub stepsOf : Table → List Call → List Step
+stepsOf t [] = []
+stepsOf t (c ∷ cs) = stepOf t c ∷ stepsOf (next t c) cs
+
+-- ---- what is known of a table
+-- an update that was accepted: from which unit, and the ms that had elapsed
 pub record Update : Type 0 where
   pub from : ℕ
   pub at : ℕ
 
--- the log after a call: a merge that answers 0 adds its update, its frame's origin, at its time; nothing else does
-abbrev pub logged : Table → Call → List Update → List Update
-logged t (merge s quality time) log = cond (eqb (mergeOf t s quality time .refused) 0) (record { from = updateIn s .origin; at = time } ∷ log) log
-logged t (forget unit time) log = log
-logged t (forward network s delay time out) log = log
-logged t (lookup d time) log = log
-logged t (relay s time out) log = log
-logged t (page p time out) log = log
+-- the log after a call: a merge that answers 0 adds its update, its frame's origin, by the clock before it; nothing else does
+abbrev pub logged : Table → Call → Clock → List Update → List Update
+logged t (merge s quality time) k log =
+    cond (eqb (mergeOf t s quality time .refused) 0) (record { from = updateIn s .origin; at = nowAt k time } ∷ log) log
+logged t (forget unit time) k log = log
+logged t (forward network s delay time out) k log = log
+logged t (lookup d time) k log = log
+logged t (relay s time out) k log = log
+logged t (page p time out) k log = log
 
--- a table, and the updates that were accepted on the way to it, the last first
+-- a table, the clock of the calls on the way to it, and the updates that were accepted, the last first
 pub record Past : Type 0 where
   pub table : Table
+  pub clock : Clock
   pub log : List Update
+
+abbrev pub followed : Past → Call → Past
+followed p c =
+    record { table = next (p .table) c; clock = moved (p .clock) (stepOf (p .table) c); log = logged (p .table) c (p .clock) (p .log) }
 
 abbrev pub after : Past → List Call → Past
 after p [] = p
-after p (c ∷ cs) = after (record { table = next (p .table) c; log = logged (p .table) c (p .log) }) cs
+after p (c ∷ cs) = after (followed p c) cs
 
 -- a fresh table, with no update yet
 abbrev pub fresh : ℕ → ℕ → Past
-fresh own time = record { table = freshOf own time .table; log = [] }
+fresh own time = record { table = freshOf own time .table; clock = started time; log = [] }
 
--- when updates from a unit were accepted, the last first
+-- at which elapsed ms updates from a unit were accepted, the last first
 abbrev pub timesFrom : ℕ → List Update → List ℕ
 timesFrom unit [] = []
 timesFrom unit (u ∷ us) = cond (eqb (u .from) unit) (u .at ∷ timesFrom unit us) (timesFrom unit us)

@@ -3,55 +3,59 @@
 use mathlib.Core.Path.{_≡_}
 use mathlib.Core.Bool.{Bool, true, false, not, _||_}
 use mathlib.Core.List.{List, [], _∷_}
-use Prim.Native.Nat.{ℕ, _≤_}
+use Prim.Native.Nat.{ℕ, _+_, _%_, _^_, _≤_}
+use lib.Dec.{leb}
 use Rattle.octets.specs.Answers.{accepted}
 use Rattle.octets.specs.Lists.{every}
-use Rattle.moments.specs.Moments.{ageAt, inOrder}
+use Rattle.moments.specs.Elapsed.{nowAt, lastOf, Timely, IsTrue}
+use Rattle.moments.specs.Moments.{ageAt}
 use Rattle.routes.specs.declared.row.Row.{Row}
 use Rattle.routes.specs.declared.table.Table.{Table}
 use Rattle.routes.specs.Rows.{standing}
 use Rattle.routes.specs.Tables.{rowsOf, withinRule, dropped, freshOf, lookupOf}
 use Rattle.pages.specs.Pages.{pageThere}
 use Rattle.relays.specs.Relays.{relayOf}
-use Rattle.history.specs.TableCalls.{Call, merge, forget, forward, lookup, relay, page, timeOf, next, answer, Update, Past, after, fresh, timesFrom}
+use Rattle.history.specs.TableCalls.{Call, merge, forget, forward, lookup, relay, page, timeOf, next, answer, stepsOf, Update, Past, after, fresh, timesFrom}
 
 -- ---- freshness
--- updates from this unit have been accepted, and the last of them no later than this time and at most 300,000 ms before it
-pub record Heard (log : List Update) (unit time : ℕ) : Type 0 where
+-- updates from this unit have been accepted, and the last of them no later than now and at most 300,000 ms before, in elapsed ms
+pub record Heard (log : List Update) (unit now : ℕ) : Type 0 where
   pub last : ℕ
   pub earlier : List ℕ
   pub were : timesFrom unit log ≡ last ∷ earlier
-  pub past : inOrder last time ≡ true
-  pub recent : ageAt time last ≤ 300000
+  pub past : last ≤ now
+  pub recent : now ≤ last + 300000
 
 -- where a lookup or a relay answers a next hop, that unit was heard
 abbrev pub AnswersHeard : Past → Type 0
 AnswersHeard p =
     (time hop more : ℕ)
-    → ((d : ℕ) → lookupOf (p .table) d time ≡ accepted (hop ∷ more ∷ []) → Heard (p .log) hop time)
-    × ((s out : List ℕ) → relayOf (p .table) s time out .said ≡ accepted (hop ∷ more ∷ []) → Heard (p .log) hop time)
+    → let now = nowAt (p .clock) time in
+    ((d : ℕ) → lookupOf (p .table) d time ≡ accepted (hop ∷ more ∷ []) → Heard (p .log) hop now)
+    × ((s out : List ℕ) → relayOf (p .table) s time out .said ≡ accepted (hop ∷ more ∷ []) → Heard (p .log) hop now)
 
 -- so it is from a fresh table on, over any list of calls, accepted or refused
 abbrev pub Freshness : Type 0
 Freshness = (own began : ℕ) (cs : List Call) → freshOf own began .refused ≡ 0 → AnswersHeard (after (fresh own began) cs)
 
--- the first of some times is no earlier than this one
-abbrev pub since : ℕ → List ℕ → Bool
-since time [] = false
-since time (last ∷ earlier) = inOrder time last
+-- the first of some elapsed times is at most this age before now
+abbrev pub since : ℕ → ℕ → List ℕ → Bool
+since now age [] = false
+since now age (last ∷ earlier) = leb now (last + age)
 
--- a log bears a row: the row is withdrawn, or updates from its next hop are logged, the last of them no earlier than the row's time
-abbrev pub borne : List Update → Row → Bool
-borne log r = r .withdrawn || since (r .time) (timesFrom (r .«next_hop») log)
+-- a log bears a row, now and at this time: the row is withdrawn, or updates from its next hop are logged, the last of them no older than the row
+abbrev pub borne : ℕ → ℕ → List Update → Row → Bool
+borne now time log r = r .withdrawn || since now (ageAt time (r .time)) (timesFrom (r .«next_hop») log)
 
--- an update was logged no later than a time
+-- an update was logged no later than now
 abbrev pub before : ℕ → Update → Bool
-before time u = inOrder (u .at) time
+before now u = leb (u .at) now
 
--- a log accounts for a table: it bears every row, and has no update after the table's last accepted time
+-- a log accounts for a table: its clock shows the table's last accepted time, and by then the log bears every row and has no later update
 pub record Accounts (p : Past) : Type 0 where
-  pub rows : every (borne (p .log)) (rowsOf (p .table)) ≡ true
-  pub past : every (before (p .table .time)) (p .log) ≡ true
+  pub shown : p .clock .last ≡ p .table .time
+  pub rows : every (borne (p .clock .elapsed) (p .table .time) (p .log)) (rowsOf (p .table)) ≡ true
+  pub past : every (before (p .clock .elapsed)) (p .log) ≡ true
 
 -- a log along a history accounts for its table; and from any table within rule on whose log accounts for it, as one that was stored with its log, every
 -- next hop that is answered was heard
@@ -59,6 +63,13 @@ abbrev pub FreshnessFrom : Type 0
 FreshnessFrom =
     ((own began : ℕ) (cs : List Call) → freshOf own began .refused ≡ 0 → Accounts (after (fresh own began) cs))
     × ((p : Past) (cs : List Call) → withinRule (p .table) ≡ true → Accounts p → AnswersHeard (after p cs))
+
+-- where calls are made in time, as document 02 asks, elapsed time is true time: the next hop's last update is at most 300,000 true ms old
+abbrev pub TrueTime : Type 0
+TrueTime =
+    (own began : ℕ) (cs : List Call) (nows : List ℕ)
+    → let p = fresh own (began % 2 ^ 32) in
+    let ss = stepsOf (p .table) cs in Timely began ss nows → IsTrue began (after p cs .clock) (lastOf began ss nows)
 
 -- ---- the rule
 -- a fresh table is within rule, and so is the table after every accepted call

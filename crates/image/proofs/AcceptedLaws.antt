@@ -1,7 +1,7 @@
 -- An accepted image in its parts, and that these are document 01's list.
 -- Assumes nothing.
 use mathlib.Core.Path.{_≡_, refl, ap, ap₂, _∙_}
-use mathlib.Core.Bool.{true, false≢true, and-eq-true-iff}
+use mathlib.Core.Bool.{true, false≢true, and-eq-true-iff, or-true}
 use mathlib.Core.List.{List, [], _∷_, map}
 use mathlib.Core.Logic.{_⊎_, inl, inr}
 use Prim.Native.Nat.{ℕ, _<_}
@@ -130,6 +130,7 @@ module _ (s : List ℕ) where
   acceptable g =
       let (head, long) = fits-parts s count-rows (g .fit) in
       let plan = planIn s in
+      let manager = plan .manager in
       let dataSlots = plan .«data_slots» in
       let some = kept plan (g .plan) .rows in
       record {
@@ -137,7 +138,7 @@ module _ (s : List ℕ) where
         size = omega (arith, long);
         plan = g .plan;
         manager = rw (row-at 0 (omega (arith, some))) at (led-first (plan .manager) all (g .rows .led));
-        rows = λ i h. rule-either dataSlots 0 (rowIn s 0 i) (rule i h) (λ t none. inl (rule-zeros dataSlots 0 (rowIn s 0 i) (rule i h) t)) (λ t m. inr (record {
+        rows = λ i h. rule-either manager dataSlots 0 (rowIn s 0 i) (rule i h) (λ t none. inl (rule-zeros manager dataSlots 0 (rowIn s 0 i) (rule i h) t)) (λ t m. inr (record {
           unit = m .unit;
           least = m .least;
           most = m .most;
@@ -148,22 +149,22 @@ module _ (s : List ℕ) where
         room = vacant-free (omega (arith, rule-bounds plan (g .plan) .few-data-slots)) (g .rows);
       }
     where
-      rule : (i : ℕ) → i < count-rows → rowRule (planIn s .«data_slots») 0 (rowIn s 0 i) ≡ true
-      rule i h = rw (row-at i h) at (every-at (rowRule (planIn s .«data_slots») 0) all i emptyRow (g .rows .each) (there i h))
+      rule : (i : ℕ) → i < count-rows → rowRule (planIn s .manager) (planIn s .«data_slots») 0 (rowIn s 0 i) ≡ true
+      rule i h = rw (row-at i h) at (every-at (rowRule (planIn s .manager) (planIn s .«data_slots») 0) all i emptyRow (g .rows .each) (there i h))
 
   no-time : (i : ℕ) → (rowIn s 0 i .unit ≡ 0 → ⊥) → rowIn s 0 i .time ≡ 0
   unfolding rowIn
   no-time i some = rw (ne-eqb (rowIn s 0 i .unit) 0 some)
 
-  used-rule : (dataSlots i : ℕ) → (rowIn s 0 i ≡ emptyRow) ⊎ Used dataSlots (rowIn s 0 i) → rowRule dataSlots 0 (rowIn s 0 i) ≡ true
-  used-rule dataSlots i (inl e) = rw e (rule-empty dataSlots 0)
-  used-rule dataSlots i (inr u) =
-      member-rule dataSlots 0 (rowIn s 0 i) (record {
+  used-rule : (manager dataSlots i : ℕ) → (rowIn s 0 i ≡ emptyRow) ⊎ Used dataSlots (rowIn s 0 i) → rowRule manager dataSlots 0 (rowIn s 0 i) ≡ true
+  used-rule manager dataSlots i (inl e) = rw e (rule-empty manager dataSlots 0)
+  used-rule manager dataSlots i (inr u) =
+      member-rule manager dataSlots 0 (rowIn s 0 i) (record {
         unit = u .unit;
         least = u .least;
         most = u .most;
         inside = u .inside;
-        past = rw (no-time i (address-some (rowIn s 0 i .unit) (u .unit))) (in-order-self 0);
+        past = rw (no-time i (address-some (rowIn s 0 i .unit) (u .unit)), in-order-self 0, or-true);
       })
 
   rows-listed : Acceptable s → rowsRule (planIn s .manager) (planIn s .«data_slots») 0 all ≡ true
@@ -174,7 +175,7 @@ module _ (s : List ℕ) where
       let some = kept (planIn s) (a .plan) .rows in
       rw (
         first-led manager all (there 0 (omega (arith, some))) (rw (row-at 0 (omega (arith, some))) (a .manager)),
-        every-tab (rowRule dataSlots 0) count-rows (rowIn s 0) (λ i h. used-rule dataSlots i (a .rows i h)),
+        every-tab (rowRule manager dataSlots 0) count-rows (rowIn s 0) (λ i h. used-rule manager dataSlots i (a .rows i h)),
         pairs-distinct all (λ i j h k. rw (row-at i (among i h), row-at j (among j k)) (a .distinct i j (among i h) (among j k))),
         pairs-apart all (λ i j h k. rw (row-at i (among i h), row-at j (among j k)) (a .disjoint i j (among i h) (among j k))),
         le-leb (vacant all) (count (free dataSlots all)) (a .room),

@@ -1,7 +1,7 @@
 -- A fresh book is within rule.
 -- Assumes nothing.
 use mathlib.Core.Path.{_≡_, refl, sym, ap, _∙_}
-use mathlib.Core.Bool.{Bool, true, false, not, cond, and-eq-true-iff}
+use mathlib.Core.Bool.{Bool, true, false, not, cond, and-eq-true-iff, or-true}
 use mathlib.Core.List.{[], _∷_}
 use Prim.Native.Nat.{ℕ, zero, suc, _-_, _*_, _≤_}
 use native.Mathlib.Omega.{arith}
@@ -34,7 +34,7 @@ weigh-empty w k e m zero = omega arith
 weigh-empty w k e zero (suc n) = omega arith
 weigh-empty w k e (suc m) (suc n) = omega (arith, e, weigh-empty w k e m n)
 
-every-empty : (test : Row → Bool) → test emptyRow ≡ true → (m n : ℕ) → (every test (take n (replicate m emptyRow)) ≡ true) × (every test (drop n (replicate m emptyRow)) ≡ true)
+pub every-empty : (test : Row → Bool) → test emptyRow ≡ true → (m n : ℕ) → (every test (take n (replicate m emptyRow)) ≡ true) × (every test (drop n (replicate m emptyRow)) ≡ true)
 unfolding every
 every-empty test e zero zero = (refl, refl)
 every-empty test e zero (suc n) = (refl, refl)
@@ -63,13 +63,13 @@ fresh-ruled manager dataSlots time n unit h =
     record {
       led = eq-eqb manager manager refl;
       each =
-          rw (member-rule dataSlots time r (record {
+          rw (member-rule manager dataSlots time r (record {
             unit = unit;
             least = omega (arith, single);
             most = omega (arith, single);
             inside = first-inside dataSlots (omega (arith, h));
-            past = in-order-self time;
-          })) (every-empty (rowRule dataSlots time) (rule-empty dataSlots time) 20 n .0);
+            past = rw (in-order-self time, or-true);
+          })) (every-empty (rowRule manager dataSlots time) (rule-empty manager dataSlots time) 20 n .0);
       units = λ u z. omega (arith, one-most (ofUnit u) r, weigh-empty (one (ofUnit u)) 0 (units-least u z) 20 n);
       owners = λ slot. omega (arith, one-most (owns slot) r, weigh-empty (one (owns slot)) 0 (owners-least slot) 20 n);
       room = omega (arith, h, single, some, weigh-empty needs 1 (omega (arith, no-count)) 20 n);

@@ -13,10 +13,11 @@ use Rattle.shapes.specs.Rules.{address}
 use Rattle.slots.specs.Sets.{Slots, Apart}
 use Rattle.slots.proofs.SetLaws.{nothing-has, disjoint-is-apart}
 use Rattle.members.specs.Members.{Row, emptyRow, rowFor}
-use Rattle.members.proofs.RowLaws.{row, kept-either, keptAt, length-current, live-before}
+use Rattle.members.proofs.RowLaws.{row, Steps, kept-either, kept-later, keptAt, length-current, live-before}
 use Rattle.members.proofs.RowSums.{owns, passes-there, only-one}
 use Rattle.members.proofs.LookupLaws.{found-unit, found-other, found-same}
 use Rattle.members.proofs.RowRuleLaws.{Seat, address-some, ruled-current}
+use Rattle.members.proofs.TimedLaws.{timed-rows}
 use Rattle.book.specs.Books.{Stated, rowsIn, rowsAt, liveAt, withRow}
 use Rattle.joins.specs.Joins.{askIn, askOf}
 use Rattle.keeping.specs.Calls.{Call, join, ask, heard, leave, schedule, timeOf, unitOf, refusalOf, next}
@@ -72,37 +73,41 @@ module _ (unit : ℕ) (is-address : address unit ≡ true) (later : ℕ) where
   still-other (suc at) r new = kept-either (λ k. k .unit ≡ unit → ⊥) later r (λ e. new) (λ e. some (sym e))
 
   -- a row written at another's place, or at a free one
-  other-written : {b : Stated} {caller time at : ℕ} (a : Allowed b caller time) → Seat (ruled-rows a) at caller → (unit ≡ caller → ⊥) → inOrder time later ≡ true
-      → (r : Row) → (r .unit ≡ unit → ⊥) → SameHolding b later (withRow b time at r) later unit
-  other-written {b} {caller} {time} {at} a p n o r new =
+  other-written : {b : Stated} {caller time at : ℕ} (a : Allowed b caller time) → Seat (ruled-rows a) at caller → (unit ≡ caller → ⊥)
+      → inOrder (b .time) later ≡ true → inOrder time later ≡ true → (r : Row) → (r .unit ≡ unit → ⊥)
+      → SameHolding b later (withRow b time at r) later unit
+  other-written {b} {caller} {time} {at} a p n both o r new =
+      let steps : Steps (b .time) time later = record { one = a .order; two = o; both = both } in
+      let timed = timed-rows (within b (a .book) .rows) in
       let rs = rowsAt b later in
       let before : row rs at .unit ≡ unit → row (rowsAt b time) at .unit ≡ unit =
-      λ e. ap (λ (r : Row). r .unit) (live-before time later o (rowsIn b) at (λ z. some (sym e ∙ z))) ∙ e in
+      λ e. ap (λ (r : Row). r .unit) (live-before (b .time) time later steps (rowsIn b) timed at (λ z. some (sym e ∙ z))) ∙ e in
       let old : row rs at .unit ≡ unit → ⊥ = λ e. n (sym (before e) ∙ p .own (λ z. some (sym (before e) ∙ z))) in
       let there : at < length rs = omega (arith, p .there, length-current time (rowsIn b), length-current later (rowsIn b)) in
       let elsewhere : rowFor unit rs ≡ at → ⊥ = λ e. old (rw e at (found-unit unit rs (rw e there))) in
-      let rows = rows-later b time at r (p .there) later o in
+      let rows = rows-later b time at r (p .there) later (λ i z. kept-later (b .time) time later steps (row (rowsIn b) i) (timed i z)) in
       let written = keptAt later at r in
       same-holding b later (withRow b time at r) later unit
       (ap length rows ∙ length-set rs at written)
       (ap (rowFor unit) rows ∙ found-other unit rs at written old (still-other at r new))
       (ap (λ (l : List Row). row l (rowFor unit rs)) rows ∙ getD-set-other rs at (rowFor unit rs) written emptyRow elsewhere)
 
-  other-taken : {b : Stated} {c : Call} {at : ℕ} {own : Slots 64} → (unit ≡ unitOf c → ⊥) → inOrder (timeOf c) later ≡ true → Taken b c at own
-      → SameHolding b later (next b c) later unit
-  other-taken n o t = rw (t .book) (other-written (t .allowed) (t .place) n o _ (λ e. n (sym e)))
+  other-taken : {b : Stated} {c : Call} {at : ℕ} {own : Slots 64} → (unit ≡ unitOf c → ⊥) → inOrder (b .time) later ≡ true → inOrder (timeOf c) later ≡ true
+      → Taken b c at own → SameHolding b later (next b c) later unit
+  other-taken n l o t = rw (t .book) (other-written (t .allowed) (t .place) n l o _ (λ e. n (sym e)))
 
-  other-accepted : (b : Stated) (c : Call) → (unit ≡ unitOf c → ⊥) → inOrder (timeOf c) later ≡ true → refusalOf b c ≡ 0 → SameHolding b later (next b c) later unit
-  other-accepted b (join s time out) n o z = other-taken n o (join-taken b s time out z)
-  other-accepted b (ask s time out) n o z = other-taken n o (ask-taken b s time out z)
-  other-accepted b (heard caller time) n o z = other-taken n o (heard-taken b caller time z)
-  other-accepted b (leave caller time) n o z =
+  other-accepted : (b : Stated) (c : Call) → (unit ≡ unitOf c → ⊥) → inOrder (b .time) later ≡ true → inOrder (timeOf c) later ≡ true → refusalOf b c ≡ 0
+      → SameHolding b later (next b c) later unit
+  other-accepted b (join s time out) n l o z = other-taken n l o (join-taken b s time out z)
+  other-accepted b (ask s time out) n l o z = other-taken n l o (ask-taken b s time out z)
+  other-accepted b (heard caller time) n l o z = other-taken n l o (heard-taken b caller time z)
+  other-accepted b (leave caller time) n l o z =
       let f = leave-freed b caller time z in
-      rw (f .book) (other-written (f .allowed) (f .place) n o emptyRow (λ e. some (sym e)))
-  other-accepted b (schedule caller hop time out) n o z = record { live = refl; row = refl; slots = refl }
+      rw (f .book) (other-written (f .allowed) (f .place) n l o emptyRow (λ e. some (sym e)))
+  other-accepted b (schedule caller hop time out) n l o z = record { live = refl; row = refl; slots = refl }
 
 pub others-stay : OthersStay
-others-stay b c unit later a n o = same-or b c unit later (other-accepted unit a later b c n o)
+others-stay b c unit later a n l o = same-or b c unit later (other-accepted unit a later b c n l o)
 
 -- ---- calls about itself
 own-taken : {b : Stated} {c : Call} → Taken b c (rowFor (unitOf c) (rowsAt b (timeOf c))) (holding b (unitOf c) (timeOf c)) → liveAt b (unitOf c) (timeOf c) ≡ true

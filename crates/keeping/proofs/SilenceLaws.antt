@@ -18,6 +18,7 @@ use Rattle.members.proofs.RowLaws.{row, length-current, first-stays, others-kep
 use Rattle.members.proofs.PairLaws.{led-first}
 use Rattle.members.proofs.LookupLaws.{found-unit, found-there, found-is}
 use Rattle.members.proofs.RowRuleLaws.{address-some, ruled-current}
+use Rattle.members.proofs.TimedLaws.{timed-rows}
 use Rattle.book.specs.Books.{Stated, withinRule, rowsIn, rowsAt, liveAt}
 use Rattle.keeping.specs.Calls.{Call, join, ask, heard, leave, schedule, timeOf, unitOf, next}
 use Rattle.keeping.specs.Laws.{StaysWhileLive, LiveFor, holding}
@@ -29,12 +30,12 @@ use Rattle.keeping.proofs.HoldingLaws.{same-holding}
 
 -- ---- while a member is live
 pub stays-while-live : StaysWhileLive
-stays-while-live b unit time later w a o e =
+stays-while-live b unit time later w a p o l e =
     let rs = rowsIn b in
     let some = address-some unit a in
     let i = rowFor unit (current later rs) in
     let own = found-unit unit (current later rs) (ltb-true _ _ e) in
-    let same = live-before time later o rs i (λ z. some (sym own ∙ z)) in
+    let same = live-before (b .time) time later (record { one = p; two = o; both = l }) rs (timed-rows (within b w .rows)) i (λ z. some (sym own ∙ z)) in
     let place = found-is unit some (current time rs) i (ap (λ (r : Row). r .unit) same ∙ own) (ruled-current time (within b w .rows) .units unit some) in
     same-holding b time b later unit (length-current later rs ∙ sym (length-current time rs)) (sym place) (rw place (sym same))
 

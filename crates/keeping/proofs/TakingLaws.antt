@@ -36,7 +36,7 @@ module _ {b : Stated} {unit time : ℕ} (a : Allowed b unit time) where
   whole = within b (a .book)
 
   pub ruled-rows : RowsRuled b time rows
-  ruled-rows = rows-then b whole time (a .order)
+  ruled-rows = rows-then b whole time
 
   pub some-unit : unit ≡ 0 → ⊥
   some-unit = address-some unit (a .of-unit)

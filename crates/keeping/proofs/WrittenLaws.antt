@@ -7,12 +7,11 @@ use Prim.Native.Nat.{ℕ, zero, suc, _<_}
 use native.Mathlib.Omega.{arith}
 use lib.ListN.{length, set, length-take}
 use lib.Seq.{take-set-lt, drop-set-lt}
-use Rattle.moments.specs.Moments.{inOrder}
-use Rattle.moments.proofs.MomentLaws.{no-age, in-order-self}
+use Rattle.moments.proofs.MomentLaws.{no-age}
 use Rattle.slots.specs.Sets.{Slots}
 use Rattle.members.specs.Members.{Row, kept, current}
 use Rattle.members.specs.Rules.{emptyIs}
-use Rattle.members.proofs.RowLaws.{length-current, every-behind, keptAt, current-set}
+use Rattle.members.proofs.RowLaws.{row, DroppedOn, kept-again, length-current, every-behind, keptAt, current-set}
 use Rattle.members.proofs.RowRuleLaws.{empty-is}
 use Rattle.book.specs.Books.{Stated, withinRule, rowsIn, rowsAt, placesAt, withRow}
 use Rattle.book.proofs.VisitLaws.{take-current}
@@ -27,12 +26,13 @@ module _ (b : Stated) (time at : ℕ) (r : Row) (there : at < length (rowsAt b t
       take-set-lt (b .plan .rows) (placesAt b time) at r among-rows ∙ ap (λ (rs : List Row). set rs at r) (take-current time (b .plan .rows) (b .places))
 
   -- the rows at a later time are those of then, with this one written
-  pub rows-later : (later : ℕ) → inOrder time later ≡ true → rowsAt (withRow b time at r) later ≡ set (rowsAt b later) at (keptAt later at r)
-  rows-later later o = ap (current later) rows-written ∙ current-set time later o (rowsIn b) at r
+  pub rows-later : (later : ℕ) → ((i : ℕ) → (i ≡ 0 → ⊥) → DroppedOn time later (row (rowsIn b) i))
+      → rowsAt (withRow b time at r) later ≡ set (rowsAt b later) at (keptAt later at r)
+  rows-later later dropped = ap (current later) rows-written ∙ current-set time later (rowsIn b) dropped at r
 
   -- where the row is not silent, it is among the rows at that time
   pub rows-at-written : kept time r ≡ r → rowsAt (withRow b time at r) time ≡ set (rowsAt b time) at r
-  rows-at-written e = rows-later time (in-order-self time) ∙ ap (set (rowsAt b time) at) (kept-at at)
+  rows-at-written e = rows-later time (λ i z. kept-again time (row (rowsIn b) i)) ∙ ap (set (rowsAt b time) at) (kept-at at)
     where
       kept-at : (at : ℕ) → keptAt time at r ≡ r
       kept-at zero = refl

@@ -96,16 +96,17 @@ pub record SameHolding (b : Stated) (time : ℕ) (b′ : Stated) (time′ : ℕ)
   pub row : rowFor unit (rowsAt b′ time′) ≡ rowFor unit (rowsAt b time)
   pub slots : holding b′ unit time′ ≡ holding b unit time
 
--- a call about another unit changes neither a unit's row nor its slots, at its time and at every later one
+-- a call about another unit changes neither a unit's row nor its slots, at its time and at every later one that the book as it was would accept
 abbrev pub OthersStay : Type 0
 OthersStay =
-    (b : Stated) (c : Call) (unit later : ℕ) → address unit ≡ true → (unit ≡ unitOf c → ⊥) → inOrder (timeOf c) later ≡ true
+    (b : Stated) (c : Call) (unit later : ℕ) → address unit ≡ true → (unit ≡ unitOf c → ⊥) → inOrder (b .time) later ≡ true → inOrder (timeOf c) later ≡ true
     → SameHolding b later (next b c) later unit
 
--- as long as a unit is live its row and its slots stay, while no call is made
+-- as long as a unit is live its row and its slots stay, while no call is made: between a time that the book would accept and a later one that it would too
 abbrev pub StaysWhileLive : Type 0
 StaysWhileLive =
-    (b : Stated) (unit time later : ℕ) → withinRule b ≡ true → address unit ≡ true → inOrder time later ≡ true → liveAt b unit later ≡ true
+    (b : Stated) (unit time later : ℕ) → withinRule b ≡ true → address unit ≡ true → inOrder (b .time) time ≡ true → inOrder time later ≡ true
+    → inOrder (b .time) later ≡ true → liveAt b unit later ≡ true
     → SameHolding b time b later unit
 
 -- which calls leave a live member what it has

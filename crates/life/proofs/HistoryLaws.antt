@@ -1,24 +1,27 @@
--- What holds of calls one after the other: the statements of specs/Laws on lists of calls, proved.
+-- What holds of calls one after the other: the statements of specs/Laws on lists of calls, proved, but for those on silence and true time.
 -- Assumes nothing.
-use mathlib.Core.Path.{_≡_, refl, sym, ap, subst}
-use mathlib.Core.Bool.{Bool, true, false, not, _||_, false≢true, and-eq-true-iff}
+use mathlib.Core.Path.{_≡_, refl, sym, ap, subst, _∙_}
+use mathlib.Core.Bool.{Bool, true, false, not, _&&_, false≢true}
 use mathlib.Core.List.{List, [], _∷_}
-use Prim.Native.Nat.{ℕ, zero, suc, _*_, _<_, _≤_}
+use Prim.Native.Nat.{ℕ, zero, suc, _+_, _<_, _≤_, _^_}
 use native.Mathlib.Omega.{arith}
-use borrow.Author.Tests.{lt-ltb, le-ltb, eq-eqb, eqb-true, eqb-false, leb-true}
-use lib.Dec.{eqb, ltb}
+use borrow.Author.Tests.{eq-eqb, eqb-true, eqb-false}
+use lib.Dec.{eqb}
 use Rattle.octets.specs.Answers.{Reason, reason, first}
 use Rattle.octets.specs.Lists.{every}
 use Rattle.octets.proofs.AnswerLaws.{numbered, never-given}
 use Rattle.octets.proofs.CallLaws.{after-refused}
-use Rattle.octets.proofs.TestLaws.{of-choice}
+use Rattle.octets.proofs.TestLaws.{of-cond}
+use Rattle.moments.specs.Elapsed.{Clock, started, nowAt}
 use Rattle.moments.specs.Moments.{ageAt, inOrder}
-use Rattle.life.specs.States.{Discovery, Joining, Normal, Recovery, Stopped, Nowhere, ready, beacon, accepted, roleChange, recovered, known, leadsTo, tickTo}
+use Rattle.life.specs.States.{Discovery, Joining, Normal, Stopped, Nowhere, ready, beacon, accepted, roleChange, recovered, known, leadsTo}
 use Rattle.life.specs.declared.state.State.{State}
 use Rattle.life.specs.Calls.{withinRule, freshState, reasons, onEvent, superframeRule, onTick, gone}
-use Rattle.life.specs.Histories.{Call, event, tick, timeOf, answer, run, allAt, early, quiet}
-use Rattle.life.specs.Laws.{StaysWithinRule, wrongSuperframe, OnlyForSuperframes, RefusedKeeps, NoOtherTrap, NoticesSilence}
-use Rattle.moments.proofs.MomentLaws.{in-order-self}
+use Rattle.life.specs.Histories.{Call, event, tick, timeOf, answer, run, allAt, sinceTick}
+use Rattle.life.specs.Laws.{Ticking, StaysWithinRule, LeavesRule, wrongSuperframe, OnlyForSuperframes, RefusedKeeps, NoOtherTrap}
+use Rattle.moments.proofs.MomentLaws.{in-order-self, no-age, ages-add, young-in-order}
+use Rattle.life.proofs.TableLaws.{joining-in-time}
+use Rattle.life.proofs.StepLaws.{within, entered-by, target, hears, Taken, taken, taken-within}
 use Rattle.life.proofs.LifeLaws.{keeps-rule, stays-stopped}
 
 -- ---- a call that is refused, and one that is not
@@ -28,38 +31,80 @@ refused-keeps s (event number time) z = after-refused (onEvent s number time .re
 refused-keeps s (tick ms time) z = after-refused (onTick s ms time .refused) s _ z
 
 -- so what holds of a state holds after a refused call
-refused-stays : (P : State → Type 0) (s : State) (c : Call) → P s → eqb (answer s c .refused) 0 ≡ false → P (answer s c .state)
+pub refused-stays : (P : State → Type 0) (s : State) (c : Call) → P s → eqb (answer s c .refused) 0 ≡ false → P (answer s c .state)
 refused-stays P s c h e = subst P (sym (refused-keeps s c (eqb-false (answer s c .refused) 0 e))) h
 
--- an accepted call records its time
-pub accepted-last : (s : State) (c : Call) → answer s c .refused ≡ 0 → answer s c .state .last ≡ timeOf c
-unfolding onEvent onTick gone
-accepted-last s (event number time) e = rw (eq-eqb (onEvent s number time .refused) 0 e)
-accepted-last s (tick ms time) e = rw (eq-eqb (onTick s ms time .refused) 0 e)
-
--- an accepted event goes where the table leads
-pub event-leads : (s : State) (number time : ℕ) → onEvent s number time .refused ≡ 0 → onEvent s number time .state .kind ≡ leadsTo (s .kind) number
-unfolding onEvent gone
-event-leads s number time e = rw (eq-eqb (onEvent s number time .refused) 0 e)
+-- an accepted call goes where the table leads
+pub accepted-kind : (s : State) (c : Call) → answer s c .refused ≡ 0 → answer s c .state .kind ≡ target s c
+unfolding gone
+accepted-kind s c e = rw (taken s c e .gives)
 
 -- ---- the rule
-pub accepted-within : (s : State) (c : Call) → answer s c .refused ≡ 0 → withinRule (answer s c .state) ≡ true
-accepted-within s (event number time) z = keeps-rule .1 s time .0 number z
-accepted-within s (tick ms time) z = keeps-rule .1 s time .1 ms z
+-- a state within rule that in Joining was entered not long before the last accepted tick, by a clock that began with that
+record Young (since : Clock) (s : State) : Type 0 where
+  rule : withinRule s ≡ true
+  last : since .last ≡ s .last
+  joining : s .kind ≡ Joining → ageAt (s .last) (s .entered) ≤ since .elapsed + 10000
 
-next-within : (s : State) (c : Call) → withinRule s ≡ true → withinRule (answer s c .state) ≡ true
-next-within s c w = go (eqb (answer s c .refused) 0) refl
-  where
-    go : (b : Bool) → eqb (answer s c .refused) 0 ≡ b → withinRule (answer s c .state) ≡ true
-    go true e = accepted-within s c (eqb-true (answer s c .refused) 0 e)
-    go false e = refused-stays (λ s. withinRule s ≡ true) s c w e
+-- the age of the entry at an accepted time
+entry-age : {since : Clock} {s : State} (c : Call) → Young since s → Taken s c → s .kind ≡ Joining
+    → ageAt (timeOf c) (s .entered) ≤ nowAt since (timeOf c) + 10000
+entry-age {since} {s} c y t here =
+    let past = within s (y .rule) .entry (rw here) in
+    rw (y .last) (omega (arith, ages-add (s .entered) (s .last) (timeOf c) past (t .ordered), y .joining here))
 
-run-within : (s : State) (cs : List Call) → withinRule s ≡ true → withinRule (run s cs) ≡ true
-run-within s [] w = w
-run-within s (c ∷ cs) w = run-within (answer s c .state) cs (next-within s c w)
+-- what an accepted call gives, by a clock that shows its time
+taken-young : (since : Clock) {s : State} {c : Call} → Taken s c → withinRule (answer s c .state) ≡ true → since .last ≡ timeOf c
+    → (s .kind ≡ Joining → target s c ≡ s .kind → ageAt (timeOf c) (s .entered) ≤ since .elapsed + 10000) → Young since (answer s c .state)
+unfolding gone
+taken-young since {s} {c} t rule last kept =
+    record {
+      rule = rule;
+      last = rw (t .gives) last;
+      joining =
+          rw (t .gives)
+          (λ here.
+          entered-by (λ entered. ageAt (timeOf c) entered ≤ since .elapsed + 10000) s (target s c) (hears c) (timeOf c) (omega (arith, no-age (timeOf c)))
+          (λ same. kept (sym same ∙ here) same));
+    }
+
+event-young : (since : Clock) (s : State) (number time : ℕ) → Young since s → onEvent s number time .refused ≡ 0 → nowAt since time + 10000 < 2 ^ 31
+    → Young (record { last = time; elapsed = nowAt since time }) (onEvent s number time .state)
+event-young since s number time y z bound =
+    let c = event number time in
+    let t = taken s c z in
+    let near : s .kind ≡ Joining → inOrder (s .entered) time ≡ true =
+    λ here. young-in-order time (s .entered) (nowAt since time + 10000) bound (entry-age c y t here) in
+    taken-young (record { last = time; elapsed = nowAt since time }) t (taken-within s c t (λ here heard. near here)) refl
+    (λ here same. entry-age c y t here)
+
+tick-young : (s : State) (ms time : ℕ) → onTick s ms time .refused ≡ 0 → Young (started time) (onTick s ms time .state)
+tick-young s ms time z =
+    taken-young (started time) (taken s (tick ms time) z) (keeps-rule .1 s time .1 ms z) refl
+    (λ here same. joining-in-time (ageAt time (s .entered)) (ageAt time (s .beacon)) ms (rw here at same))
+
+next-young : (since : Clock) (s : State) (c : Call) → Young since s → (answer s c .refused ≡ 0 → nowAt since (timeOf c) + 10000 < 2 ^ 31)
+    → Young (sinceTick since s c) (answer s c .state)
+next-young since s (event number time) y bound =
+    of-cond (λ k. Young k (onEvent s number time .state)) (eqb (onEvent s number time .refused) 0) _ since
+    (λ e. let z = eqb-true (onEvent s number time .refused) 0 e in event-young since s number time y z (bound z))
+    (λ e. refused-stays (Young since) s (event number time) y e)
+next-young since s (tick ms time) y bound =
+    of-cond (λ k. Young k (onTick s ms time .state)) (eqb (onTick s ms time .refused) 0) _ since
+    (λ e. tick-young s ms time (eqb-true (onTick s ms time .refused) 0 e))
+    (λ e. refused-stays (Young since) s (tick ms time) y e)
+
+run-young : (since : Clock) (s : State) (cs : List Call) → Young since s → Ticking since s cs → withinRule (run s cs) ≡ true
+run-young since s [] y h = y .rule
+run-young since s (c ∷ cs) y (bound, rest) = run-young (sinceTick since s c) (answer s c .state) cs (next-young since s c y (λ z. omega (arith, bound z))) rest
 
 pub stays-within-rule : StaysWithinRule
-stays-within-rule began cs = run-within (freshState began) cs (keeps-rule .0 began)
+stays-within-rule began cs =
+    run-young (started began) (freshState began) cs (record { rule = keeps-rule .0 began; last = refl; joining = λ e. omega (arith, no-age began) })
+
+pub leaves-rule : LeavesRule
+unfolding onEvent leadsTo gone ageAt inOrder
+leaves-rule = refl
 
 -- 14 is then the call's own
 never-fourteen : (s : State) (time : ℕ) (own : Reason) → withinRule s ≡ true → (own .number ≡ 14 → own .holds ≡ false) → first (reasons s time own) ≡ 14 → ⊥
@@ -75,7 +120,7 @@ only-superframes s (tick ms time) w e = go (superframeRule ms) refl
     go false q = refl
 
 pub only-for-superframes : OnlyForSuperframes
-only-for-superframes began cs c = only-superframes (run (freshState began) cs) c (stays-within-rule began cs)
+only-for-superframes began cs c ticking = only-superframes (run (freshState began) cs) c (stays-within-rule began cs ticking)
 
 -- ---- Stopped
 pub run-stopped : (s : State) (cs : List Call) → s .kind ≡ Stopped → run s cs .kind ≡ Stopped
@@ -91,14 +136,15 @@ record Ready (s : State) (time kind : ℕ) : Type 0 where
   pub here : s .kind ≡ kind
 
 -- an event that the table lists leads a ready state to one that is ready at the same time
-led : {s : State} {time kind : ℕ} (number to : ℕ) → leadsTo kind number ≡ to → eqb to Nowhere ≡ false → Ready s time kind → Ready (onEvent s number time .state) time to
+led : {s : State} {time kind : ℕ} (number to : ℕ) → leadsTo kind number ≡ to → eqb to Nowhere ≡ false → (eqb kind Joining && eqb number beacon) ≡ false
+    → Ready s time kind → Ready (onEvent s number time .state) time to
 unfolding onEvent gone
-led {s} {time} {kind} number to e known r =
+led {s} {time} {kind} number to e known other r =
     let leads : leadsTo (s .kind) number ≡ to = rw (r .here) e in
     let allowed : onEvent s number time .refused ≡ 0 = rw (r .within, r .ordered, leads, known) in
     let taken : eqb (onEvent s number time .refused) 0 ≡ true = eq-eqb (onEvent s number time .refused) 0 allowed in
     record {
-      within = keeps-rule .1 s time .0 number allowed;
+      within = keeps-rule .1 s time .0 number allowed (λ here heard. absurd (false≢true (sym (rw (sym (r .here) ∙ here, heard) at other))));
       ordered = rw taken (in-order-self time);
       here = rw taken leads;
     }
@@ -108,52 +154,11 @@ unfolding leadsTo every
 no-other-trap s time within running ordered = go (s .kind) (record { within = within; ordered = ordered; here = refl }) running
   where
     go : (kind : ℕ) → Ready s time kind → kind < Stopped → (es : List ℕ) × (every known es ≡ true) × (run s (allAt es time) .kind ≡ Normal)
-    go zero r h = (ready ∷ beacon ∷ accepted ∷ [], refl, led accepted Normal refl refl (led beacon Joining refl refl (led ready Discovery refl refl r)) .here)
-    go (suc zero) r h = (beacon ∷ accepted ∷ [], refl, led accepted Normal refl refl (led beacon Joining refl refl r) .here)
-    go (suc (suc zero)) r h = (accepted ∷ [], refl, led accepted Normal refl refl r .here)
+    go zero r h = (ready ∷ beacon ∷ accepted ∷ [], refl, led accepted Normal refl refl refl (led beacon Joining refl refl refl (led ready Discovery refl refl refl r)) .here)
+    go (suc zero) r h = (beacon ∷ accepted ∷ [], refl, led accepted Normal refl refl refl (led beacon Joining refl refl refl r) .here)
+    go (suc (suc zero)) r h = (accepted ∷ [], refl, led accepted Normal refl refl refl r .here)
     go (suc (suc (suc zero))) r h = ([], refl, r .here)
-    go (suc (suc (suc (suc zero)))) r h = (roleChange ∷ [], refl, led roleChange Normal refl refl r .here)
+    go (suc (suc (suc (suc zero)))) r h = (roleChange ∷ [], refl, led roleChange Normal refl refl refl r .here)
     go (suc (suc (suc (suc (suc zero))))) r h =
-        (recovered ∷ beacon ∷ accepted ∷ [], refl, led accepted Normal refl refl (led beacon Joining refl refl (led recovered Discovery refl refl r)) .here)
+        (recovered ∷ beacon ∷ accepted ∷ [], refl, led accepted Normal refl refl refl (led beacon Joining refl refl refl (led recovered Discovery refl refl refl r)) .here)
     go (suc (suc (suc (suc (suc (suc k)))))) r h = absurd (omega arith)
-
--- ---- silence
--- what one accepted tick in Normal does
-one-tick : (s : State) (ms time : ℕ) → s .kind ≡ Normal → onTick s ms time .refused ≡ 0
-    → (3 * ms < ageAt time (s .beacon) → onTick s ms time .state .kind ≡ Recovery)
-    × (ageAt time (s .beacon) ≤ 3 * ms → onTick s ms time .state .kind ≡ Normal)
-unfolding onTick tickTo gone
-one-tick s ms time normal e =
-    let taken : eqb (onTick s ms time .refused) 0 ≡ true = eq-eqb (onTick s ms time .refused) 0 e in
-    (λ silent. rw (taken, normal, lt-ltb _ _ silent), λ heard. rw (taken, normal, le-ltb _ _ heard))
-
--- a unit in Normal whose last beacon was at a time
-record Hearing (heard : ℕ) (s : State) : Type 0 where
-  pub normal : s .kind ≡ Normal
-  pub last : s .beacon ≡ heard
-
--- a tick no more than three superframes after that beacon leaves it so
-early-stays : {heard : ℕ} {s : State} (c : Call) → Hearing heard s → early heard c ≡ true → Hearing heard (answer s c .state)
-unfolding onTick tickTo gone
-early-stays (event number time) h e = absurd (false≢true e)
-early-stays {heard} {s} (tick ms time) h e =
-    let in-time : ltb (3 * ms) (ageAt time (s .beacon)) ≡ false = le-ltb (3 * ms) (ageAt time (s .beacon)) (rw (h .last) (leb-true _ _ e)) in
-    of-choice (Hearing heard) (eqb (onTick s ms time .refused) 0) (record { normal = rw (h .normal, in-time); last = rw (h .normal, in-time) (h .last) }) h
-
-stays : {heard : ℕ} {s : State} (c : Call) → Hearing heard s → (not (eqb (answer s c .refused) 0) || early heard c) ≡ true → Hearing heard (answer s c .state)
-stays {heard} {s} c h e = go (eqb (answer s c .refused) 0) refl e
-  where
-    go : (b : Bool) → eqb (answer s c .refused) 0 ≡ b → (not b || early heard c) ≡ true → Hearing heard (answer s c .state)
-    go true q e = early-stays c h e
-    go false q e = refused-stays (Hearing heard) s c h q
-
-stays-all : {heard : ℕ} (s : State) (cs : List Call) → Hearing heard s → quiet heard s cs ≡ true → Hearing heard (run s cs)
-stays-all s [] h q = h
-stays-all {heard} s (c ∷ cs) h q =
-    let (here, later) = and-eq-true-iff (not (eqb (answer s c .refused) 0) || early heard c) (quiet heard (answer s c .state) cs) .0 q in
-    stays-all (answer s c .state) cs (stays c h here) later
-
-pub notices-silence : NoticesSilence
-notices-silence s cs ms time normal q e =
-    let h : Hearing (s .beacon) (run s cs) = stays-all s cs (record { normal = normal; last = refl }) q in
-    rw (h .last) at (one-tick (run s cs) ms time (h .normal) e)

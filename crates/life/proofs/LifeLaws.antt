@@ -1,29 +1,28 @@
 -- What holds of every call: the statements of specs/Laws on one call, proved.
 -- Assumes nothing.
-use mathlib.Core.Path.{_≡_}
-use mathlib.Core.Bool.{false}
-use borrow.Author.Tests.{eq-eqb}
+use mathlib.Core.Path.{_≡_, refl}
+use mathlib.Core.Bool.{false, false≢true}
+use borrow.Author.Tests.{eq-eqb, eqb-true}
 use lib.Dec.{eqb}
 use Rattle.octets.proofs.TestLaws.{of-choice}
-use Rattle.life.specs.States.{Stopped, leadsTo, tickTo}
+use Rattle.life.specs.States.{Stopped, beacon, leadsTo, tickTo}
 use Rattle.life.specs.declared.state.State.{State}
 use Rattle.life.specs.Calls.{onEvent, onTick, gone}
+use Rattle.life.specs.Histories.{event, tick}
 use Rattle.life.specs.Laws.{KeepsRule, StaysStopped, StartsAnew}
-use Rattle.moments.proofs.MomentLaws.{in-order-self}
-use Rattle.life.proofs.TableLaws.{leads-known, tick-known, stays-normal}
-use Rattle.life.proofs.StepLaws.{passed, allowed, keeps, refused-anyhow, records}
+use Rattle.life.proofs.TableLaws.{stays-normal}
+use Rattle.life.proofs.StepLaws.{taken, taken-within, refused-anyhow, records}
 
 pub keeps-rule : KeepsRule
-unfolding onEvent onTick
 keeps-rule = (
-  λ time. rw (in-order-self time),
+  λ time. refl,
   λ s time. (
-    λ event e.
-        let a = allowed s time _ e in
-        rw (eq-eqb (onEvent s event time .refused) 0 e) (keeps _ _ a (leads-known (s .kind) event (passed _ 6 0 (a .none) .0))),
+    λ number e joining.
+        let c = event number time in
+        taken-within s c (taken s c e) (λ here heard. joining here (eqb-true number beacon heard)),
     λ ms e.
-        let a = allowed s time _ e in
-        rw (eq-eqb (onTick s ms time .refused) 0 e) (keeps _ _ a (tick-known (s .kind) _ _ _ (a .known))),
+        let c = tick ms time in
+        taken-within s c (taken s c e) (λ here heard. absurd (false≢true heard)),
   ),
 )
 
@@ -38,5 +37,5 @@ stays-stopped s time stopped = (
 
 pub starts-anew : StartsAnew
 unfolding onEvent
-starts-anew s event time e normal =
-    rw (eq-eqb (onEvent s event time .refused) 0 e, normal) (records s _ time (λ k. stays-normal event (rw (← k) at normal)))
+starts-anew s number time e normal =
+    rw (eq-eqb (onEvent s number time .refused) 0 e, normal) (records s _ time (λ k. stays-normal number (rw (← k) at normal)))

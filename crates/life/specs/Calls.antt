@@ -8,11 +8,19 @@ use Rattle.octets.specs.Answers.{Reason, reason, first}
 use Rattle.moments.specs.Moments.{ageAt, inOrder}
 use Rattle.life.specs.declared.state.State.{State}
 use Rattle.life.specs.declared.state.Lived.{Lived}
-use Rattle.life.specs.States.{Initializing, Normal, Stopped, Nowhere, beacon, leadsTo, tickTo}
+use Rattle.life.specs.States.{Initializing, Discovery, Joining, Normal, Recovery, Stopped, Nowhere, beacon, leadsTo, tickTo}
 
--- a state is within rule: its kind is known, and it was entered and heard its last beacon no later than the last accepted time
+-- the kinds whose time runs from their entry
+abbrev pub runsFromEntry : ℕ → Bool
+runsFromEntry kind = eqb kind Discovery || eqb kind Joining || eqb kind Recovery
+
+-- a state is within rule: its kind is known, and the time that its kind acts on is in order with the last accepted one, its entry where the time runs from
+-- that, its last beacon in Normal. No other time is judged
 abbrev pub withinRule : State → Bool
-withinRule s = leb (s .kind) Stopped && inOrder (s .entered) (s .last) && inOrder (s .beacon) (s .last)
+withinRule s =
+    leb (s .kind) Stopped
+    && (not (runsFromEntry (s .kind)) || inOrder (s .entered) (s .last))
+    && (not (eqb (s .kind) Normal) || inOrder (s .beacon) (s .last))
 
 -- fresh: Initializing, with the given time for all three
 abbrev pub freshState : ℕ → State

@@ -1,10 +1,10 @@
 -- Calls one after the other: where they lead a unit.
 -- Assumes nothing.
 use Prim.Native.Nat.{ℕ, _*_}
-use mathlib.Core.Bool.{Bool, true, false, not, _&&_, _||_}
+use mathlib.Core.Bool.{Bool, true, false, not, _&&_, _||_, cond}
 use mathlib.Core.List.{List, [], _∷_, map}
 use lib.Dec.{eqb, leb}
-use Rattle.moments.specs.Moments.{ageAt}
+use Rattle.moments.specs.Elapsed.{Clock, started, nowAt, Step, moved}
 use Rattle.life.specs.declared.state.State.{State}
 use Rattle.life.specs.declared.state.Lived.{Lived}
 use Rattle.life.specs.Calls.{onEvent, onTick}
@@ -19,6 +19,10 @@ abbrev pub timeOf : Call → ℕ
 timeOf (event number time) = time
 timeOf (tick ms time) = time
 
+abbrev pub isTick : Call → Bool
+isTick (event number time) = false
+isTick (tick ms time) = true
+
 abbrev pub answer : State → Call → Lived
 answer s (event number time) = onEvent s number time
 answer s (tick ms time) = onTick s ms time
@@ -32,12 +36,26 @@ run s (c ∷ cs) = run (answer s c .state) cs
 abbrev pub allAt : List ℕ → ℕ → List Call
 allAt numbers time = map (λ number. event number time) numbers
 
--- a tick no more than three superframes after a beacon
-abbrev pub early : ℕ → Call → Bool
-early heard (event number time) = false
-early heard (tick ms time) = leb (ageAt time heard) (3 * ms)
+-- ---- elapsed time
+-- a call as a step of it: every call that is accepted counts
+abbrev pub stepOf : State → Call → Step
+stepOf s c = record { time = timeOf c; changes = eqb (answer s c .refused) 0 }
 
--- since the beacon that was heard at a time, each call was refused or was such a tick: no beacon was heard, and silence was not yet noticed
-abbrev pub quiet : ℕ → State → List Call → Bool
-quiet heard s [] = true
-quiet heard s (c ∷ cs) = (not (eqb (answer s c .refused) 0) || early heard c) && quiet heard (answer s c .state) cs
+abbrev pub stepsOf : State → List Call → List Step
+stepsOf s [] = []
+stepsOf s (c ∷ cs) = stepOf s c ∷ stepsOf (answer s c .state) cs
+
+-- a tick no more than three superframes after a beacon, by a clock that began with it
+abbrev pub early : Clock → Call → Bool
+early since (event number time) = false
+early since (tick ms time) = leb (nowAt since time) (3 * ms)
+
+-- since that beacon each call was refused or was such a tick: no beacon was heard, and silence was not yet noticed
+abbrev pub quiet : Clock → State → List Call → Bool
+quiet since s [] = true
+quiet since s (c ∷ cs) = (not (eqb (answer s c .refused) 0) || early since c) && quiet (moved since (stepOf s c)) (answer s c .state) cs
+
+-- the clock that began with the last accepted tick, or with the start, after one more call
+abbrev pub sinceTick : Clock → State → Call → Clock
+sinceTick since s (event number time) = moved since (stepOf s (event number time))
+sinceTick since s (tick ms time) = cond (eqb (onTick s ms time .refused) 0) (started time) since

@@ -36,9 +36,14 @@ impl State {
     fn within_rule(self) -> bool
         ensures { λ r. ⌜ r ≡ withinRule self ⌝ }
     {
-        (self.kind <= State::STOPPED)
-            & in_order(self.entered, self.last)
-            & in_order(self.beacon, self.last)
+        let known = self.kind <= State::STOPPED;
+        let runs = (self.kind == State::DISCOVERY)
+            | (self.kind == State::JOINING)
+            | (self.kind == State::RECOVERY);
+        let normal = self.kind == State::NORMAL;
+        known
+            & (!runs | in_order(self.entered, self.last))
+            & (!normal | in_order(self.beacon, self.last))
     }
 
     // The state that goes to a kind: a change of it is an entry, and entry into Normal counts as a beacon.

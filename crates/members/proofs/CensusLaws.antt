@@ -36,8 +36,8 @@ module _ (ms : List Member) (n : ℕ) (l : length ms ≡ 21) (i : ℕ) (e : i �
   counted-start =
       record { place = omega (arith, e); long = l; holds = mask-nothing ∙ sym (ap held none); free = sym (ap vacant none); few = omega (arith, e) }
 
-  pub judged-start : (dataSlots last : ℕ) → true ≡ judged dataSlots last (from ms n i)
-  judged-start dataSlots last = sym (ap (judged dataSlots last) none)
+  pub judged-start : (manager dataSlots last : ℕ) → true ≡ judged manager dataSlots last (from ms n i)
+  judged-start manager dataSlots last = sym (ap (judged manager dataSlots last) none)
 
   pub found-start : (unit : ℕ) → i ≡ i + rowFor unit (from ms n i)
   unfolding rowFor
@@ -76,10 +76,10 @@ module _ {ms : List Member} {n i all found : ℕ} (k : Counted ms n i all found)
       few true = omega (arith, k .few, h)
       few false = omega (arith, k .few, h)
 
-  pub judged-turn : (dataSlots last : ℕ) (good ruled apart : Bool) → good ≡ judged dataSlots last (from ms n i)
-      → ruled ≡ rowRule dataSlots last (rowOf member) → apart ≡ disjoint (slotsOf (member .slots)) (slotsOf all)
-      → (ruled && apart && good) ≡ judged dataSlots last (from ms n (i - 1))
-  judged-turn dataSlots last good ruled apart g r a = rw (r, a, g, k .holds) (sym (ap (judged dataSlots last) below))
+  pub judged-turn : (manager dataSlots last : ℕ) (good ruled apart : Bool) → good ≡ judged manager dataSlots last (from ms n i)
+      → ruled ≡ rowRule manager dataSlots last (rowOf member) → apart ≡ disjoint (slotsOf (member .slots)) (slotsOf all)
+      → (ruled && apart && good) ≡ judged manager dataSlots last (from ms n (i - 1))
+  judged-turn manager dataSlots last good ruled apart g r a = rw (r, a, g, k .holds) (sym (ap (judged manager dataSlots last) below))
 
   pub found-turn : (unit at at′ : ℕ) → at ≡ i + rowFor unit (from ms n i) → at′ ≡ cond (eqb (member .unit) unit) (i - 1) at
       → at′ ≡ (i - 1) + rowFor unit (from ms n (i - 1))

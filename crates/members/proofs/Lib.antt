@@ -7,3 +7,4 @@ pub mod RowLoopLaws
 pub mod RowRuleLaws
 pub mod RowSums
 pub mod SeatLaws
+pub mod TimedLaws

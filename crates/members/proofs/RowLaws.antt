@@ -3,6 +3,7 @@
 use mathlib.Core.Path.{_≡_, refl, sym, ap, ap₂, _∙_}
 use mathlib.Core.Bool.{Bool, true, false, cond, and-eq-true-iff}
 use mathlib.Core.List.{List, [], _∷_, map}
+use mathlib.Core.Logic.{_⊎_, inl, inr}
 use Prim.Native.Nat.{ℕ, zero, suc}
 use native.Mathlib.Decide.{ℕ-discrete}
 use native.Mathlib.Omega.{arith}
@@ -11,7 +12,7 @@ use lib.Dec.{leb}
 use lib.ListN.{length, getD, set, drop, length-map, List·getD-map}
 use Rattle.octets.specs.Lists.{every}
 use Rattle.moments.specs.Moments.{ageAt, inOrder}
-use Rattle.moments.proofs.MomentLaws.{older}
+use Rattle.moments.proofs.MomentLaws.{older-on}
 use Rattle.members.specs.Members.{Row, emptyRow, kept, current}
 
 -- the row at a place, zeros past the end
@@ -75,15 +76,36 @@ every-behind test empty time (suc n) (r ∷ rs) e = go n rs e
 pub kept-empty : (time : ℕ) → kept time emptyRow ≡ emptyRow
 kept-empty time = kept-either (λ k. k ≡ emptyRow) time emptyRow (λ e. refl) refl
 
+-- a row's time is in order with the last accepted one, or the row is empty
+abbrev pub Timed : ℕ → Row → Type 0
+Timed last r = (r ≡ emptyRow) ⊎ (inOrder (r .time) last ≡ true)
+
+-- two steps from the last accepted time that are one as well
+pub record Steps (last time later : ℕ) : Type 0 where
+  pub one : inOrder last time ≡ true
+  pub two : inOrder time later ≡ true
+  pub both : inOrder last later ≡ true
+
 -- a row that is dropped at a time is dropped at every later one
-kept-later : (time later : ℕ) → inOrder time later ≡ true → (r : Row) → kept later (kept time r) ≡ kept later r
-kept-later time later o r = go (leb (ageAt time (r .time)) 300000) refl
+abbrev pub DroppedOn : ℕ → ℕ → Row → Type 0
+DroppedOn time later r = kept later (kept time r) ≡ kept later r
+
+pub kept-later : (last time later : ℕ) → Steps last time later → (r : Row) → Timed last r → DroppedOn time later r
+kept-later last time later s r (inl e) = rw (e, kept-empty time)
+kept-later last time later s r (inr p) = go (leb (ageAt time (r .time)) 300000) refl
   where
     go : (b : Bool) → leb (ageAt time (r .time)) 300000 ≡ b → kept later (cond b r emptyRow) ≡ kept later r
     go true e = refl
     go false e =
-        let silent = lt-leb (ageAt later (r .time)) 300000 (omega (arith, leb-false (ageAt time (r .time)) 300000 e, older time later (r .time) o)) in
+        let silent = lt-leb (ageAt later (r .time)) 300000 (omega (arith, leb-false (ageAt time (r .time)) 300000 e, older-on (r .time) last time later p (s .one) (s .two) (s .both))) in
         kept-empty later ∙ rw silent
+
+pub kept-again : (time : ℕ) (r : Row) → DroppedOn time time r
+kept-again time r = go (leb (ageAt time (r .time)) 300000) refl
+  where
+    go : (b : Bool) → leb (ageAt time (r .time)) 300000 ≡ b → kept time (cond b r emptyRow) ≡ cond b r emptyRow
+    go true e = rw e
+    go false e = kept-empty time
 
 cons : {a b : Row} {l m : List Row} → a ≡ b → l ≡ m → a ∷ l ≡ b ∷ m
 cons p q = ap₂ _∷_ p q
@@ -93,22 +115,24 @@ abbrev pub keptAt : ℕ → ℕ → Row → Row
 keptAt time zero r = r
 keptAt time (suc at) r = kept time r
 
-module _ (time later : ℕ) (o : inOrder time later ≡ true) where
-  dropped-later : (rs : List Row) → map (kept later) (map (kept time) rs) ≡ map (kept later) rs
-  dropped-later [] = refl
-  dropped-later (a ∷ rs) = cons (kept-later time later o a) (dropped-later rs)
+module _ (time later : ℕ) where
+  dropped-later : (rs : List Row) → ((i : ℕ) → DroppedOn time later (row rs i)) → map (kept later) (map (kept time) rs) ≡ map (kept later) rs
+  dropped-later [] d = refl
+  dropped-later (a ∷ rs) d = cons (d 0) (dropped-later rs (λ i. d (suc i)))
 
-  dropped-set : (rs : List Row) (at : ℕ) (r : Row) → map (kept later) (set (map (kept time) rs) at r) ≡ set (map (kept later) rs) at (kept later r)
-  dropped-set [] at r = refl
-  dropped-set (a ∷ rs) zero r = cons refl (dropped-later rs)
-  dropped-set (a ∷ rs) (suc at) r = cons (kept-later time later o a) (dropped-set rs at r)
+  dropped-set : (rs : List Row) → ((i : ℕ) → DroppedOn time later (row rs i)) → (at : ℕ) (r : Row)
+      → map (kept later) (set (map (kept time) rs) at r) ≡ set (map (kept later) rs) at (kept later r)
+  dropped-set [] d at r = refl
+  dropped-set (a ∷ rs) d zero r = cons refl (dropped-later rs (λ i. d (suc i)))
+  dropped-set (a ∷ rs) d (suc at) r = cons (d 0) (dropped-set rs (λ i. d (suc i)) at r)
 
   -- the rows of a time, one of them written, are at a later time the rows of then, with the same one written
-  pub current-set : (rs : List Row) (at : ℕ) (r : Row) → current later (set (current time rs) at r) ≡ set (current later rs) at (keptAt later at r)
+  pub current-set : (rs : List Row) → ((i : ℕ) → (i ≡ 0 → ⊥) → DroppedOn time later (row rs i)) → (at : ℕ) (r : Row)
+      → current later (set (current time rs) at r) ≡ set (current later rs) at (keptAt later at r)
   unfolding current
-  current-set [] at r = refl
-  current-set (a ∷ rs) zero r = cons refl (dropped-later rs)
-  current-set (a ∷ rs) (suc at) r = cons refl (dropped-set rs at r)
+  current-set [] d at r = refl
+  current-set (a ∷ rs) d zero r = cons refl (dropped-later rs (λ i. d (suc i) (λ z. omega (arith, z))))
+  current-set (a ∷ rs) d (suc at) r = cons refl (dropped-set rs (λ i. d (suc i) (λ z. omega (arith, z))) at r)
 
 -- ---- the row at a place, at a time
 pub first-stays : (time : ℕ) (rs : List Row) → row (current time rs) 0 ≡ row rs 0
@@ -131,14 +155,16 @@ still time rs i = go (ℕ-discrete i 0)
     go (no z) = rw (others-kept time rs i z) (kept-either (λ k. (k .unit ≡ 0 → ⊥) → k ≡ row rs i) time (row rs i) (λ e n. refl) (λ n. absurd (n refl)))
 
 -- and is so at every time before
-pub live-before : (time later : ℕ) → inOrder time later ≡ true → (rs : List Row) (i : ℕ) → (row (current later rs) i .unit ≡ 0 → ⊥) → row (current time rs) i ≡ row (current later rs) i
-live-before time later o rs zero n = first-stays time rs ∙ sym (first-stays later rs)
-live-before time later o rs (suc i) n =
+pub live-before : (last time later : ℕ) → Steps last time later → (rs : List Row) → ((i : ℕ) → (i ≡ 0 → ⊥) → Timed last (row rs i)) → (i : ℕ)
+    → (row (current later rs) i .unit ≡ 0 → ⊥) → row (current time rs) i ≡ row (current later rs) i
+live-before last time later s rs timed zero n = first-stays time rs ∙ sym (first-stays later rs)
+live-before last time later s rs timed (suc i) n =
     let now = others-kept later rs (suc i) (λ z. omega (arith, z)) in
-    others-kept time rs (suc i) (λ z. omega (arith, z)) ∙ (kept-before (row rs (suc i)) (rw now at n) ∙ sym now)
+    others-kept time rs (suc i) (λ z. omega (arith, z)) ∙ (kept-before (row rs (suc i)) (timed (suc i) (λ z. omega (arith, z))) (rw now at n) ∙ sym now)
   where
-    kept-before : (r : Row) → (kept later r .unit ≡ 0 → ⊥) → kept time r ≡ kept later r
-    kept-before r =
+    kept-before : (r : Row) → Timed last r → (kept later r .unit ≡ 0 → ⊥) → kept time r ≡ kept later r
+    kept-before r (inl e) = λ n. rw (e, kept-empty time, kept-empty later)
+    kept-before r (inr p) =
         kept-either (λ k. (k .unit ≡ 0 → ⊥) → kept time r ≡ k) later r
-        (λ e n. rw (le-leb (ageAt time (r .time)) 300000 (omega (arith, leb-true (ageAt later (r .time)) 300000 e, older time later (r .time) o))))
+        (λ e n. rw (le-leb (ageAt time (r .time)) 300000 (omega (arith, leb-true (ageAt later (r .time)) 300000 e, older-on (r .time) last time later p (s .one) (s .two) (s .both)))))
         (λ n. absurd (n refl))

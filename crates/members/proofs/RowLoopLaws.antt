@@ -104,11 +104,11 @@ module _ (time i : ℕ) (ms : List Member) (whole : List Row) (e : take i (rowsO
 
 -- ---- judging rows
 -- what one loop sees of the rows is what two of the rules say
-pub judged-all : (dataSlots last : ℕ) (rs : List Row) → judged dataSlots last rs ≡ (every (rowRule dataSlots last) rs && apart rs)
+pub judged-all : (manager dataSlots last : ℕ) (rs : List Row) → judged manager dataSlots last rs ≡ (every (rowRule manager dataSlots last) rs && apart rs)
 unfolding every
-judged-all dataSlots last [] = refl
-judged-all dataSlots last (r ∷ rs) =
-    rw (judged-all dataSlots last rs) (regroup (rowRule dataSlots last r) (disjoint (r .slots) (held rs)) (every (rowRule dataSlots last) rs) (apart rs))
+judged-all manager dataSlots last [] = refl
+judged-all manager dataSlots last (r ∷ rs) =
+    rw (judged-all manager dataSlots last rs) (regroup (rowRule manager dataSlots last r) (disjoint (r .slots) (held rs)) (every (rowRule manager dataSlots last) rs) (apart rs))
   where
     regroup : (r d e a : Bool) → (r && d && (e && a)) ≡ ((r && e) && (d && a))
     regroup true true e a = refl
@@ -123,13 +123,13 @@ led [] n l manager = absurd (omega (arith, l))
 led (m ∷ ms) zero l manager = refl
 led (m ∷ ms) (suc n) l manager = rw (lt-ltb 0 (suc n) (omega arith))
 
-pub rows-ruled : (ms : List Member) (n : ℕ) → length ms ≡ 21 → (manager dataSlots last : ℕ) (good unlike : Bool) (empty room : ℕ) → good ≡ judged dataSlots last (take n (rowsOf ms))
+pub rows-ruled : (ms : List Member) (n : ℕ) → length ms ≡ 21 → (manager dataSlots last : ℕ) (good unlike : Bool) (empty room : ℕ) → good ≡ judged manager dataSlots last (take n (rowsOf ms))
     → unlike ≡ distinct (take n (rowsOf ms)) → empty ≡ vacant (take n (rowsOf ms)) → room ≡ count (free dataSlots (take n (rowsOf ms)))
     → (ltb 0 n && eqb (getD ms 0 nobody .unit) manager && good && unlike && leb empty room) ≡ rowsRule manager dataSlots last (take n (rowsOf ms))
 unfolding rowsRule
 rows-ruled ms n l manager dataSlots last good unlike empty room g u e r =
-    rw (g, u, e, r, judged-all dataSlots last (take n (rowsOf ms)), ← led ms n l manager)
-    (regrouped (ltb 0 n && eqb (getD ms 0 nobody .unit) manager) (every (rowRule dataSlots last) (take n (rowsOf ms))) (distinct (take n (rowsOf ms))) (apart (take n (rowsOf ms))) _)
+    rw (g, u, e, r, judged-all manager dataSlots last (take n (rowsOf ms)), ← led ms n l manager)
+    (regrouped (ltb 0 n && eqb (getD ms 0 nobody .unit) manager) (every (rowRule manager dataSlots last) (take n (rowsOf ms))) (distinct (take n (rowsOf ms))) (apart (take n (rowsOf ms))) _)
   where
     regrouped : (x e d a v : Bool) → (x && (e && a) && d && v) ≡ (x && e && d && a && v)
     regrouped true true true true v = refl

@@ -14,11 +14,11 @@ use Rattle.members.specs.Members.{Row, vacantRow, held, free, vacant}
 abbrev pub emptyIs : Row → Bool
 emptyIs r = vacantRow r && isEmpty (r .slots) && eqb (r .time) 0
 
--- a row by itself: zeros, or an address with 1 to 4 of the data slots and a time that is not after the last accepted one
-abbrev pub rowRule : ℕ → ℕ → Row → Bool
-rowRule dataSlots last r =
+-- a row by itself: zeros, or an address with 1 to 4 of the data slots and, but for the manager, a time in order with the last accepted one
+abbrev pub rowRule : ℕ → ℕ → ℕ → Row → Bool
+rowRule manager dataSlots last r =
     cond (vacantRow r) (emptyIs r)
-    (address (r .unit) && (leb 1 (count (r .slots)) && leb (count (r .slots)) 4) && isEmpty (minus (r .slots) (firsts dataSlots)) && inOrder (r .time) last)
+    (address (r .unit) && (leb 1 (count (r .slots)) && leb (count (r .slots)) 4) && isEmpty (minus (r .slots) (firsts dataSlots)) && (eqb (r .unit) manager || inOrder (r .time) last))
 
 -- a unit has no other row among these
 abbrev pub unknownIn : ℕ → List Row → Bool
@@ -36,9 +36,9 @@ apart [] = true
 apart (r ∷ rs) = disjoint (r .slots) (held rs) && apart rs
 
 -- each row by itself, and its slots against those of the rows behind it, as one loop sees them
-abbrev pub judged : ℕ → ℕ → List Row → Bool
-judged dataSlots last [] = true
-judged dataSlots last (r ∷ rs) = rowRule dataSlots last r && disjoint (r .slots) (held rs) && judged dataSlots last rs
+abbrev pub judged : ℕ → ℕ → ℕ → List Row → Bool
+judged manager dataSlots last [] = true
+judged manager dataSlots last (r ∷ rs) = rowRule manager dataSlots last r && disjoint (r .slots) (held rs) && judged manager dataSlots last rs
 
 -- the first row is the manager's
 abbrev pub ledBy : ℕ → List Row → Bool
@@ -48,4 +48,4 @@ ledBy manager (r ∷ rs) = eqb (r .unit) manager
 -- all rows together, of a site with so many data slots and this manager
 unfoldable pub rowsRule : ℕ → ℕ → ℕ → List Row → Bool
 rowsRule manager dataSlots last rs =
-    ledBy manager rs && every (rowRule dataSlots last) rs && distinct rs && apart rs && leb (vacant rs) (count (free dataSlots rs))
+    ledBy manager rs && every (rowRule manager dataSlots last) rs && distinct rs && apart rs && leb (vacant rs) (count (free dataSlots rs))

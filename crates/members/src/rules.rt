@@ -23,9 +23,9 @@ impl Member {
         (self.unit == 0) & is_empty(self.slots) & (self.time == 0)
     }
 
-    // By itself: zeros, or an address with 1 to 4 of the data slots and a time that is past.
-    fn within_rule(self, data_slots: u8, last: u32) -> bool
-        ensures { λ r. ⌜ r ≡ rowRule «data_slots» last (rowOf self) ⌝ }
+    // By itself: zeros, or an address with 1 to 4 of the data slots and a time that is past, the manager with any.
+    fn within_rule(self, manager: u16, data_slots: u8, last: u32) -> bool
+        ensures { λ r. ⌜ r ≡ rowRule manager «data_slots» last (rowOf self) ⌝ }
     {
         if self.unit == 0 {
             return self.is_empty();
@@ -34,7 +34,7 @@ impl Member {
         ((1 <= self.unit) & (self.unit <= 0xFFFE))
             & one_to_four(self.slots)
             & is_empty(outside)
-            & in_order(self.time, last)
+            & ((self.unit == manager) | in_order(self.time, last))
     }
 }
 
@@ -69,8 +69,8 @@ struct Together {
 }
 
 // Each row by itself and against those behind it.
-fn judged(rows: [Member; 21], count: u8, data_slots: u8, last: u32) -> Together
-    ensures { λ r. ⌜ (r .good ≡ judged «data_slots» last (take count (rowsOf rows))) × (slotsOf (r .held) ≡ held (take count (rowsOf rows))) × (r .vacant ≡ vacant (take count (rowsOf rows))) ⌝ }
+fn judged(rows: [Member; 21], count: u8, manager: u16, data_slots: u8, last: u32) -> Together
+    ensures { λ r. ⌜ (r .good ≡ judged manager «data_slots» last (take count (rowsOf rows))) × (slotsOf (r .held) ≡ held (take count (rowsOf rows))) × (r .vacant ≡ vacant (take count (rowsOf rows))) ⌝ }
 {
     let mut good = true;
     let mut held: u64 = 0;
@@ -79,7 +79,7 @@ fn judged(rows: [Member; 21], count: u8, data_slots: u8, last: u32) -> Together
     while 0 < i {
         i -= 1;
         let member = rows[i];
-        good = member.within_rule(data_slots, last) & apart(member.slots, held) & good;
+        good = member.within_rule(manager, data_slots, last) & apart(member.slots, held) & good;
         held = joined(member.slots, held);
         vacant += (member.unit == 0) as u8;
     }
@@ -97,7 +97,7 @@ pub fn rows_within_rule(
     ensures { λ r. ⌜ r ≡ rowsRule manager «data_slots» last (take count (rowsOf rows)) ⌝ }
 {
     let first = rows[0];
-    let all = judged(rows, count, data_slots, last);
+    let all = judged(rows, count, manager, data_slots, last);
     let room = size(without(below(data_slots as u32), all.held));
     (0 < count)
         & (first.unit == manager)

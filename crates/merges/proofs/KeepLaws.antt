@@ -79,7 +79,7 @@ module _ (t : Table) (s : List ℕ) (quality time : ℕ) (z : mergeOf t s qualit
         offers-kept (t .own) u time (m .origin) o quality (entriesOf (updateIn s .count) (partIn update s)) (m .entries),
       )
       (learned (standing time (rowsOf t)) 0)
-      (standing-rules (t .own) (t .time) time (m .timely) time (rowsOf t) (within t (m .rule) .rules))
+      (standing-rules (t .own) (t .time) time (rowsOf t) (within t (m .rule) .rules))
 
   pub merge-few : Few (mergedRows t s quality time .rows)
   unfolding mergedRows

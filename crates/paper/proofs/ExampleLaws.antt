@@ -9,10 +9,11 @@ use Rattle.shapes.specs.Reading.{isSealed, readRefusal}
 use Rattle.shapes.specs.Shape.{sealed}
 use Rattle.frames.specs.Frames.{readFrame}
 use Rattle.site.specs.Plans.{slotsIn, planOf}
-use Rattle.clock.specs.Clock.{drift, half, correction, corrected, stepOf}
+use Rattle.moments.specs.Moments.{ageAt, inOrder}
+use Rattle.clock.specs.Clock.{signed, wrapped, drift, half, correction, corrected}
 use Rattle.paper.specs.Examples.{examplesWith, allSame, AsInThePaper}
 use Rattle.paper.proofs.StoryLaws.{story-told}
 
 pub as-in-the-paper : AsInThePaper
-unfolding readFrame readRefusal isSealed sealed num digits xors planOf slotsIn drift half correction corrected stepOf
+unfolding readFrame readRefusal isSealed sealed num digits xors planOf slotsIn ageAt inOrder signed wrapped drift half correction corrected
 as-in-the-paper = ap (λ (told : List (List ℕ)). allSame (examplesWith told)) story-told ∙ refl

@@ -1,14 +1,13 @@
 -- What the answers of the story grant to each unit, call by call.
 -- Assumes nothing.
-use mathlib.Core.Path.{_≡_, refl, ap, ap₂, _∙_}
-use mathlib.Core.Bool.{_&&_, cond}
+use mathlib.Core.Path.{_≡_, refl, ap, _∙_}
 use mathlib.Core.List.{List, [], _∷_, map}
 use Prim.Native.Nat.{ℕ}
-use lib.Dec.{eqb}
 use lib.ListN.{drop}
 use Rattle.octets.specs.Lists.{every}
 use Rattle.octets.specs.Numbers.{num, digits}
 use Rattle.octets.specs.Sums.{xors}
+use Rattle.moments.specs.Elapsed.{Clock, started, nowAt, moved, clockAfter}
 use Rattle.moments.specs.Moments.{ageAt, inOrder}
 use Rattle.shapes.specs.Reading.{isSealed, readRefusal}
 use Rattle.shapes.specs.Shape.{sealed}
@@ -18,9 +17,10 @@ use Rattle.members.specs.Members.{current, rowFor, held, vacant}
 use Rattle.members.specs.Rules.{rowsRule}
 use Rattle.book.specs.Books.{Stated, withinRule, freshBook, freshOf, leaveOf}
 use Rattle.joins.specs.Joins.{joinOf, askOf}
+use Rattle.joins.specs.Responses.{toldIn}
 use Rattle.keeping.specs.Calls.{Call, leave}
 use Rattle.keeping.specs.Calls as keeping
-use Rattle.history.specs.BookEvents.{call, answer, Grant, grant, renewed, granted, granting, recorded, counts}
+use Rattle.history.specs.BookEvents.{call, answer, recorded, stepOf, Grant, grant, changedBy, granted, granting, counts}
 use Rattle.paper.specs.Story.{sitePlan, joins, asks, calls, GrantsInTheStory}
 use Rattle.paper.proofs.StoryLaws.{member, nobody, site, one, two, full, left, grown, settled}
 
@@ -42,20 +42,38 @@ onEach f g = record { manager = f 0x0100 (g .manager); first = f 0x0201 (g .firs
 abbrev told : List ℕ → List ℕ → List ℕ → List ℕ → List ℕ → Grants
 told m a b c d = record { manager = grant m 0; first = grant a 0; second = grant b 0; third = grant c 0; fourth = grant d 0 }
 
--- after one call on a book, and after several
-abbrev once : Stated → Call → Grants → Grants
-once b c = onEach (λ unit g. cond (eqb (answer b (call c) .refused) 0 && eqb (keeping.unitOf c) unit) (renewed (call c) (answer b (call c)) g) g)
+-- nothing elapses from the first call to the last
+abbrev none-passed : Clock
+none-passed = started 0
 
-abbrev all : Stated → List Call → Grants → Grants
-all b cs = onEach (λ unit g. granted unit g (recorded b (map call cs)))
+-- after one call on a book
+abbrev once : Stated → Call → Grants → Grants
+once b c = onEach (λ unit g. changedBy toldIn unit (call c) (answer b (call c)) (nowAt none-passed (keeping.timeOf c)) g)
+
+-- what counts at time 0
+abbrev counted : Clock → Grants → List (List ℕ)
+counted k g =
+    counts sitePlan 0x0100 (nowAt k 0) (g .manager) ∷
+    counts sitePlan 0x0201 (nowAt k 0) (g .first) ∷
+    counts sitePlan 0x0202 (nowAt k 0) (g .second) ∷
+    counts sitePlan 0x0203 (nowAt k 0) (g .third) ∷
+    counts sitePlan 0x0204 (nowAt k 0) (g .fourth) ∷
+    []
+
+-- after several
+abbrev all : Stated → List Call → Clock → Grants → List (List ℕ)
+all b cs k g =
+    let hs = recorded b (map call cs) in
+    counted (clockAfter k (map stepOf hs)) (onEach (λ unit x. granted unit k x hs) g)
 
 -- a call on a book leaves that book, and each unit what it grants
 record Happens (b : Stated) (c : Call) (new : Stated) (g g′ : Grants) : Type 0 where
   pub leaves : keeping.next b c ≡ new
   pub grants : once b c g ≡ g′
+  pub passes : moved none-passed (stepOf (record { event = call c; answer = answer b (call c) })) ≡ none-passed
 
-step : {b new : Stated} {c : Call} {g g′ : Grants} (cs : List Call) → Happens b c new g g′ → all b (c ∷ cs) g ≡ all new cs g′
-step cs h = ap₂ {C = Grants} (λ (new : Stated) (g : Grants). all new cs g) (h .leaves) (h .grants)
+step : {b new : Stated} {c : Call} {g g′ : Grants} (cs : List Call) → Happens b c new g g′ → all b (c ∷ cs) none-passed g ≡ all new cs none-passed g′
+step cs h = λ i. all (h .leaves i) cs (h .passes i) (h .grants i)
 
 begun : ofEach (granting (freshBook sitePlan 0)) ≡ told (4 ∷ 8 ∷ []) [] [] [] []
 unfolding rowFor has noSlots allSlots fill lowest firsts
@@ -71,25 +89,16 @@ happened :
     × Happens left (asks 0x0202 3) grown (told (4 ∷ 8 ∷ []) [] (6 ∷ 12 ∷ []) (7 ∷ 13 ∷ []) []) (told (4 ∷ 8 ∷ []) [] (6 ∷ 9 ∷ 10 ∷ 12 ∷ []) (7 ∷ 13 ∷ []) [])
     × Happens grown (joins 0x0204 4) settled (told (4 ∷ 8 ∷ []) [] (6 ∷ 9 ∷ 10 ∷ 12 ∷ []) (7 ∷ 13 ∷ []) []) (told (4 ∷ 8 ∷ []) [] (6 ∷ 9 ∷ 10 ∷ 12 ∷ []) (7 ∷ 13 ∷ []) (5 ∷ 11 ∷ []))
 unfolding member site nobody one two full left grown settled joinOf askOf leaveOf withinRule rowsRule every rowFor current held vacant count isEmpty has fill slotwise noSlots allSlots union meet minus lowest withoutHighest bits slotsOf firsts slotsIn num digits xors isSealed readRefusal sealed ageAt inOrder
-happened = (record { leaves = refl; grants = refl }, record { leaves = refl; grants = refl }, record { leaves = refl; grants = refl }, record { leaves = refl; grants = refl }, record { leaves = refl; grants = refl }, record { leaves = refl; grants = refl }, record { leaves = refl; grants = refl })
+happened = (record { leaves = refl; grants = refl; passes = refl }, record { leaves = refl; grants = refl; passes = refl }, record { leaves = refl; grants = refl; passes = refl }, record { leaves = refl; grants = refl; passes = refl }, record { leaves = refl; grants = refl; passes = refl }, record { leaves = refl; grants = refl; passes = refl }, record { leaves = refl; grants = refl; passes = refl })
 
 -- all of them, one after the other
-all-told : all (freshBook sitePlan 0) calls (ofEach (granting (freshBook sitePlan 0))) ≡ told (4 ∷ 8 ∷ []) [] (6 ∷ 9 ∷ 10 ∷ 12 ∷ []) (7 ∷ 13 ∷ []) (5 ∷ 11 ∷ [])
+all-told : all (freshBook sitePlan 0) calls none-passed (ofEach (granting (freshBook sitePlan 0)))
+    ≡ counted none-passed (told (4 ∷ 8 ∷ []) [] (6 ∷ 9 ∷ 10 ∷ 12 ∷ []) (7 ∷ 13 ∷ []) (5 ∷ 11 ∷ []))
 all-told =
     let (a, b, c, d, e, f, g) = happened in
-    ap (all (freshBook sitePlan 0) calls) begun
+    ap (all (freshBook sitePlan 0) calls none-passed) begun
     ∙ (step (drop 1 calls) a ∙ (step (drop 2 calls) b ∙ (step (drop 3 calls) c ∙ (step (drop 4 calls) d ∙ (step (drop 5 calls) e ∙ (step (drop 6 calls) f ∙ step [] g))))))
-
--- what counts at time 0
-abbrev counted : Grants → List (List ℕ)
-counted g =
-    counts sitePlan 0x0100 0 (g .manager) ∷
-    counts sitePlan 0x0201 0 (g .first) ∷
-    counts sitePlan 0x0202 0 (g .second) ∷
-    counts sitePlan 0x0203 0 (g .third) ∷
-    counts sitePlan 0x0204 0 (g .fourth) ∷
-    []
 
 pub grants-in-the-story : GrantsInTheStory
 unfolding freshOf slotsIn ageAt
-grants-in-the-story = ap counted all-told
+grants-in-the-story = all-told

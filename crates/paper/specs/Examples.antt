@@ -1,13 +1,15 @@
--- Document 01's examples marked P, in its order: what the definitions compute, and what the paper says. One statement covers the table.
+-- Document 01's examples marked P, in its order: what the definitions compute, and what the paper says. Then what document 02 says of times that pass their
+-- top: drifts, steps and an age. One statement covers the table.
 -- Assumes nothing.
 use mathlib.Core.Path.{_≡_}
-use mathlib.Core.Bool.{Bool, true, false, _&&_}
+use mathlib.Core.Bool.{Bool, true, false, _&&_, cond}
 use mathlib.Core.List.{List, [], _∷_, _++_}
-use Prim.Native.Nat.{ℕ, suc}
+use Prim.Native.Nat.{ℕ, suc, _+_, _-_, _%_, _^_}
 use lib.Dec.{eqb}
 use lib.ListN.{getD}
 use lib.IntN.{ℤ, pos, negsuc}
 use Rattle.octets.specs.Answers.{Said}
+use Rattle.moments.specs.Moments.{ageAt, inOrder}
 use Rattle.requests.specs.Requests.{joinRequest, joinRequestValues}
 use Rattle.frames.specs.Frames.{readFrame}
 use Rattle.shapes.specs.Shape.{frameOf}
@@ -15,7 +17,7 @@ use Rattle.image.specs.Forms.{same}
 use Rattle.site.specs.declared.plan.Plan.{Plan}
 use Rattle.site.specs.Plans.{active, slots, planOf}
 use Rattle.paper.specs.Story.{story}
-use Rattle.clock.specs.Clock.{drift, stepOf}
+use Rattle.clock.specs.Clock.{drift, corrected}
 
 pub record Example : Type 0 where
   pub computed : List ℕ
@@ -41,14 +43,19 @@ lengths rows dataSlots ms =
 
 -- ---- what a drift leaves
 -- a number with its sign as a list: 1 below zero and else 0, then the magnitude
-abbrev pub signed : ℤ → List ℕ
-signed (pos n) = 0 ∷ n ∷ []
-signed (negsuc n) = 1 ∷ suc n ∷ []
+abbrev pub withSign : ℤ → List ℕ
+withSign (pos n) = 0 ∷ n ∷ []
+withSign (negsuc n) = 1 ∷ suc n ∷ []
 
 -- the drift of a unit with no offset, then the drift with the offset that its step gives
 abbrev pub leaves : ℕ → ℕ → List ℕ
 leaves local original =
-    signed (drift local (pos 0) original 0) ++ signed (drift local (stepOf (pos 0) local original 0 .offset) original 0)
+    withSign (drift local 0 original 0) ++ withSign (drift local (corrected local 0 original 0) original 0)
+
+-- ---- times that pass their top
+-- whether a step of so many ms from a time on is forward: 1, or 0
+abbrev pub forward : ℕ → ℕ → ℕ
+forward last step = cond (inOrder last ((last + step) % 2 ^ 32)) 1 0
 
 -- the table, with what the calls of the story say
 abbrev pub examplesWith : List (List ℕ) → List Example
@@ -73,6 +80,10 @@ examplesWith told =
     record { computed = leaves 100 0; paper = 0 ∷ 100 ∷ 0 ∷ 50 ∷ [] } ∷
     record { computed = leaves 0 51; paper = 1 ∷ 51 ∷ 1 ∷ 26 ∷ [] } ∷
     record { computed = leaves 101 0; paper = 0 ∷ 101 ∷ 0 ∷ 0 ∷ [] } ∷
+    record { computed = leaves 50 (2 ^ 32 - 50); paper = 0 ∷ 100 ∷ 0 ∷ 50 ∷ [] } ∷
+    record { computed = leaves (2 ^ 31) 0; paper = 1 ∷ 2 ^ 31 ∷ 0 ∷ 0 ∷ [] } ∷
+    record { computed = forward (2 ^ 32 - 1) 0 ∷ forward (2 ^ 32 - 1) (2 ^ 31 - 1) ∷ forward (2 ^ 32 - 1) (2 ^ 31) ∷ []; paper = 1 ∷ 1 ∷ 0 ∷ [] } ∷
+    record { computed = ageAt 299999 (2 ^ 32 - 1) ∷ []; paper = 300000 ∷ [] } ∷
     []
 
 abbrev pub allSame : List Example → Bool

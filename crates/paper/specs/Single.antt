@@ -5,7 +5,6 @@
 use mathlib.Core.Path.{_≡_}
 use mathlib.Core.List.{List, [], _∷_}
 use Prim.Native.Nat.{ℕ, _^_, _<_}
-use lib.IntN.{ℤ}
 use base.Fml.{GName}
 use denote.Ref.{RefT}
 use Rattle.octets.specs.Calls.{writeLeft}
@@ -125,7 +124,7 @@ pub record ViewsTellApart : Type 1 where
   pub forwardsIn : TellsApart any (λ (a : ForwardedIn × List ℕ × List ℕ). forwardedIn (a .0) (a .1) (a .2))
   pub forwards : TellsApart any (λ (a : ℕ × List ℕ × List ℕ × ℕ). forwardLeft (a .0) (a .1) (a .2) (a .3))
   pub states : TellsApart any (λ (a : ℕ × List ℕ). stateLeft (a .0) (a .1))
-  pub clocks : TellsApart any (λ (a : ℕ × ℤ). clockLeft (a .0) (a .1))
+  pub clocks : TellsApart any (λ (a : ℕ × ℕ). clockLeft (a .0) (a .1))
   pub bookCalls : TellsApart any (λ (a : ℕ × List ℕ). bookLeft (a .0) (a .1))
   pub planNumberings : TellsApart any (λ (a : ℕ × List ℕ). numbersLeft (a .0) (a .1))
   pub requests : TellsApart any (λ (a : ℕ × List ℕ × List ℕ × ℕ). requestLeft (a .0) (a .1) (a .2) (a .3))

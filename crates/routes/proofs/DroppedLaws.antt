@@ -10,13 +10,12 @@ use lib.Dec.{eqb, leb, ltb}
 use Rattle.octets.specs.Answers.{accepted, reason, first, unless}
 use Rattle.octets.specs.Lists.{every}
 use Rattle.moments.specs.Moments.{ageAt, inOrder}
-use Rattle.moments.proofs.MomentLaws.{in-order-self}
 use Rattle.shapes.specs.Rules.{address}
 use Rattle.routes.specs.declared.row.Row.{Row}
 use Rattle.routes.specs.declared.table.Table.{Table}
-use Rattle.routes.specs.Rows.{none, usable, leads, stands, forgotten, ascending, standing, rowFor}
+use Rattle.routes.specs.Rows.{none, usable, leads, stands, rowRule, forgotten, ascending, standing, rowFor}
 use Rattle.routes.specs.Tables.{rowsOf, withinRule, withRows, dropped, lookupOf, forgetOf}
-use Rattle.routes.proofs.KeepLaws.{ascending-above, standing-rules}
+use Rattle.routes.proofs.KeepLaws.{ascending-above}
 use Rattle.routes.proofs.RuleLaws.{within-pad}
 use Rattle.routes.proofs.StandingLaws.{used, in-use-used, in-use-pad, standing-every, standing-ascending, ascending-rest}
 use Rattle.routes.proofs.TableLaws.{within, few-stand, address-some}
@@ -41,7 +40,7 @@ pub dropped-within : (time : ℕ) (t : Table) → withinRule t ≡ true → with
 dropped-within time t e =
     let w = within t e in
     within-pad (t .own) (t .time) (t .forwarded) (t .origin) (t .sequence) (standing time (rowsOf t)) (w .unit) (w .pair) (few-stand t e time)
-    (standing-ascending time (rowsOf t) (w .ascends)) (standing-rules (t .own) (t .time) (t .time) (in-order-self (t .time)) time (rowsOf t) (w .rules))
+    (standing-ascending time (rowsOf t) (w .ascends)) (standing-every (rowRule (t .own) (t .time)) time (rowsOf t) (w .rules))
 
 -- ---- one row looked up
 usable-stands : (time : ℕ) (r : Row) → stands time r ≡ false → usable time r ≡ false

@@ -17,8 +17,8 @@ use Rattle.routes.specs.declared.row.Row.{Row}
 use Rattle.routes.specs.declared.table.Table.{Table}
 use Rattle.routes.specs.Rows.{usable, rowRule, withdrawnAt, forgotten, ascending, pad, standing}
 use Rattle.routes.specs.Tables.{rowsOf, withinRule, freshOf, forgetOf}
-use Rattle.routes.proofs.RuleLaws.{rule-later, rule-withdrawn, rules-later, within-pad}
-use Rattle.routes.proofs.StandingLaws.{ascending-without, standing-every, standing-ascending}
+use Rattle.routes.proofs.RuleLaws.{rule-later, rule-withdrawn, within-pad}
+use Rattle.routes.proofs.StandingLaws.{ascending-without, standing-on, standing-ascending}
 use Rattle.routes.proofs.TableLaws.{within, few-stand, forgettable}
 
 -- ---- what a test of rows says of some of them
@@ -47,20 +47,17 @@ by-forgotten P unit time r same lost = go (usable time r && (eqb (r .destination
     go true = lost
     go false = same
 
--- ---- rows within rule at a later time
-module _ (own last at : ℕ) (o : inOrder last at ≡ true) where
-  rule-forgotten : (unit : ℕ) (r : Row) → rowRule own last r ≡ true → rowRule own at (forgotten unit at r) ≡ true
-  rule-forgotten unit r e =
-      let later = rule-later own last at o r e in
-      by-forgotten (λ x. rowRule own at x ≡ true) unit at r later (rule-withdrawn own at r later)
+-- ---- rows within rule at a time at which they stand
+module _ (own last at : ℕ) where
+  rule-forgotten : (unit : ℕ) (r : Row) → rowRule own at r ≡ true → rowRule own at (forgotten unit at r) ≡ true
+  rule-forgotten unit r e = by-forgotten (λ x. rowRule own at x ≡ true) unit at r e (rule-withdrawn own at r e)
 
-  -- the rows that stand, in a table with a later time
-  pub standing-rules : (time : ℕ) (rs : List Row) → every (rowRule own last) rs ≡ true → every (rowRule own at) (standing time rs) ≡ true
-  standing-rules time rs e = standing-every (rowRule own at) time rs (rules-later own last at o rs e)
+  -- the rows that stand, in a table with the time at which they do
+  pub standing-rules : (rs : List Row) → every (rowRule own last) rs ≡ true → every (rowRule own at) (standing at rs) ≡ true
+  standing-rules = standing-on (rowRule own last) (rowRule own at) at (rule-later own last at)
 
-  pub forgotten-rules : (unit time : ℕ) (rs : List Row) → every (rowRule own last) rs ≡ true → every (rowRule own at) (map (forgotten unit at) (standing time rs)) ≡ true
-  forgotten-rules unit time rs e =
-      every-map (rowRule own last) (rowRule own at) (forgotten unit at) (rule-forgotten unit) (standing time rs) (standing-every (rowRule own last) time rs e)
+  pub forgotten-rules : (unit : ℕ) (rs : List Row) → every (rowRule own last) rs ≡ true → every (rowRule own at) (map (forgotten unit at) (standing at rs)) ≡ true
+  forgotten-rules unit rs e = every-map (rowRule own at) (rowRule own at) (forgotten unit at) (rule-forgotten unit) (standing at rs) (standing-rules rs e)
 
 -- to forget a unit changes no destination
 ascending-map : (f : Row → Row) → ((r : Row) → f r .destination ≡ r .destination) → (rs : List Row) → ascending (map f rs) ≡ ascending rs
@@ -87,4 +84,4 @@ forget-within t unit time e =
     let up = ascending-map (forgotten unit time) (forgotten-destination unit time) rs ∙ standing-ascending time (rowsOf t) (w .ascends) in
     rw e (within-pad (t .own) time (t .forwarded) (t .origin) (t .sequence) (map (forgotten unit time) rs) (w .unit) (w .pair)
     (omega (arith, length-map rs (forgotten unit time), few-stand t (f .right) time)) up
-    (forgotten-rules (t .own) (t .time) time (f .ordered) unit time (rowsOf t) (w .rules)))
+    (forgotten-rules (t .own) (t .time) time unit (rowsOf t) (w .rules)))

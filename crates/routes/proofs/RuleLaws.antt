@@ -1,20 +1,21 @@
 -- Rows within rule, and the table that is made of them.
 -- Assumes nothing.
 use mathlib.Core.Path.{_≡_, refl}
-use mathlib.Core.Bool.{Bool, true, false, not, _&&_, false≢true}
+use mathlib.Core.Bool.{Bool, true, false, not, _&&_, cond, false≢true}
 use mathlib.Core.List.{List}
 use Prim.Native.Nat.{ℕ, _≤_}
-use borrow.Author.Tests.{lt-ltb}
+use native.Mathlib.Omega.{arith}
+use borrow.Author.Tests.{leb-true, lt-ltb}
 use lib.Dec.{eqb, leb}
 use lib.ListN.{length}
 use Rattle.octets.specs.Lists.{every}
 use Rattle.octets.proofs.ListLaws.{every-on}
-use Rattle.moments.specs.Moments.{inOrder}
-use Rattle.moments.proofs.MomentLaws.{in-order-self, in-order-on}
+use Rattle.moments.specs.Moments.{ageAt, inOrder}
+use Rattle.moments.proofs.MomentLaws.{in-order-self, young-in-order}
 use Rattle.shapes.specs.Rules.{address}
 use Rattle.shapes.proofs.RuleLaws.{address-least}
 use Rattle.routes.specs.declared.row.Row.{Row}
-use Rattle.routes.specs.Rows.{rowRule, withdrawnAt, ascending, inUse, pad}
+use Rattle.routes.specs.Rows.{stands, rowRule, withdrawnAt, ascending, inUse, pad}
 use Rattle.routes.specs.Tables.{pairOk, withinRule}
 use Rattle.routes.proofs.StandingLaws.{used, in-use-pad, pad-zeros}
 use Rattle.routes.proofs.TableLaws.{by-parts}
@@ -46,19 +47,24 @@ module _ (own last : ℕ) (r : Row) where
       let k = parts (address (r .destination)) (not (eqb (r .destination) own)) (address (r .«next_hop»)) (not (eqb (r .«next_hop») own)) (leb 1 (r .hops) && leb (r .hops) 16) (leb 40 (r .quality)) (inOrder (r .time) last) e in
       record { destination = k .0; other = k .1; hop = k .2; otherHop = k .3; hops = k .4; quality = k .5; past = k .6 }
 
--- a row within rule is so at a later time, and when it is withdrawn
-pub rule-later : (own last time : ℕ) → inOrder last time ≡ true → (r : Row) → rowRule own last r ≡ true → rowRule own time r ≡ true
-rule-later own last time h r e =
+-- a row that stands is in order with the time at which it does
+pub stands-past : (time : ℕ) (r : Row) → stands time r ≡ true → inOrder (r .time) time ≡ true
+stands-past time r e = go (r .withdrawn) (leb-true _ _ e)
+  where
+    go : (w : Bool) → ageAt time (r .time) ≤ cond w 60000 360000 → inOrder (r .time) time ≡ true
+    go true h = young-in-order time (r .time) 60000 (omega arith) h
+    go false h = young-in-order time (r .time) 360000 (omega arith) h
+
+-- a row within rule is so at any time at which it stands, and when it is withdrawn
+pub rule-later : (own last time : ℕ) (r : Row) → stands time r ≡ true → rowRule own last r ≡ true → rowRule own time r ≡ true
+rule-later own last time r s e =
     let k = ruled own last r e in
-    rw (k .destination, k .other, k .hop, k .otherHop, k .hops, k .quality, in-order-on (r .time) last time (k .past) h)
+    rw (k .destination, k .other, k .hop, k .otherHop, k .hops, k .quality, stands-past time r s)
 
 pub rule-withdrawn : (own time : ℕ) (r : Row) → rowRule own time r ≡ true → rowRule own time (withdrawnAt time r) ≡ true
 rule-withdrawn own time r e =
     let k = ruled own time r e in
     rw (k .destination, k .other, k .hop, k .otherHop, k .hops, k .quality, in-order-self time)
-
-pub rules-later : (own last time : ℕ) → inOrder last time ≡ true → (rs : List Row) → every (rowRule own last) rs ≡ true → every (rowRule own time) rs ≡ true
-rules-later own last time h = every-on (rowRule own last) (rowRule own time) (rule-later own last time h)
 
 -- a row within rule is in use
 pub rules-used : (own last : ℕ) (rs : List Row) → every (rowRule own last) rs ≡ true → every used rs ≡ true

@@ -61,16 +61,20 @@ standing-places time places e = go (every (stands time) (inUse places)) refl
     go false q = refl
 
 -- ---- what the standing rows keep
-pub standing-every : (test : Row → Bool) (time : ℕ) (rs : List Row) → every test rs ≡ true → every test (standing time rs) ≡ true
+pub standing-on : (test test′ : Row → Bool) (time : ℕ) → ((r : Row) → stands time r ≡ true → test r ≡ true → test′ r ≡ true) → (rs : List Row)
+    → every test rs ≡ true → every test′ (standing time rs) ≡ true
 unfolding every
-standing-every test time [] e = refl
-standing-every test time (r ∷ rs) e =
+standing-on test test′ time on [] e = refl
+standing-on test test′ time on (r ∷ rs) e =
     let (here, later) = and-eq-true-iff (test r) (every test rs) .0 e in
-    go (stands time r) here (standing-every test time rs later)
+    go (stands time r) refl here (standing-on test test′ time on rs later)
   where
-    go : (b : Bool) → test r ≡ true → every test (standing time rs) ≡ true → every test (cond b (r ∷ standing time rs) (standing time rs)) ≡ true
-    go true here later = rw (here, later)
-    go false here later = later
+    go : (b : Bool) → stands time r ≡ b → test r ≡ true → every test′ (standing time rs) ≡ true → every test′ (cond b (r ∷ standing time rs) (standing time rs)) ≡ true
+    go true q here later = rw (on r q here, later)
+    go false q here later = later
+
+pub standing-every : (test : Row → Bool) (time : ℕ) (rs : List Row) → every test rs ≡ true → every test (standing time rs) ≡ true
+standing-every test time = standing-on test test time (λ r s e. e)
 
 pub standing-shorter : (time : ℕ) (rs : List Row) → length (standing time rs) ≤ length rs
 standing-shorter time [] = omega arith

@@ -1,13 +1,14 @@
--- `refusal`: each return is the first reason that holds.
+-- `refusal`: the first reason that holds.
 -- Assumes nothing.
-use borrow.Author.Tests.{eq-eqb, ne-eqb}
+use borrow.Author.Needs.{needs}
+use mathlib.Core.Path.{_∙_}
 use Rattle.clock.proofs.steps.refusal.Statement.{statement}
 use Rattle.clock.proofs.steps.refusal.Tie as tie
 
+returns : tie.Need-returns
+returns c =
+    let second = c .before in
+    c .refuse-if3 .ensures ∙ rw (second .refuse-if2 .ensures, second .before .refuse-if .ensures)
+
 pub refusal-spec : {M : Type 1} → statement M
-refusal-spec =
-    tie.close
-    (tie.spec (λ c. rw (ne-eqb _ _ (c .if1 .taken)))
-    (λ c. rw (eq-eqb _ _ (c .before .if1 .left), eq-eqb _ _ (c .if2 .taken)))
-    (λ c. rw (eq-eqb _ _ (c .before .before .if1 .left), ne-eqb _ _ (c .before .if2 .left), ne-eqb _ _ (c .if3 .taken)))
-    (λ c. rw (eq-eqb _ _ (c .before .before .if1 .left), ne-eqb _ _ (c .before .if2 .left), eq-eqb _ _ (c .if3 .left))))
+refusal-spec = tie.close (tie.spec (λ c κs. search needs) (λ c κs. search needs) (λ c κs. search needs) returns)

@@ -10,17 +10,17 @@ use Rattle.members.proofs.rules.judged.Statement.{statement}
 use Rattle.members.proofs.rules.judged.Tie as tie
 
 abbrev Inv-loop : tie.InvT-loop
-Inv-loop count data-slots last rows good₀ all₀ found₀ i₀ good all found i =
-    Counted rows count i all found × (good ≡ judged data-slots last (from rows count i))
+Inv-loop count manager data-slots last rows good₀ all₀ found₀ i₀ good all found i =
+    Counted rows count i all found × (good ≡ judged manager data-slots last (from rows count i))
 
 abbrev μ-loop : tie.MeasureT-loop
-μ-loop count data-slots last rows good₀ all₀ found₀ i₀ good all found i = i
+μ-loop count manager data-slots last rows good₀ all₀ found₀ i₀ good all found i = i
 
 loop-holds : tie.Need-loop-holds Inv-loop μ-loop
 loop-holds c =
     let a = c .before .args in
     let l : length (a .t1) ≡ 21 = search needs in
-    (counted-start (a .t1) (a .count) l _ (c .in-use .ensures), judged-start (a .t1) (a .count) l _ (c .in-use .ensures) _ (a .last))
+    (counted-start (a .t1) (a .count) l _ (c .in-use .ensures), judged-start (a .t1) (a .count) l _ (c .in-use .ensures) (a .manager) _ (a .last))
 
 array-copy-out-member : tie.Need-array-copy-out-member Inv-loop μ-loop
 array-copy-out-member c = omega (arith, c .before .loop .inv .0 .place)
@@ -35,7 +35,7 @@ loop-again c =
     let turn = c .before .before .before .before .before in
     let l = turn .before .loop in (
       counted-turn (l .inv .0) (turn .loop-test .taken) _ (c .before .joined .ensures),
-      judged-turn (l .inv .0) (turn .loop-test .taken) _ _ _ _ _ (l .inv .1) (c .before .before .before .within-rule .ensures) (c .before .before .apart .ensures),
+      judged-turn (l .inv .0) (turn .loop-test .taken) _ _ _ _ _ _ (l .inv .1) (c .before .before .before .within-rule .ensures) (c .before .before .apart .ensures),
     )
 
 returns : tie.Need-returns Inv-loop μ-loop

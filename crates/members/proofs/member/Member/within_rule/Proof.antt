@@ -11,12 +11,12 @@ returns c = c .is-empty .ensures ∙ rw (eq-eqb _ 0 (c .before .if1 .taken))
 
 returns-2 : tie.Need-returns-2
 returns-2 c =
-    let few = c .before .before in
+    let few = c .before .before .before in
     let outside = few .before .before .before in
     rw (
       ne-eqb _ 0 (outside .before .before .if1 .left),
       c .in-order .ensures,
-      c .before .is-empty2 .ensures,
+      c .before .before .is-empty2 .ensures,
       few .one-to-four .ensures,
       outside .without .ensures,
       outside .before .below .ensures,

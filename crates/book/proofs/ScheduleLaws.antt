@@ -12,9 +12,9 @@ use lib.Dec.{eqb, leb}
 use lib.ListN.{length, getD, drop, set, replicate}
 use lib.Seq.{sets, sets-eq}
 use Rattle.octets.specs.Lists.{tab}
+use Rattle.octets.specs.declared.answers.Written.{Written}
+use Rattle.octets.specs.Told.{wrote}
 use Rattle.octets.proofs.AnswerLaws.{numbered, none-holds}
-use Rattle.frames.specs.declared.answers.Written.{Written}
-use Rattle.frames.specs.Told.{wrote}
 use Rattle.slots.specs.Sets.{Slots}
 use Rattle.site.specs.declared.plan.Plan.{Plan}
 use Rattle.site.specs.Plans.{slotsIn, slots, sleepAt}

@@ -9,9 +9,9 @@ use lib.Seq.{sets}
 use Rattle.octets.specs.Answers.{Reason, accepted, reason, first, unless}
 use Rattle.octets.specs.Calls.{after}
 use Rattle.octets.specs.Lists.{tab}
+use Rattle.octets.specs.Told.{Wrote}
 use Rattle.moments.specs.Moments.{inOrder}
 use Rattle.shapes.specs.Rules.{address}
-use Rattle.shapes.specs.Writing.{Wrote}
 use Rattle.site.specs.declared.plan.Plan.{Plan}
 use Rattle.site.specs.Plans.{slots}
 use Rattle.site.specs.Schedules.{kindOf}

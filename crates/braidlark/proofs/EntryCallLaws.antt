@@ -7,8 +7,8 @@ use native.Mathlib.Omega.{arith}
 use borrow.Author.Tests.{ne-eqb, lt-ltb, le-ltb}
 use lib.ListN.{length}
 use lib.Seq.{sets}
+use Rattle.octets.specs.declared.answers.Refusal.{Refusal}
 use Rattle.traffic.specs.Traffic.{entryValues}
-use Rattle.frames.specs.declared.answers.Refusal.{Refusal}
 use Rattle.entries.specs.declared.walking.Step.{Step}
 use Rattle.entries.specs.declared.walking.Walked.{Walked}
 use Rattle.entries.specs.Walks.{walkOf, toldWalked}

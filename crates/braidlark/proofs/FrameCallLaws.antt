@@ -12,14 +12,14 @@ use lib.Dec.{eqb, ltb}
 use lib.ListN.{length, getD}
 use Rattle.octets.specs.Answers.{Said, accepted, refused}
 use Rattle.octets.specs.Calls.{writeLeft}
+use Rattle.octets.specs.declared.answers.Refusal.{Refusal}
+use Rattle.octets.specs.declared.answers.Written.{Written}
+use Rattle.octets.specs.Told.{Wrote, wrote}
 use Rattle.octets.proofs.AnswerLaws.{unless-none, unless-some}
 use Rattle.octets.proofs.CallLaws.{after-refused}
-use Rattle.frames.specs.declared.answers.Written.{Written}
-use Rattle.frames.specs.declared.answers.Refusal.{Refusal}
 use Rattle.frames.specs.Listed.{showRefusal, shown, writeNumbers}
 use Rattle.frames.specs.Frames.{readFrame}
-use Rattle.frames.specs.Told.{wrote}
-use Rattle.shapes.specs.Writing.{Wrote, writeRefusal, writing}
+use Rattle.shapes.specs.Writing.{writeRefusal, writing}
 use Rattle.frames.proofs.ListedLaws.{by-type}
 use Rattle.braidlark.specs.FrameCalls.{readLeft, placeIn, readCall, writeCall}
 

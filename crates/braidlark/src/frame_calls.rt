@@ -2,7 +2,7 @@
 ghost use mathlib.Core.Path.{_≡_};
 ghost use Rattle.octets.specs.Calls.{writeLeft};
 ghost use Rattle.braidlark.specs.FrameCalls.{readCall, readLeft, writeCall};
-use frames::answers::Written;
+use octets::answers::Written;
 use frames::layouts::layout_of;
 use octets::numbers::number8;
 use readers::numbers::show;

@@ -1,7 +1,7 @@
 // One step of a walk: the entry of an update at a position, and the position behind it.
 ghost use mathlib.Core.Path.{_≡_};
 ghost use Rattle.entries.specs.Walks.{walkOf, toldWalked};
-use frames::answers::Refusal;
+use octets::answers::Refusal;
 use readers::parts::entries;
 use readers::refusals::update;
 use traffic::entry::Entry;

@@ -10,9 +10,9 @@ use borrow.Author.Tests.{ne-eqb, eqb-true, not-false}
 use lib.Dec.{eqb}
 use lib.ListN.{length, getD}
 use Rattle.octets.specs.Answers.{Said, accepted, first, unless}
+use Rattle.octets.specs.Told.{Wrote}
 use Rattle.octets.proofs.AnswerLaws.{unless-number, numbered, refusing-numbered, none-holds}
 use Rattle.shapes.specs.Reading.{refusalAs}
-use Rattle.shapes.specs.Writing.{Wrote}
 use Rattle.traffic.specs.Traffic.{dataKind}
 use Rattle.routes.specs.declared.table.Table.{Table}
 use Rattle.routes.specs.Tables.{withinRule, freshOf, lookupOf}

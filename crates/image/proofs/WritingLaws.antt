@@ -7,8 +7,8 @@ use borrow.Author.Tests.{ne-eqb}
 use lib.ListN.{length}
 use lib.Seq.{sets}
 use Rattle.octets.specs.Answers.{first}
-use Rattle.frames.specs.declared.answers.Written.{Written}
-use Rattle.frames.specs.Told.{wrote}
+use Rattle.octets.specs.declared.answers.Written.{Written}
+use Rattle.octets.specs.Told.{wrote}
 use Rattle.members.specs.Members.{Row}
 use Rattle.book.specs.Books.{Stated, rowsAt}
 use Rattle.ledgers.specs.PlanBytes.{planBytes}

@@ -10,8 +10,8 @@ use Rattle.octets.specs.Answers.{Reason, accepted, reason, first, unless}
 use Rattle.octets.specs.Calls.{after}
 use Rattle.octets.specs.Layouts.{total, fields, bytes}
 use Rattle.octets.specs.Lists.{tab}
+use Rattle.octets.specs.Told.{Wrote}
 use Rattle.moments.specs.Moments.{inOrder}
-use Rattle.shapes.specs.Writing.{Wrote}
 use Rattle.slots.specs.Sets.{slotsOf, maskOf}
 use Rattle.site.specs.declared.plan.Plan.{Plan}
 use Rattle.members.specs.Members.{Row, emptyRow}

@@ -5,7 +5,7 @@ ghost use Rattle.routes.specs.Told.{toldFound};
 ghost use Rattle.stores.specs.TableBytes.{rowsIn};
 ghost use Rattle.in_place.specs.Lookups.{lookupIn};
 use crate::judging::holds_table;
-use frames::answers::Refusal;
+use octets::answers::Refusal;
 use octets::numbers::number32;
 use routes::row::Row;
 use routes::table::Found;

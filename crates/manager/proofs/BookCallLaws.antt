@@ -10,13 +10,12 @@ use lib.Dec.{eqb}
 use lib.ListN.{length}
 use Rattle.octets.specs.Answers.{first}
 use Rattle.octets.specs.Calls.{stored, writeLeft}
+use Rattle.octets.specs.declared.answers.Refusal.{Refusal}
+use Rattle.octets.specs.declared.answers.Written.{Written}
+use Rattle.octets.specs.Told.{Wrote, wrote}
 use Rattle.octets.proofs.AnswerLaws.{numbered, none-holds, unless-number}
 use Rattle.octets.proofs.CallLaws.{WrittenBack, written-back}
-use Rattle.shapes.specs.Writing.{Wrote}
 use Rattle.shapes.proofs.AnsweredLaws.{Answered, valued, said-value, answered, told-other, told-done, told-undone}
-use Rattle.frames.specs.declared.answers.Refusal.{Refusal}
-use Rattle.frames.specs.declared.answers.Written.{Written}
-use Rattle.frames.specs.Told.{wrote}
 use Rattle.site.specs.Plans.{slots}
 use Rattle.book.specs.declared.book.Changed.{Changed}
 use Rattle.book.specs.Books.{Stated, stated, withinRule, Left, leftBy, liveAt}

@@ -11,10 +11,10 @@ use lib.ListN.{length}
 use lib.Seq.{sets}
 use Rattle.octets.specs.Answers.{Reason, reason, first}
 use Rattle.octets.specs.Calls.{stored}
+use Rattle.octets.specs.declared.answers.Refusal.{Refusal}
 use Rattle.octets.proofs.AnswerLaws.{numbered, none-holds}
 use Rattle.octets.proofs.StoreLaws.{sets-whole}
 use Rattle.shapes.proofs.AnsweredLaws.{Valued, valued, valued-unless, refused-by-some}
-use Rattle.frames.specs.declared.answers.Refusal.{Refusal}
 use Rattle.site.specs.declared.plan.Plan.{Plan}
 use Rattle.site.specs.declared.plan.Made.{Made}
 use Rattle.site.specs.Plans.{active, slots, superframeMs, controlAt, dataAt, discoveryAt, sleepAt, planNumbers, planRule, toldPlan, planOf}

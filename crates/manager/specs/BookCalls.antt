@@ -4,7 +4,7 @@ use Prim.Native.Nat.{ℕ}
 use mathlib.Core.List.{List}
 use lib.ListN.{getD}
 use Rattle.octets.specs.Calls.{after, stored, WriteLeft, writeLeft}
-use Rattle.shapes.specs.Writing.{Wrote}
+use Rattle.octets.specs.Told.{Wrote}
 use Rattle.book.specs.Books.{Left, freshOf, heardOf, leaveOf}
 use Rattle.book.specs.Schedules.{scheduleOf}
 use Rattle.image.specs.Images.{imageWritten, restoreOf}

@@ -6,7 +6,7 @@ ghost use Rattle.manager.specs.BookCalls.{bookLeft, leaves, freshCall, h
 use crate::plan_calls::PLAN_SIZE;
 use book::book::Book;
 use book::book::Changed;
-use frames::answers::Written;
+use octets::answers::Written;
 use ledgers::books::BOOK_SIZE;
 use ledgers::books::book_of;
 use ledgers::books::write_back;

@@ -3,7 +3,7 @@ ghost use mathlib.Core.Path.{_≡_};
 ghost use Rattle.octets.specs.Calls.{writeLeft};
 ghost use Rattle.manager.specs.BookCalls.{bookLeft, imageCall, restoreCall};
 use crate::book_calls::keep;
-use frames::answers::Written;
+use octets::answers::Written;
 use image::restoring::restore;
 use image::writing::write_image;
 use ledgers::books::BOOK_SIZE;

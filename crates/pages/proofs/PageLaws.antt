@@ -13,10 +13,10 @@ use lib.Seq.{sets}
 use Rattle.octets.specs.Answers.{first}
 use Rattle.octets.specs.Layouts.{bytes}
 use Rattle.octets.specs.Sums.{xors}
+use Rattle.octets.specs.declared.answers.Written.{Written}
+use Rattle.octets.specs.Told.{wrote}
 use Rattle.octets.proofs.AnswerLaws.{numbered, none-holds}
 use Rattle.traffic.specs.Traffic.{update}
-use Rattle.frames.specs.declared.answers.Written.{Written}
-use Rattle.frames.specs.Told.{wrote}
 use Rattle.writers.proofs.WritingLaws.{frame-length, sealed-stored}
 use Rattle.routes.specs.declared.row.Row.{Row}
 use Rattle.routes.specs.declared.table.Table.{Table}

@@ -9,9 +9,9 @@ use lib.Seq.{sets}
 use Rattle.octets.specs.Answers.{accepted, refused, Reason, reason, first, unless}
 use Rattle.octets.specs.Calls.{after}
 use Rattle.octets.specs.Layouts.{bytes}
+use Rattle.octets.specs.Told.{Wrote}
 use Rattle.moments.specs.Moments.{inOrder}
 use Rattle.shapes.specs.Shape.{frameOf}
-use Rattle.shapes.specs.Writing.{Wrote}
 use Rattle.traffic.specs.declared.entry.Entry.{Entry}
 use Rattle.traffic.specs.Traffic.{entryWidths, entryValues, update}
 use Rattle.routes.specs.declared.row.Row.{Row}

@@ -1,6 +1,6 @@
 // A page of a table that lies in bytes: its rows are read where they lie, and no others.
 ghost use mathlib.Core.Path.{_≡_};
-ghost use Rattle.frames.specs.Told.{wrote};
+ghost use Rattle.octets.specs.Told.{wrote};
 ghost use Rattle.pages.specs.Pages.{pageIn};
 use crate::rows::place_behind;
 use crate::rows::put_standing;
@@ -8,8 +8,8 @@ use crate::rows::standing_from;
 use crate::writing::put_header;
 use crate::writing::refusal;
 use crate::writing::seal;
-use frames::answers::Refusal;
-use frames::answers::Written;
+use octets::answers::Refusal;
+use octets::answers::Written;
 use in_place::judging::holds_table;
 use stores::tables::head_of;
 

@@ -4,14 +4,14 @@ use mathlib.Core.Path.{_≡_, refl, sym, ap, ap₂, _∙_}
 use mathlib.Core.List.{List, [], _∷_, map}
 use Prim.Native.Nat.{ℕ}
 use Rattle.octets.specs.Answers.{Said, OneToOne}
+use Rattle.octets.specs.Told.{Wrote, toldWritten}
 use Rattle.slots.specs.Sets.{slotsOf, maskOf}
 use Rattle.slots.proofs.BitLaws.{mask-of-set}
 use Rattle.traffic.specs.Traffic.{dataFrom, updateFrom}
 use Rattle.requests.specs.Requests.{joinRequestFrom, joinResponseFrom, slotRequestFrom, discoveryRequestFrom, discoveryResponseFrom}
 use Rattle.beacons.specs.Beacons.{beaconFrom}
-use Rattle.shapes.specs.Writing.{Wrote}
-use Rattle.frames.specs.Told.{toldWritten}
-use Rattle.frames.proofs.ToldLaws.{told-one, told-written-one}
+use Rattle.octets.proofs.ToldLaws.{told-written-one}
+use Rattle.frames.proofs.ToldLaws.{told-one}
 use Rattle.entries.proofs.MeetLaws.{told-walked-one}
 use Rattle.routes.proofs.ToldLaws.{told-found-one}
 use Rattle.relays.specs.Relays.{toldRelayed}

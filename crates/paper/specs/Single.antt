@@ -9,12 +9,13 @@ use base.Fml.{GName}
 use denote.Ref.{RefT}
 use Rattle.octets.specs.Calls.{writeLeft}
 use Rattle.octets.specs.Parts.{lent}
+use Rattle.octets.specs.declared.answers.Written.{Written}
+use Rattle.octets.specs.Told.{wrote}
 use Rattle.slots.specs.Sets.{Slots, slotsOf}
 use Rattle.traffic.specs.Traffic.{dataValues, updateValues}
 use Rattle.requests.specs.Requests.{joinRequestValues, joinResponseValues, slotRequestValues, discoveryRequestValues, discoveryResponseValues}
 use Rattle.beacons.specs.Beacons.{beaconValues}
-use Rattle.frames.specs.declared.answers.Written.{Written}
-use Rattle.frames.specs.Told.{told, wrote}
+use Rattle.frames.specs.Told.{told}
 use Rattle.entries.specs.declared.reader.Entries.{Entries}
 use Rattle.entries.specs.Walks.{toldWalked}
 use Rattle.routes.specs.Told.{toldFound}

@@ -10,9 +10,9 @@ use lib.Dec.{eqb}
 use lib.ListN.{length, getD, take, drop}
 use Rattle.octets.specs.Answers.{accepted}
 use Rattle.octets.specs.Calls.{after}
+use Rattle.octets.specs.Told.{Wrote}
 use Rattle.octets.proofs.CallLaws.{stored-none}
 use Rattle.shapes.specs.Shape.{placeOf}
-use Rattle.shapes.specs.Writing.{Wrote}
 use Rattle.shapes.proofs.AnsweredLaws.{said-none}
 use Rattle.traffic.specs.Traffic.{dataKind}
 use Rattle.frames.proofs.KindLaws.{a-data}

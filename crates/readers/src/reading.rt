@@ -6,7 +6,7 @@ ghost use Rattle.frames.specs.Told.{told};
 use crate::refusals;
 use beacons::beacon::Beacon;
 use frames::answers::Frame;
-use frames::answers::Refusal;
+use octets::answers::Refusal;
 use octets::numbers::number8;
 use requests::discovery_request::DiscoveryRequest;
 use requests::discovery_response::DiscoveryResponse;

@@ -11,12 +11,12 @@ use lib.ListN.{length, getD}
 use lib.Seq.{sets}
 use Rattle.octets.specs.Answers.{Said, accepted, refused, Reason, first, unless}
 use Rattle.octets.specs.Parts.{Lent, partOf}
+use Rattle.octets.specs.Told.{Wrote}
 use Rattle.octets.proofs.AnswerLaws.{Numbered, numbered, refusing-numbered, none-holds}
 use Rattle.moments.specs.Moments.{inOrder}
 use Rattle.shapes.specs.Reading.{refusalAs}
 use Rattle.shapes.specs.Rules.{address}
 use Rattle.shapes.specs.Shape.{valuesIn, partIn, partLent, frameOf}
-use Rattle.shapes.specs.Writing.{Wrote}
 use Rattle.shapes.proofs.ReadingLaws.{passed, part-length}
 use Rattle.traffic.specs.declared.data_frame.DataHeader.{DataHeader}
 use Rattle.traffic.specs.Traffic.{dataKind, dataValues, dataFrom}

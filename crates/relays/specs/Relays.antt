@@ -9,10 +9,10 @@ use lib.Seq.{sets}
 use Rattle.octets.specs.Answers.{Said, accepted, refused, Reason, reason, refusing, first, unless}
 use Rattle.octets.specs.Calls.{after}
 use Rattle.octets.specs.Parts.{Lent, partOf}
+use Rattle.octets.specs.Told.{Wrote}
 use Rattle.moments.specs.Moments.{inOrder}
 use Rattle.shapes.specs.Reading.{refusalAs}
 use Rattle.shapes.specs.Shape.{valuesIn, partIn, partLent, frameOf}
-use Rattle.shapes.specs.Writing.{Wrote}
 use Rattle.traffic.specs.declared.data_frame.DataHeader.{DataHeader}
 use Rattle.traffic.specs.Traffic.{dataKind, dataValues, dataFrom}
 use Rattle.routes.specs.declared.table.Table.{Table}

@@ -11,7 +11,7 @@ ghost use Rattle.shapes.specs.Shape.{frameOf};
 ghost use Rattle.traffic.specs.Traffic.{dataKind, dataValues};
 ghost use Rattle.routes.specs.Told.{toldFound};
 ghost use Rattle.relays.specs.Relays.{passedOn, unrelayedReasons, relayOf, relayBy, relayIn, handedBack, toldRelayed, relayed};
-use frames::answers::Refusal;
+use octets::answers::Refusal;
 use in_place::finding;
 use in_place::judging::holds_table;
 use moments::in_order;

@@ -9,8 +9,8 @@ use borrow.Author.Tests.{ne-eqb, eqb-true}
 use lib.Dec.{eqb}
 use lib.ListN.{length, getD}
 use Rattle.octets.specs.Answers.{Said, accepted, refused}
-use Rattle.shapes.specs.Writing.{Wrote}
-use Rattle.frames.specs.declared.answers.Refusal.{Refusal}
+use Rattle.octets.specs.declared.answers.Refusal.{Refusal}
+use Rattle.octets.specs.Told.{Wrote}
 use Rattle.routes.specs.declared.table.Table.{Table}
 use Rattle.routes.specs.Tables.{lookupOf}
 use Rattle.forwards.specs.declared.forwarding.ForwardedIn.{ForwardedIn}

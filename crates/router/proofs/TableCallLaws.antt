@@ -10,13 +10,13 @@ use lib.Dec.{eqb}
 use lib.ListN.{length}
 use Rattle.octets.specs.Answers.{Said}
 use Rattle.octets.specs.Calls.{stored}
+use Rattle.octets.specs.declared.answers.Refusal.{Refusal}
 use Rattle.octets.proofs.CallLaws.{after-refused, stored-none}
 use Rattle.routes.specs.declared.table.Changed.{Changed}
 use Rattle.routes.specs.declared.table.Found.{Found}
 use Rattle.routes.specs.declared.table.Head.{Head}
 use Rattle.routes.specs.declared.table.Hop.{Hop}
 use Rattle.routes.specs.declared.table.Table.{Table}
-use Rattle.frames.specs.declared.answers.Refusal.{Refusal}
 use Rattle.routes.specs.Rows.{inUse, pad, rowFor}
 use Rattle.routes.specs.Tables.{rowsOf, headOf, tableOf, lookupRefusal, freshOf, lookupOf}
 use Rattle.routes.specs.Told.{toldFound}

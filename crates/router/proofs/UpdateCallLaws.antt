@@ -9,10 +9,9 @@ use borrow.Author.Tests.{ne-eqb}
 use lib.ListN.{length}
 use Rattle.octets.specs.Answers.{refused}
 use Rattle.octets.specs.Calls.{writeLeft}
-use Rattle.shapes.specs.Writing.{Wrote}
-use Rattle.frames.specs.declared.answers.Refusal.{Refusal}
-use Rattle.frames.specs.declared.answers.Written.{Written}
-use Rattle.frames.specs.Told.{wrote}
+use Rattle.octets.specs.declared.answers.Refusal.{Refusal}
+use Rattle.octets.specs.declared.answers.Written.{Written}
+use Rattle.octets.specs.Told.{Wrote, wrote}
 use Rattle.routes.specs.declared.table.Table.{Table}
 use Rattle.merges.specs.declared.stored.MergedIn.{MergedIn}
 use Rattle.merges.specs.StoredMerges.{MergeLeft, mergeLeft, mergeCall}

@@ -3,7 +3,7 @@ ghost use mathlib.Core.Path.{_≡_};
 ghost use Rattle.octets.specs.Calls.{writeLeft};
 ghost use Rattle.merges.specs.StoredMerges.{mergeLeft, mergeCall};
 ghost use Rattle.router.specs.UpdateCalls.{pageCall};
-use frames::answers::Written;
+use octets::answers::Written;
 use merges::stored::merge_in;
 use pages::stored::page_in;
 

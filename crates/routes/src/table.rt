@@ -10,7 +10,7 @@ ghost use Rattle.routes.specs.Tables.{headOf, pairOk, withinRule, settle
 ghost use Rattle.routes.specs.Told.{toldFound, hopOf};
 use crate::row::Row;
 use crate::standing::standing_places;
-use frames::answers::Refusal;
+use octets::answers::Refusal;
 use moments::in_order;
 use octets::answers::refuse_if;
 

@@ -3,7 +3,7 @@ ghost use mathlib.Core.Path.{_≡_};
 ghost use mathlib.Core.Bool.{_&&_};
 ghost use lib.Dec.{leb};
 ghost use Rattle.site.specs.Plans.{planRule, planOf, toldPlan};
-use frames::answers::Refusal;
+use octets::answers::Refusal;
 
 pub struct Plan {
     pub network: u16,

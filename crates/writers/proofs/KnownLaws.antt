@@ -11,14 +11,14 @@ use lib.Dec.{leb}
 use lib.ListN.{length, getD, take}
 use Rattle.octets.specs.Layouts.{total, bytes, Fit}
 use Rattle.octets.specs.Lists.{every}
-use Rattle.frames.specs.declared.answers.Written.{Written}
+use Rattle.octets.specs.declared.answers.Written.{Written}
+use Rattle.octets.specs.Told.{Wrote, wrote}
 use Rattle.frames.specs.declared.layouts.Layout.{Layout}
 use Rattle.frames.specs.Frames.{kinds}
 use Rattle.frames.specs.Layout.{widthsOf, layoutOf}
 use Rattle.frames.specs.Listed.{given, fitting, extentOf, writeListed, writeNumbers}
 use Rattle.shapes.specs.Shape.{Kind, placeOf, lengthOf, sealed, frameOf}
-use Rattle.frames.specs.Told.{wrote}
-use Rattle.shapes.specs.Writing.{writeRefusal, writing, Wrote, writeAs}
+use Rattle.shapes.specs.Writing.{writeRefusal, writing, writeAs}
 use Rattle.frames.proofs.KindLaws.{asked, known-or-not, code-fits}
 use Rattle.frames.proofs.LayoutLaws.{laid-out, of-widths}
 use Rattle.frames.proofs.ListedLaws.{listed-as, by-type}

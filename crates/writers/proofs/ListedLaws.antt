@@ -14,14 +14,14 @@ use lib.ListN.{length, getD, take, drop, length-append, length-take}
 use lib.Seq.{sets, drop-cons, getD-at}
 use Rattle.octets.specs.Answers.{Said, accepted, refused}
 use Rattle.octets.specs.Layouts.{Fit}
+use Rattle.octets.specs.declared.answers.Refusal.{Refusal}
+use Rattle.octets.specs.declared.answers.Written.{Written}
+use Rattle.octets.specs.Told.{Wrote, toldWritten, wrote}
 use Rattle.octets.proofs.StoreLaws.{take-sets}
-use Rattle.frames.specs.declared.answers.Refusal.{Refusal}
-use Rattle.frames.specs.declared.answers.Written.{Written}
 use Rattle.frames.specs.Frames.{kinds}
 use Rattle.frames.specs.Listed.{given, fitting}
 use Rattle.shapes.specs.Shape.{Kind, lengthOf, frameOf}
-use Rattle.frames.specs.Told.{wrote, toldWritten}
-use Rattle.shapes.specs.Writing.{Wrote, writeRefusal, writing}
+use Rattle.shapes.specs.Writing.{writeRefusal, writing}
 use Rattle.frames.proofs.TripLaws.{refused-alike}
 use Rattle.writers.specs.Taking.{takes}
 

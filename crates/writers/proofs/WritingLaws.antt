@@ -11,14 +11,14 @@ use lib.Seq.{sets}
 use Rattle.octets.specs.Layouts.{total, bytes}
 use Rattle.octets.specs.Sums.{xors}
 use Rattle.octets.specs.Answers.{accepted}
+use Rattle.octets.specs.declared.answers.Written.{Written}
+use Rattle.octets.specs.Told.{wrote}
 use Rattle.octets.proofs.AnswerLaws.{unless-none, unless-some}
 use Rattle.octets.proofs.CallLaws.{after-accepted, after-refused}
 use Rattle.octets.proofs.LayoutLaws.{length-bytes}
 use Rattle.octets.proofs.StoreLaws.{sets-append, take-sets}
 use Rattle.shapes.proofs.SealLaws.{length-sealed}
-use Rattle.frames.specs.declared.answers.Written.{Written}
 use Rattle.shapes.specs.Shape.{sealed}
-use Rattle.frames.specs.Told.{wrote}
 use Rattle.shapes.specs.Writing.{writeRefusal, writing}
 
 module _ (due : ℕ) (good : Bool) (frame out : List ℕ) (n : ℕ) (e : n ≡ writeRefusal due (length frame) good (length out)) where

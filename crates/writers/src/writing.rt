@@ -1,14 +1,15 @@
 // Writing a frame: what its reader would refuse is refused, then a buffer that is too short.
 ghost use mathlib.Core.Path.{_≡_};
+ghost use Rattle.octets.specs.Told.{wrote};
 ghost use Rattle.traffic.specs.Traffic.{dataKind, update, dataValues, updateValues};
 ghost use Rattle.requests.specs.Requests.{joinRequest, joinResponse, slotRequest, discoveryRequest, discoveryResponse, joinRequestValues, joinResponseValues, slotRequestValues, discoveryRequestValues, discoveryResponseValues};
 ghost use Rattle.beacons.specs.Beacons.{beacon, beaconValues};
-ghost use Rattle.frames.specs.Told.{wrote, writeFrame};
+ghost use Rattle.frames.specs.Told.{writeFrame};
 ghost use Rattle.shapes.specs.Writing.{writeAs};
 use crate::emitting::emit;
 use beacons::beacon::Beacon;
 use frames::answers::Frame;
-use frames::answers::Written;
+use octets::answers::Written;
 use requests::discovery_request::DiscoveryRequest;
 use requests::discovery_response::DiscoveryResponse;
 use requests::join_request::JoinRequest;

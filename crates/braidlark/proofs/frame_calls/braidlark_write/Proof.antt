@@ -1,9 +1,9 @@
 -- `braidlark_write`: what the writer answers.
 -- Assumes nothing.
 use native.Mathlib.Omega.{arith}
-use Rattle.frames.specs.declared.answers.Written.{Written}
-use Rattle.frames.specs.Told.{wrote}
 use mathlib.Core.Path.{sym, ap, _∙_}
+use Rattle.octets.specs.declared.answers.Written.{Written}
+use Rattle.octets.specs.Told.{wrote}
 use Rattle.braidlark.proofs.FrameCallLaws.{written-short, done, undone}
 use borrow.Author.Needs.{needs}
 use Rattle.braidlark.proofs.frame_calls.braidlark_write.Statement.{statement}

@@ -3,7 +3,7 @@
 use mathlib.Core.Path.{_≡_, sym, ap, _∙_}
 use native.Mathlib.Omega.{arith}
 use denote.Ref.{now}
-use Rattle.frames.specs.Told.{wrote}
+use Rattle.octets.specs.Told.{wrote}
 use Rattle.book.specs.Schedules.{scheduleOf}
 use Rattle.ledgers.specs.BookBytes.{bookIn}
 use Rattle.manager.specs.BookCalls.{scheduleCall}

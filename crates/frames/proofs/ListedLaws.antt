@@ -11,7 +11,7 @@ use lib.ListN.{length, getD}
 use Rattle.octets.specs.Answers.{refused}
 use Rattle.octets.specs.Lists.{every}
 use Rattle.octets.specs.Told.{Wrote}
-use Rattle.shapes.specs.Shape.{Kind}
+use Rattle.frame_kinds.specs.Shape.{Kind}
 use Rattle.frames.specs.Frames.{kinds}
 use Rattle.frames.specs.Listed.{writeListed, writeNumbers}
 use Rattle.frames.proofs.KindLaws.{asked, known-or-not, of-each}

@@ -8,9 +8,9 @@ use lib.Dec.{eqb}
 use Rattle.octets.specs.Answers.{OneToOne}
 use Rattle.octets.proofs.AnswerLaws.{one-by-return}
 use Rattle.frames.specs.declared.answers.Frame.{Frame}
-use Rattle.traffic.specs.Traffic.{dataFrom, updateFrom}
-use Rattle.requests.specs.Requests.{joinRequestFrom, joinResponseFrom, slotRequestFrom, discoveryRequestFrom, discoveryResponseFrom}
-use Rattle.beacons.specs.Beacons.{beaconFrom}
+use Rattle.frame_traffic.specs.Traffic.{dataFrom, updateFrom}
+use Rattle.frame_requests.specs.Requests.{joinRequestFrom, joinResponseFrom, slotRequestFrom, discoveryRequestFrom, discoveryResponseFrom}
+use Rattle.frame_beacons.specs.Beacons.{beaconFrom}
 use Rattle.frames.specs.Told.{told}
 
 -- the frame that says this

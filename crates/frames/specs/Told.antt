@@ -5,10 +5,10 @@ use Prim.Native.Nat.{ℕ}
 use Rattle.octets.specs.Answers.{Said, accepted, refused}
 use Rattle.octets.specs.Told.{Wrote}
 use Rattle.frames.specs.declared.answers.Frame.{Frame}
-use Rattle.traffic.specs.Traffic.{dataKind, dataValues, update, updateValues}
-use Rattle.requests.specs.Requests.{joinRequest, joinRequestValues, joinResponse, joinResponseValues, slotRequest, slotRequestValues, discoveryRequest, discoveryRequestValues, discoveryResponse, discoveryResponseValues}
-use Rattle.beacons.specs.Beacons.{beacon, beaconValues}
-use Rattle.shapes.specs.Writing.{writeAs}
+use Rattle.frame_traffic.specs.Traffic.{dataKind, dataValues, update, updateValues}
+use Rattle.frame_requests.specs.Requests.{joinRequest, joinRequestValues, joinResponse, joinResponseValues, slotRequest, slotRequestValues, discoveryRequest, discoveryRequestValues, discoveryResponse, discoveryResponseValues}
+use Rattle.frame_beacons.specs.Beacons.{beacon, beaconValues}
+use Rattle.frame_kinds.specs.Writing.{writeAs}
 
 -- a frame that was read: its type, then its fields
 abbrev pub told : Frame → Said

@@ -1,51 +1,21 @@
 //! `compare` puts the same calls to the library and to an implementation written from the paper, subject by
 //! subject, and stops at the first difference. This file is the command line and the order of the subjects.
 //!
-//! The paper is document 01, with times and the clock as request 104 of document 02 has them (`moments`).
+//! The paper is document 01, with times and the clock as request 104 of document 02 has them (`shared::moments`).
 
 #![deny(warnings)]
 
-mod beacons;
 mod bench;
-mod bench_calls;
-mod bench_cases;
-mod bodies;
 mod book;
-mod book_calls;
-mod book_cases;
-mod book_check;
-mod book_drafts;
-mod book_sweeps;
-mod boundary;
 mod clock;
-mod clock_check;
 mod frames;
-mod frames_check;
-mod frames_drafts;
-mod hostile;
 mod image;
-mod image_calls;
-mod image_cases;
-mod image_check;
-mod image_drafts;
-mod image_files;
 mod life;
-mod life_check;
-mod moments;
-mod moments_drafts;
-mod pages;
-mod random;
-mod refusal;
-mod relays;
-mod report;
 mod routes;
-mod routes_calls;
-mod routes_cases;
-mod routes_check;
-mod routes_drafts;
-mod site;
+mod shared;
 
-use report::{Difference, Progress, Tally};
+use shared::check::{Agreement, Check, Kinds};
+use shared::progress::Progress;
 use std::process::ExitCode;
 
 const USAGE: &str = "\
@@ -93,19 +63,20 @@ pub struct Options {
     pub help: bool,
 }
 
-/// A part of the library with an implementation module and a check module of its own.
+/// A part of the library with a folder of its own.
 struct Subject {
     name: &'static str,
-    check: fn(&Options, &mut Progress) -> Result<Tally, Difference>,
+    calls: Kinds,
+    check: fn(&mut Check, &Options, &mut Progress) -> Agreement,
 }
 
 const SUBJECTS: &[Subject] = &[
-    Subject { name: "frames", check: frames_check::check },
-    Subject { name: "routes", check: routes_check::check },
-    Subject { name: "life", check: life_check::check },
-    Subject { name: "clock", check: clock_check::check },
-    Subject { name: "books", check: book_check::check },
-    Subject { name: "images", check: image_check::check },
+    Subject { name: "frames", calls: &frames::calls::CALLS, check: frames::check::check },
+    Subject { name: "routes", calls: &routes::calls::CALLS, check: routes::check::check },
+    Subject { name: "life", calls: &life::calls::CALLS, check: life::check::check },
+    Subject { name: "clock", calls: &clock::calls::CALLS, check: clock::check::check },
+    Subject { name: "books", calls: &book::calls::CALLS, check: book::check::check },
+    Subject { name: "images", calls: &image::calls::CALLS, check: image::check::check },
 ];
 
 fn main() -> ExitCode {
@@ -113,7 +84,7 @@ fn main() -> ExitCode {
         std::env::args_os().skip(1).map(|argument| argument.to_string_lossy().into_owned()).collect();
     let result = match arguments.split_first() {
         Some((first, rest)) if first == "bench" => bench::run(rest).map(|()| AGREED),
-        Some((first, rest)) if first == "images" => image_files::run(rest).map(|()| AGREED),
+        Some((first, rest)) if first == "images" => image::files::run(rest).map(|()| AGREED),
         _ => parse(arguments.into_iter()).map(|options| obey(&options)),
     };
     ExitCode::from(result.unwrap_or_else(|message| {
@@ -169,10 +140,11 @@ fn number(option: &str, value: Option<String>) -> Result<u64, String> {
 fn compare(options: &Options) -> u8 {
     for subject in SUBJECTS {
         let mut progress = Progress::new(subject.name, options.quiet);
-        let result = (subject.check)(options, &mut progress);
+        let mut check = Check::new(options.seed, subject.calls);
+        let result = (subject.check)(&mut check, options, &mut progress);
         progress.end();
         match result {
-            Ok(tally) => println!("{}: {}", subject.name, tally),
+            Ok(()) => println!("{}: {}", subject.name, check.tally()),
             Err(difference) => {
                 let name = subject.name;
                 eprintln!("{}: the library differs, seed {:#x} (contents in hex)\n{}", name, options.seed, difference);

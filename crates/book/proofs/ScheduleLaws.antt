@@ -12,16 +12,16 @@ use lib.Dec.{eqb, leb}
 use lib.ListN.{length, getD, drop, set, replicate}
 use lib.Seq.{sets, sets-eq}
 use Rattle.octets.specs.Lists.{tab}
+use Rattle.octets.specs.declared.answers.Written.{Written}
+use Rattle.octets.specs.Told.{wrote}
 use Rattle.octets.proofs.AnswerLaws.{numbered, none-holds}
-use Rattle.frames.specs.declared.answers.Written.{Written}
-use Rattle.frames.specs.Told.{wrote}
-use Rattle.slots.specs.Sets.{Slots}
-use Rattle.site.specs.declared.plan.Plan.{Plan}
-use Rattle.site.specs.Plans.{slotsIn, slots, sleepAt}
-use Rattle.site.specs.Schedules.{sleep, kindOf}
-use Rattle.site.proofs.PlanLaws.{kept}
-use Rattle.site.proofs.RegionLaws.{kinds-by-region}
-use Rattle.members.specs.Members.{emptyRow, rowFor}
+use Rattle.slot_sets.specs.Sets.{Slots}
+use Rattle.site_plan.specs.declared.plan.Plan.{Plan}
+use Rattle.site_plan.specs.Plans.{slotsIn, slots, sleepAt}
+use Rattle.site_plan.specs.Schedules.{sleep, kindOf}
+use Rattle.site_plan.proofs.PlanLaws.{kept}
+use Rattle.site_plan.proofs.RegionLaws.{kinds-by-region}
+use Rattle.book_members.specs.Members.{emptyRow, rowFor}
 use Rattle.book.specs.Books.{Stated, withinRule, rowsAt, liveAt}
 use Rattle.book.specs.Schedules.{hopRule, scheduleReasons, scheduleRefusal, scheduleOf}
 use Rattle.book.proofs.WithinLaws.{within}

@@ -12,10 +12,10 @@ use lib.ListN.{length, getD, take, set}
 use lib.Seq.{getD-take}
 use Rattle.octets.specs.Answers.{first}
 use Rattle.octets.proofs.AnswerLaws.{numbered, none-holds}
-use Rattle.slots.specs.Sets.{Slots, slotsOf}
-use Rattle.slots.proofs.MaskLaws.{mask-nothing}
-use Rattle.members.specs.declared.member.Member.{Member}
-use Rattle.members.specs.Members.{Row, rowsOf, emptyRow, kept, current, rowFor}
+use Rattle.slot_sets.specs.Sets.{Slots, slotsOf}
+use Rattle.slot_sets.proofs.MaskLaws.{mask-nothing}
+use Rattle.book_members.specs.declared.member.Member.{Member}
+use Rattle.book_members.specs.Members.{Row, rowsOf, emptyRow, kept, current, rowFor}
 use Rattle.book.specs.declared.book.Book.{Book}
 use Rattle.book.specs.Books.{Stated, stated, rowsAt, liveAt, withRow, left, memberReasons, heardOf, leaveOf}
 

@@ -7,11 +7,11 @@ use Prim.Native.Nat.{ℕ, _≤_}
 use native.Mathlib.Omega.{arith}
 use lib.ListN.{drop}
 use Rattle.octets.specs.Lists.{every}
-use Rattle.site.specs.Plans.{planRule}
-use Rattle.site.proofs.PlanLaws.{rule-bounds}
-use Rattle.members.specs.Members.{Row}
-use Rattle.members.specs.Rules.{emptyIs, rowsRule}
-use Rattle.members.proofs.RowRuleLaws.{Ruled, ruled, rules, ruled-then}
+use Rattle.site_plan.specs.Plans.{planRule}
+use Rattle.site_plan.proofs.PlanLaws.{rule-bounds}
+use Rattle.book_members.specs.Members.{Row}
+use Rattle.book_members.specs.Rules.{emptyIs, rowsRule}
+use Rattle.book_members.proofs.RowRuleLaws.{Ruled, ruled, rules, ruled-then}
 use Rattle.book.specs.Books.{Stated, rowsIn, withinRule, rowsAt}
 
 -- rows within rule, of a book's plan

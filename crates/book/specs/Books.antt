@@ -9,12 +9,12 @@ use Rattle.octets.specs.Answers.{Reason, reason, first}
 use Rattle.octets.specs.Calls.{after}
 use Rattle.octets.specs.Lists.{every}
 use Rattle.moments.specs.Moments.{inOrder}
-use Rattle.shapes.specs.Rules.{address}
-use Rattle.slots.specs.Sets.{firsts}
-use Rattle.site.specs.declared.plan.Plan.{Plan}
-use Rattle.site.specs.Plans.{planRule}
-use Rattle.members.specs.Members.{Row, rowsOf, emptyRow, current, rowFor}
-use Rattle.members.specs.Rules.{rowsRule, emptyIs}
+use Rattle.frame_kinds.specs.Rules.{address}
+use Rattle.slot_sets.specs.Sets.{firsts}
+use Rattle.site_plan.specs.declared.plan.Plan.{Plan}
+use Rattle.site_plan.specs.Plans.{planRule}
+use Rattle.book_members.specs.Members.{Row, rowsOf, emptyRow, current, rowFor}
+use Rattle.book_members.specs.Rules.{rowsRule, emptyIs}
 use Rattle.book.specs.declared.book.Book.{Book}
 use Rattle.book.specs.declared.book.Changed.{Changed}
 

@@ -9,13 +9,13 @@ use lib.Seq.{sets}
 use Rattle.octets.specs.Answers.{Reason, accepted, reason, first, unless}
 use Rattle.octets.specs.Calls.{after}
 use Rattle.octets.specs.Lists.{tab}
+use Rattle.octets.specs.Told.{Wrote}
 use Rattle.moments.specs.Moments.{inOrder}
-use Rattle.shapes.specs.Rules.{address}
-use Rattle.shapes.specs.Writing.{Wrote}
-use Rattle.site.specs.declared.plan.Plan.{Plan}
-use Rattle.site.specs.Plans.{slots}
-use Rattle.site.specs.Schedules.{kindOf}
-use Rattle.members.specs.Members.{emptyRow, rowFor}
+use Rattle.frame_kinds.specs.Rules.{address}
+use Rattle.site_plan.specs.declared.plan.Plan.{Plan}
+use Rattle.site_plan.specs.Plans.{slots}
+use Rattle.site_plan.specs.Schedules.{kindOf}
+use Rattle.book_members.specs.Members.{emptyRow, rowFor}
 use Rattle.book.specs.Books.{Stated, withinRule, rowsAt, liveAt}
 
 -- hop 0 is the manager's alone, others are at 1 to h

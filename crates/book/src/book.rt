@@ -1,12 +1,12 @@
 // A book: the plan of a site, the last accepted time, and a row for each member.
 ghost use mathlib.Core.Path.{_≡_};
 ghost use Rattle.book.specs.Books.{stated, withinRule, leftBy, left, noBook, freshBook, freshOf};
-use members::member::Member;
-use members::rules::empty_from;
-use members::rules::rows_within_rule;
+use book_members::member::Member;
+use book_members::rules::empty_from;
+use book_members::rules::rows_within_rule;
 use octets::answers::refuse_if;
-use site::plan::Plan;
-use slots::masks::below;
+use site_plan::plan::Plan;
+use slot_sets::masks::below;
 
 // The plan uses as many rows as it has members; the places behind them are zeros.
 pub struct Book {

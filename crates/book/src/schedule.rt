@@ -4,23 +4,23 @@ ghost use Prim.Native.Nat.{_-_, _≤_};
 ghost use lib.ListN.{length, replicate};
 ghost use lib.Seq.{sets};
 ghost use Rattle.octets.specs.Lists.{tab};
-ghost use Rattle.slots.specs.Sets.{slotsOf};
-ghost use Rattle.site.specs.Schedules.{sleep, kindOf};
-ghost use Rattle.frames.specs.Told.{wrote};
+ghost use Rattle.octets.specs.Told.{wrote};
+ghost use Rattle.slot_sets.specs.Sets.{slotsOf};
+ghost use Rattle.site_plan.specs.Schedules.{sleep, kindOf};
 ghost use Rattle.book.specs.Books.{stated};
 ghost use Rattle.book.specs.Schedules.{hopRule, scheduleRefusal, scheduleOf};
 use crate::book::Book;
-use frames::answers::Refusal;
-use frames::answers::Written;
-use members::rows::current;
-use members::rows::in_use;
-use members::rows::row_for;
-use members::rows::slots_at;
+use book_members::rows::current;
+use book_members::rows::in_use;
+use book_members::rows::row_for;
+use book_members::rows::slots_at;
 use moments::in_order;
+use octets::answers::Refusal;
+use octets::answers::Written;
 use octets::answers::refuse_if;
 use octets::parts::smaller;
-use site::plan::Plan;
-use site::schedules::kind_at;
+use site_plan::plan::Plan;
+use site_plan::schedules::kind_at;
 
 // Whether a unit may be at a hop: the manager at 0, and no other there.
 fn hop_within_rule(plan: Plan, unit: u16, hop: u32) -> bool

@@ -5,12 +5,12 @@ ghost use Rattle.book.specs.Books.{stated, memberReasons, leftBy, heardO
 use crate::book::Book;
 use crate::book::Changed;
 use crate::book::settled;
-use members::member::Member;
-use members::rows::current;
-use members::rows::in_use;
-use members::rows::row_for;
-use members::rows::slots_at;
-use members::rows::with_row;
+use book_members::member::Member;
+use book_members::rows::current;
+use book_members::rows::in_use;
+use book_members::rows::row_for;
+use book_members::rows::slots_at;
+use book_members::rows::with_row;
 use moments::in_order;
 use octets::answers::refuse_if;
 

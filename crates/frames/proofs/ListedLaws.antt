@@ -10,8 +10,8 @@ use lib.Dec.{ltb}
 use lib.ListN.{length, getD}
 use Rattle.octets.specs.Answers.{refused}
 use Rattle.octets.specs.Lists.{every}
-use Rattle.shapes.specs.Shape.{Kind}
-use Rattle.shapes.specs.Writing.{Wrote}
+use Rattle.octets.specs.Told.{Wrote}
+use Rattle.frame_kinds.specs.Shape.{Kind}
 use Rattle.frames.specs.Frames.{kinds}
 use Rattle.frames.specs.Listed.{writeListed, writeNumbers}
 use Rattle.frames.proofs.KindLaws.{asked, known-or-not, of-each}

@@ -8,11 +8,10 @@ use lib.Dec.{eqb}
 use Rattle.octets.specs.Answers.{OneToOne}
 use Rattle.octets.proofs.AnswerLaws.{one-by-return}
 use Rattle.frames.specs.declared.answers.Frame.{Frame}
-use Rattle.frames.specs.declared.answers.Written.{Written}
-use Rattle.traffic.specs.Traffic.{dataFrom, updateFrom}
-use Rattle.requests.specs.Requests.{joinRequestFrom, joinResponseFrom, slotRequestFrom, discoveryRequestFrom, discoveryResponseFrom}
-use Rattle.beacons.specs.Beacons.{beaconFrom}
-use Rattle.frames.specs.Told.{told, toldWritten}
+use Rattle.frame_traffic.specs.Traffic.{dataFrom, updateFrom}
+use Rattle.frame_requests.specs.Requests.{joinRequestFrom, joinResponseFrom, slotRequestFrom, discoveryRequestFrom, discoveryResponseFrom}
+use Rattle.frame_beacons.specs.Beacons.{beaconFrom}
+use Rattle.frames.specs.Told.{told}
 
 -- the frame that says this
 frame-from : ℕ → List ℕ → Frame
@@ -40,16 +39,3 @@ frame-back (Frame.Refused r) = refl
 
 pub told-one : OneToOne told
 told-one = one-by-return told frame-from frame-back
-
--- the answer of a writer that says this
-written-from : ℕ → List ℕ → Written
-written-from number [] = Written.Refused (record { number = number })
-written-from number (n ∷ vs) = Written.Done n
-
-written-back : (w : Written) → written-from (toldWritten w .refusal) (toldWritten w .values) ≡ w
-unfolding written-from
-written-back (Written.Done n) = refl
-written-back (Written.Refused r) = refl
-
-pub told-written-one : OneToOne toldWritten
-told-written-one = one-by-return toldWritten written-from written-back

@@ -18,14 +18,14 @@ use Rattle.octets.proofs.AnswerLaws.{unless-none, unless-number}
 use Rattle.octets.proofs.LayoutLaws.{fit-length, length-bytes, fields-bytes, bytes-fields, fields-fit}
 use Rattle.frames.specs.Frames.{kinds, readFrame}
 use Rattle.frames.specs.Layout.{widthsOf}
-use Rattle.shapes.specs.Reading.{isSealed, misfit, readRefusal, refusalAs, readAs, readUnknown}
-use Rattle.shapes.specs.Shape.{Kind, placeOf, lengthOf, valuesIn, partIn, sealed, frameOf}
+use Rattle.frame_kinds.specs.Reading.{isSealed, misfit, readRefusal, refusalAs, readAs, readUnknown}
+use Rattle.frame_kinds.specs.Shape.{Kind, placeOf, lengthOf, valuesIn, partIn, sealed, frameOf}
 use Rattle.frames.specs.Trips.{refusalWith, RefusedAlike, ReadsBack, WritesBack}
-use Rattle.shapes.specs.Writing.{writeRefusal}
+use Rattle.frame_kinds.specs.Writing.{writeRefusal}
 use Rattle.frames.proofs.KindLaws.{asked, known-or-not, code-fits, of-type}
-use Rattle.shapes.proofs.ReadingLaws.{Passed, passed}
-use Rattle.shapes.proofs.SealLaws.{length-sealed, sealed-is, sealed-whole}
-use Rattle.shapes.proofs.WritingLaws.{put}
+use Rattle.frame_kinds.proofs.ReadingLaws.{Passed, passed}
+use Rattle.frame_kinds.proofs.SealLaws.{length-sealed, sealed-is, sealed-whole}
+use Rattle.frame_kinds.proofs.WritingLaws.{put}
 
 -- the two orders of the length tests give the same number, if a frame of the right length has the right part
 in-order : (size due : ℕ) (good seen : Bool) → (size ≡ due → seen ≡ good)

@@ -9,10 +9,10 @@ use lib.ListN.{length, getD, drop}
 use Rattle.octets.specs.Answers.{Said, accepted}
 use Rattle.octets.specs.Layouts.{total, Fit}
 use Rattle.octets.specs.Numbers.{num}
-use Rattle.shapes.specs.Reading.{refusalAs}
-use Rattle.shapes.specs.Shape.{Kind, lengthOf, partIn, frameOf}
-use Rattle.shapes.proofs.ReadingLaws.{passed, part-length}
-use Rattle.shapes.proofs.WritingLaws.{unrefused}
+use Rattle.frame_kinds.specs.Reading.{refusalAs}
+use Rattle.frame_kinds.specs.Shape.{Kind, lengthOf, partIn, frameOf}
+use Rattle.frame_kinds.proofs.ReadingLaws.{passed, part-length}
+use Rattle.frame_kinds.proofs.WritingLaws.{unrefused}
 use Rattle.frames.specs.Frames.{kinds, readFrame}
 use Rattle.frames.specs.Trips.{refusalWith, TakenAsRead, PartsInPlace}
 use Rattle.frames.proofs.KindLaws.{asked, code-fits}

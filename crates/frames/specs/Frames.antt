@@ -4,11 +4,11 @@ use Prim.Native.Nat.{ℕ}
 use mathlib.Core.List.{List, [], _∷_}
 use Rattle.octets.specs.Answers.{Said}
 use Rattle.octets.specs.Numbers.{num}
-use Rattle.shapes.specs.Reading.{readAs, readUnknown}
-use Rattle.shapes.specs.Shape.{Kind, among}
-use Rattle.requests.specs.Requests.{joinRequest, joinResponse, slotRequest, discoveryRequest, discoveryResponse}
-use Rattle.traffic.specs.Traffic.{dataKind, update}
-use Rattle.beacons.specs.Beacons.{beacon}
+use Rattle.frame_kinds.specs.Reading.{readAs, readUnknown}
+use Rattle.frame_kinds.specs.Shape.{Kind, among}
+use Rattle.frame_requests.specs.Requests.{joinRequest, joinResponse, slotRequest, discoveryRequest, discoveryResponse}
+use Rattle.frame_traffic.specs.Traffic.{dataKind, update}
+use Rattle.frame_beacons.specs.Beacons.{beacon}
 
 -- every kind, in the paper's order
 abbrev pub kinds : List Kind

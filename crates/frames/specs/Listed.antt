@@ -8,9 +8,10 @@ use lib.ListN.{length, getD}
 use lib.Seq.{sets}
 use Rattle.octets.specs.Answers.{refused, reason, first}
 use Rattle.octets.specs.Calls.{after}
+use Rattle.octets.specs.Told.{Wrote}
 use Rattle.frames.specs.Frames.{kinds, readFrame}
-use Rattle.shapes.specs.Shape.{Kind, among, lengthOf, frameOf}
-use Rattle.shapes.specs.Writing.{Wrote, writing}
+use Rattle.frame_kinds.specs.Shape.{Kind, among, lengthOf, frameOf}
+use Rattle.frame_kinds.specs.Writing.{writing}
 
 -- why a frame is not shown as numbers in a buffer with this room for them; 0 where it is
 unfoldable pub showRefusal : List ℕ → ℕ → ℕ

@@ -3,12 +3,12 @@
 use mathlib.Core.List.{List, [], _∷_}
 use Prim.Native.Nat.{ℕ}
 use Rattle.octets.specs.Answers.{Said, accepted, refused}
+use Rattle.octets.specs.Told.{Wrote}
 use Rattle.frames.specs.declared.answers.Frame.{Frame}
-use Rattle.frames.specs.declared.answers.Written.{Written}
-use Rattle.traffic.specs.Traffic.{dataKind, dataValues, update, updateValues}
-use Rattle.requests.specs.Requests.{joinRequest, joinRequestValues, joinResponse, joinResponseValues, slotRequest, slotRequestValues, discoveryRequest, discoveryRequestValues, discoveryResponse, discoveryResponseValues}
-use Rattle.beacons.specs.Beacons.{beacon, beaconValues}
-use Rattle.shapes.specs.Writing.{Wrote, writeAs}
+use Rattle.frame_traffic.specs.Traffic.{dataKind, dataValues, update, updateValues}
+use Rattle.frame_requests.specs.Requests.{joinRequest, joinRequestValues, joinResponse, joinResponseValues, slotRequest, slotRequestValues, discoveryRequest, discoveryRequestValues, discoveryResponse, discoveryResponseValues}
+use Rattle.frame_beacons.specs.Beacons.{beacon, beaconValues}
+use Rattle.frame_kinds.specs.Writing.{writeAs}
 
 -- a frame that was read: its type, then its fields
 abbrev pub told : Frame → Said
@@ -21,15 +21,6 @@ told (Frame.DiscoveryResponse f) = accepted (0x25 ∷ discoveryResponseValues f)
 told (Frame.Update f) = accepted (0x31 ∷ updateValues f)
 told (Frame.Beacon f) = accepted (0x46 ∷ beaconValues f)
 told (Frame.Refused r) = refused (r .number)
-
--- a frame that was written: how many bytes
-abbrev pub toldWritten : Written → Said
-toldWritten (Written.Done n) = accepted (n ∷ [])
-toldWritten (Written.Refused r) = refused (r .number)
-
--- that, with what the buffer then holds
-abbrev pub wrote : Written → List ℕ → Wrote
-wrote answer held = record { said = toldWritten answer; held = held }
 
 -- writing a frame with these bytes behind its fields; a refusal is no frame, and stays one
 abbrev pub writeFrame : Frame → List ℕ → List ℕ → Wrote

@@ -9,9 +9,9 @@ use Rattle.octets.specs.Layouts.{total, Fit, Bytes}
 use Rattle.octets.specs.Numbers.{num}
 use Rattle.frames.specs.Frames.{kinds, readFrame}
 use Rattle.frames.specs.Layout.{widthsOf}
-use Rattle.shapes.specs.Reading.{refusalAs}
-use Rattle.shapes.specs.Shape.{Kind, placeOf, lengthOf, valuesIn, partIn, frameOf}
-use Rattle.shapes.specs.Writing.{writeRefusal}
+use Rattle.frame_kinds.specs.Reading.{refusalAs}
+use Rattle.frame_kinds.specs.Shape.{Kind, placeOf, lengthOf, valuesIn, partIn, frameOf}
+use Rattle.frame_kinds.specs.Writing.{writeRefusal}
 
 -- why a frame of a kind with these values and these bytes behind them is not written, a short buffer aside: this room is enough
 abbrev pub refusalWith : Kind → List ℕ → List ℕ → ℕ

@@ -1,20 +1,16 @@
-// What reading and writing a frame answer.
+// What reading a frame answers: one of the kinds, or a refusal.
 ghost use mathlib.Core.Path.{_≡_};
 ghost use Rattle.octets.specs.Answers.{unless};
 ghost use Rattle.frames.specs.Told.{told};
-use beacons::beacon::Beacon;
-use requests::discovery_request::DiscoveryRequest;
-use requests::discovery_response::DiscoveryResponse;
-use requests::join_request::JoinRequest;
-use requests::join_response::JoinResponse;
-use requests::slot_request::SlotRequest;
-use traffic::data_frame::DataHeader;
-use traffic::update::UpdateHeader;
-
-// Document 01's refusal number.
-pub struct Refusal {
-    pub number: u8,
-}
+use frame_beacons::beacon::Beacon;
+use frame_requests::discovery_request::DiscoveryRequest;
+use frame_requests::discovery_response::DiscoveryResponse;
+use frame_requests::join_request::JoinRequest;
+use frame_requests::join_response::JoinResponse;
+use frame_requests::slot_request::SlotRequest;
+use frame_traffic::data_frame::DataHeader;
+use frame_traffic::update::UpdateHeader;
+use octets::answers::Refusal;
 
 // A frame that was read. The payload of data and the entries of an update stay in the caller's bytes.
 pub enum Frame {
@@ -26,12 +22,6 @@ pub enum Frame {
     DiscoveryResponse(DiscoveryResponse),
     Update(UpdateHeader),
     Beacon(Beacon),
-    Refused(Refusal),
-}
-
-// How many bytes were written.
-pub enum Written {
-    Done(usize),
     Refused(Refusal),
 }
 

@@ -5,12 +5,12 @@ use mathlib.Core.List.{List}
 use Prim.Native.Nat.{ℕ}
 use Rattle.octets.specs.Numbers.{num, digits}
 use Rattle.octets.specs.Sums.{xors}
-use Rattle.shapes.specs.Reading.{isSealed, readRefusal}
-use Rattle.shapes.specs.Shape.{sealed}
+use Rattle.frame_kinds.specs.Reading.{isSealed, readRefusal}
+use Rattle.frame_kinds.specs.Shape.{sealed}
 use Rattle.frames.specs.Frames.{readFrame}
-use Rattle.site.specs.Plans.{slotsIn, planOf}
+use Rattle.site_plan.specs.Plans.{slotsIn, planOf}
 use Rattle.moments.specs.Moments.{ageAt, inOrder}
-use Rattle.clock.specs.Clock.{signed, wrapped, drift, half, correction, corrected}
+use Rattle.unit_clock.specs.Clock.{signed, wrapped, drift, half, correction, corrected}
 use Rattle.paper.specs.Examples.{examplesWith, allSame, AsInThePaper}
 use Rattle.paper.proofs.StoryLaws.{story-told}
 

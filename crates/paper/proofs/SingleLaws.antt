@@ -4,21 +4,21 @@ use mathlib.Core.Path.{_≡_, refl, sym, ap, ap₂, _∙_}
 use mathlib.Core.List.{List, [], _∷_, map}
 use Prim.Native.Nat.{ℕ}
 use Rattle.octets.specs.Answers.{Said, OneToOne}
-use Rattle.slots.specs.Sets.{slotsOf, maskOf}
-use Rattle.slots.proofs.BitLaws.{mask-of-set}
-use Rattle.traffic.specs.Traffic.{dataFrom, updateFrom}
-use Rattle.requests.specs.Requests.{joinRequestFrom, joinResponseFrom, slotRequestFrom, discoveryRequestFrom, discoveryResponseFrom}
-use Rattle.beacons.specs.Beacons.{beaconFrom}
-use Rattle.shapes.specs.Writing.{Wrote}
-use Rattle.frames.specs.Told.{toldWritten}
-use Rattle.frames.proofs.ToldLaws.{told-one, told-written-one}
-use Rattle.entries.proofs.MeetLaws.{told-walked-one}
-use Rattle.routes.proofs.ToldLaws.{told-found-one}
-use Rattle.relays.specs.Relays.{toldRelayed}
-use Rattle.relays.proofs.ToldLaws.{told-relayed-one}
-use Rattle.site.proofs.ToldLaws.{told-plan-one}
-use Rattle.members.specs.declared.member.Member.{Member}
-use Rattle.members.specs.Members.{Row, rowOf, rowsOf}
+use Rattle.octets.specs.Told.{Wrote, toldWritten}
+use Rattle.slot_sets.specs.Sets.{slotsOf, maskOf}
+use Rattle.slot_sets.proofs.BitLaws.{mask-of-set}
+use Rattle.frame_traffic.specs.Traffic.{dataFrom, updateFrom}
+use Rattle.frame_requests.specs.Requests.{joinRequestFrom, joinResponseFrom, slotRequestFrom, discoveryRequestFrom, discoveryResponseFrom}
+use Rattle.frame_beacons.specs.Beacons.{beaconFrom}
+use Rattle.octets.proofs.ToldLaws.{told-written-one}
+use Rattle.frames.proofs.ToldLaws.{told-one}
+use Rattle.frame_entries.proofs.MeetLaws.{told-walked-one}
+use Rattle.route_table.proofs.ToldLaws.{told-found-one}
+use Rattle.route_relays.specs.Relays.{toldRelayed}
+use Rattle.route_relays.proofs.ToldLaws.{told-relayed-one}
+use Rattle.site_plan.proofs.ToldLaws.{told-plan-one}
+use Rattle.book_members.specs.declared.member.Member.{Member}
+use Rattle.book_members.specs.Members.{Row, rowOf, rowsOf}
 use Rattle.book.specs.declared.book.Book.{Book}
 use Rattle.book.specs.Books.{Stated, stated}
 use Rattle.paper.specs.Single.{TellsApart, SingleAnswer, PartsTellApart, any, mask, maskRow, maskRows, maskBook, ViewsTellApart}

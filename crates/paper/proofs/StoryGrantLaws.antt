@@ -9,18 +9,18 @@ use Rattle.octets.specs.Numbers.{num, digits}
 use Rattle.octets.specs.Sums.{xors}
 use Rattle.moments.specs.Elapsed.{Clock, started, nowAt, moved, clockAfter}
 use Rattle.moments.specs.Moments.{ageAt, inOrder}
-use Rattle.shapes.specs.Reading.{isSealed, readRefusal}
-use Rattle.shapes.specs.Shape.{sealed}
-use Rattle.slots.specs.Sets.{has, count, isEmpty, fill, slotwise, noSlots, allSlots, union, meet, minus, lowest, withoutHighest, bits, slotsOf, firsts}
-use Rattle.site.specs.Plans.{slotsIn}
-use Rattle.members.specs.Members.{current, rowFor, held, vacant}
-use Rattle.members.specs.Rules.{rowsRule}
+use Rattle.frame_kinds.specs.Reading.{isSealed, readRefusal}
+use Rattle.frame_kinds.specs.Shape.{sealed}
+use Rattle.slot_sets.specs.Sets.{has, count, isEmpty, fill, slotwise, noSlots, allSlots, union, meet, minus, lowest, withoutHighest, bits, slotsOf, firsts}
+use Rattle.site_plan.specs.Plans.{slotsIn}
+use Rattle.book_members.specs.Members.{current, rowFor, held, vacant}
+use Rattle.book_members.specs.Rules.{rowsRule}
 use Rattle.book.specs.Books.{Stated, withinRule, freshBook, freshOf, leaveOf}
-use Rattle.joins.specs.Joins.{joinOf, askOf}
-use Rattle.joins.specs.Responses.{toldIn}
-use Rattle.keeping.specs.Calls.{Call, leave}
-use Rattle.keeping.specs.Calls as keeping
-use Rattle.history.specs.BookEvents.{call, answer, recorded, stepOf, Grant, grant, changedBy, granted, granting, counts}
+use Rattle.book_joins.specs.Joins.{joinOf, askOf}
+use Rattle.book_joins.specs.Responses.{toldIn}
+use Rattle.book_history.specs.Calls.{Call, leave}
+use Rattle.book_history.specs.Calls as keeping
+use Rattle.book_history.specs.BookEvents.{call, answer, recorded, stepOf, Grant, grant, changedBy, granted, granting, counts}
 use Rattle.paper.specs.Story.{sitePlan, joins, asks, calls, GrantsInTheStory}
 use Rattle.paper.proofs.StoryLaws.{member, nobody, site, one, two, full, left, grown, settled}
 

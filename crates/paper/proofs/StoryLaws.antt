@@ -8,15 +8,15 @@ use Rattle.octets.specs.Lists.{every}
 use Rattle.octets.specs.Numbers.{num, digits}
 use Rattle.octets.specs.Sums.{xors}
 use Rattle.moments.specs.Moments.{ageAt, inOrder}
-use Rattle.shapes.specs.Reading.{isSealed, readRefusal}
-use Rattle.shapes.specs.Shape.{sealed}
-use Rattle.slots.specs.Sets.{has, count, isEmpty, fill, slotwise, noSlots, allSlots, union, meet, minus, lowest, withoutHighest, bits, slotsOf, firsts}
-use Rattle.site.specs.Plans.{slotsIn}
-use Rattle.members.specs.Members.{Row, emptyRow, current, rowFor, held, vacant}
-use Rattle.members.specs.Rules.{rowsRule}
+use Rattle.frame_kinds.specs.Reading.{isSealed, readRefusal}
+use Rattle.frame_kinds.specs.Shape.{sealed}
+use Rattle.slot_sets.specs.Sets.{has, count, isEmpty, fill, slotwise, noSlots, allSlots, union, meet, minus, lowest, withoutHighest, bits, slotsOf, firsts}
+use Rattle.site_plan.specs.Plans.{slotsIn}
+use Rattle.book_members.specs.Members.{Row, emptyRow, current, rowFor, held, vacant}
+use Rattle.book_members.specs.Rules.{rowsRule}
 use Rattle.book.specs.Books.{Stated, withinRule, freshBook, leaveOf}
-use Rattle.joins.specs.Joins.{joinOf, askOf}
-use Rattle.keeping.specs.Calls.{Call, leave, next}
+use Rattle.book_joins.specs.Joins.{joinOf, askOf}
+use Rattle.book_history.specs.Calls.{Call, leave, next}
 use Rattle.paper.specs.Story.{told, run, sitePlan, joins, asks, story}
 
 -- a call on a book says this and leaves that book

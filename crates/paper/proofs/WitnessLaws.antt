@@ -4,8 +4,8 @@ use mathlib.Core.Path.{refl}
 use Rattle.octets.specs.Lists.{tab, every}
 use Rattle.octets.specs.Numbers.{num}
 use Rattle.octets.specs.Sums.{xors}
-use Rattle.shapes.specs.Reading.{isSealed, readRefusal}
-use Rattle.traffic.specs.Traffic.{entryAt}
+use Rattle.frame_kinds.specs.Reading.{isSealed, readRefusal}
+use Rattle.frame_traffic.specs.Traffic.{entryAt}
 use Rattle.frames.specs.Frames.{readFrame}
 use Rattle.paper.specs.Witnesses.{kindsRead, EveryKindRead, OneOfEachKind}
 

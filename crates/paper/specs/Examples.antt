@@ -10,14 +10,14 @@ use lib.ListN.{getD}
 use lib.IntN.{ℤ, pos, negsuc}
 use Rattle.octets.specs.Answers.{Said}
 use Rattle.moments.specs.Moments.{ageAt, inOrder}
-use Rattle.requests.specs.Requests.{joinRequest, joinRequestValues}
+use Rattle.frame_requests.specs.Requests.{joinRequest, joinRequestValues}
 use Rattle.frames.specs.Frames.{readFrame}
-use Rattle.shapes.specs.Shape.{frameOf}
-use Rattle.image.specs.Forms.{same}
-use Rattle.site.specs.declared.plan.Plan.{Plan}
-use Rattle.site.specs.Plans.{active, slots, planOf}
+use Rattle.frame_kinds.specs.Shape.{frameOf}
+use Rattle.book_image.specs.Forms.{same}
+use Rattle.site_plan.specs.declared.plan.Plan.{Plan}
+use Rattle.site_plan.specs.Plans.{active, slots, planOf}
 use Rattle.paper.specs.Story.{story}
-use Rattle.clock.specs.Clock.{drift, corrected}
+use Rattle.unit_clock.specs.Clock.{drift, corrected}
 
 pub record Example : Type 0 where
   pub computed : List ℕ

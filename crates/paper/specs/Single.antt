@@ -9,41 +9,42 @@ use base.Fml.{GName}
 use denote.Ref.{RefT}
 use Rattle.octets.specs.Calls.{writeLeft}
 use Rattle.octets.specs.Parts.{lent}
-use Rattle.slots.specs.Sets.{Slots, slotsOf}
-use Rattle.traffic.specs.Traffic.{dataValues, updateValues}
-use Rattle.requests.specs.Requests.{joinRequestValues, joinResponseValues, slotRequestValues, discoveryRequestValues, discoveryResponseValues}
-use Rattle.beacons.specs.Beacons.{beaconValues}
-use Rattle.frames.specs.declared.answers.Written.{Written}
-use Rattle.frames.specs.Told.{told, wrote}
-use Rattle.entries.specs.declared.reader.Entries.{Entries}
-use Rattle.entries.specs.Walks.{toldWalked}
-use Rattle.routes.specs.Told.{toldFound}
-use Rattle.forwards.specs.declared.forwarding.Forwarded.{Forwarded}
-use Rattle.forwards.specs.declared.forwarding.ForwardedIn.{ForwardedIn}
-use Rattle.relays.specs.declared.relaying.Relayed.{Relayed}
-use Rattle.forwards.specs.Forwards.{passed, forwardLeft, forwardedIn}
-use Rattle.relays.specs.Relays.{relayed}
-use Rattle.site.specs.Plans.{toldPlan}
-use Rattle.members.specs.declared.census.Census.{Census}
-use Rattle.members.specs.declared.member.Member.{Member}
-use Rattle.members.specs.Members.{rowsOf}
+use Rattle.octets.specs.declared.answers.Written.{Written}
+use Rattle.octets.specs.Told.{wrote}
+use Rattle.slot_sets.specs.Sets.{Slots, slotsOf}
+use Rattle.frame_traffic.specs.Traffic.{dataValues, updateValues}
+use Rattle.frame_requests.specs.Requests.{joinRequestValues, joinResponseValues, slotRequestValues, discoveryRequestValues, discoveryResponseValues}
+use Rattle.frame_beacons.specs.Beacons.{beaconValues}
+use Rattle.frames.specs.Told.{told}
+use Rattle.frame_entries.specs.declared.reader.Entries.{Entries}
+use Rattle.frame_entries.specs.Walks.{toldWalked}
+use Rattle.route_table.specs.Told.{toldFound}
+use Rattle.route_forwards.specs.declared.forwarding.Forwarded.{Forwarded}
+use Rattle.route_forwards.specs.declared.forwarding.ForwardedIn.{ForwardedIn}
+use Rattle.route_relays.specs.declared.relaying.Relayed.{Relayed}
+use Rattle.route_forwards.specs.Forwards.{passed, forwardLeft, forwardedIn}
+use Rattle.route_relays.specs.Relays.{relayed}
+use Rattle.site_plan.specs.Plans.{toldPlan}
+use Rattle.book_members.specs.declared.census.Census.{Census}
+use Rattle.book_members.specs.declared.member.Member.{Member}
+use Rattle.book_members.specs.Members.{rowsOf}
 use Rattle.book.specs.declared.book.Book.{Book}
 use Rattle.book.specs.declared.book.Changed.{Changed}
 use Rattle.book.specs.Books.{stated, leftBy}
-use Rattle.joins.specs.declared.grants.Granted.{Granted}
-use Rattle.joins.specs.Joins.{answeredBy}
-use Rattle.braidlark.specs.ClockCalls.{clockLeft}
-use Rattle.braidlark.specs.EntryCalls.{entryLeft}
-use Rattle.braidlark.specs.FrameCalls.{readLeft}
-use Rattle.braidlark.specs.StateCalls.{stateLeft}
-use Rattle.router.specs.RelayCalls.{relayLeft}
-use Rattle.stores.specs.StoredTables.{tableLeft}
-use Rattle.router.specs.TableCalls.{lookupLeft}
-use Rattle.merges.specs.declared.stored.MergedIn.{MergedIn}
-use Rattle.merges.specs.StoredMerges.{mergeLeft, mergedIn}
-use Rattle.manager.specs.BookCalls.{bookLeft}
-use Rattle.manager.specs.PlanCalls.{numbersLeft}
-use Rattle.admissions.specs.RequestCalls.{requestLeft}
+use Rattle.book_joins.specs.declared.grants.Granted.{Granted}
+use Rattle.book_joins.specs.Joins.{answeredBy}
+use Rattle.c_unit.specs.ClockCalls.{clockLeft}
+use Rattle.c_frames.specs.EntryCalls.{entryLeft}
+use Rattle.c_frames.specs.FrameCalls.{readLeft}
+use Rattle.c_unit.specs.StateCalls.{stateLeft}
+use Rattle.c_routes.specs.RelayCalls.{relayLeft}
+use Rattle.route_bytes.specs.StoredTables.{tableLeft}
+use Rattle.c_routes.specs.TableCalls.{lookupLeft}
+use Rattle.route_merges.specs.declared.stored.MergedIn.{MergedIn}
+use Rattle.route_merges.specs.StoredMerges.{mergeLeft, mergedIn}
+use Rattle.c_book.specs.BookCalls.{bookLeft}
+use Rattle.c_book.specs.PlanCalls.{numbersLeft}
+use Rattle.c_requests.specs.RequestCalls.{requestLeft}
 
 -- a view tells apart the answers that the code can give
 abbrev pub TellsApart : {A B : Type 0} → (A → Type 0) → (A → B) → Type 0

@@ -4,15 +4,15 @@ use Prim.Native.Nat.{ℕ, _/_}
 use mathlib.Core.Path.{_≡_}
 use mathlib.Core.List.{List, [], _∷_, map}
 use lib.ListN.{replicate}
-use Rattle.shapes.specs.Shape.{frameOf}
-use Rattle.requests.specs.Requests.{joinRequest, joinRequestValues, slotRequest, slotRequestValues}
-use Rattle.site.specs.declared.plan.Plan.{Plan}
+use Rattle.frame_kinds.specs.Shape.{frameOf}
+use Rattle.frame_requests.specs.Requests.{joinRequest, joinRequestValues, slotRequest, slotRequestValues}
+use Rattle.site_plan.specs.declared.plan.Plan.{Plan}
 use Rattle.book.specs.Books.{Stated, heardOf, leaveOf, freshBook}
 use Rattle.book.specs.Schedules.{scheduleOf}
-use Rattle.joins.specs.Joins.{Answered, joinOf, askOf}
-use Rattle.joins.specs.Responses.{toldIn}
-use Rattle.keeping.specs.Calls.{Call, join, ask, heard, leave, schedule, next}
-use Rattle.history.specs.BookEvents.{fresh, call, grantedAt}
+use Rattle.book_joins.specs.Joins.{Answered, joinOf, askOf}
+use Rattle.book_joins.specs.Responses.{toldIn}
+use Rattle.book_history.specs.Calls.{Call, join, ask, heard, leave, schedule, next}
+use Rattle.book_history.specs.BookEvents.{fresh, call, grantedAt}
 
 -- ---- what a call says
 -- the number, and the slots that a unit is told: its control slot, then its data slots

@@ -1,6 +1,6 @@
 // Draws each image that an argument names, one after the other, as slotview does.
+use book_drawing::viewing::view;
 use libc::STDOUT_FILENO;
-use views::viewing::view;
 
 fn draw(k: usize) {
     let mut path = io::buffer();

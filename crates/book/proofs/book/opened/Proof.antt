@@ -1,7 +1,7 @@
 -- `opened`: the manager in the first row.
 -- Assumes nothing.
-use Rattle.slots.proofs.MaskLaws.{mask-nothing}
-use Rattle.members.specs.Members.{rowsOf}
+use Rattle.slot_sets.proofs.MaskLaws.{mask-nothing}
+use Rattle.book_members.specs.Members.{rowsOf}
 use borrow.Author.Needs.{needs}
 use Rattle.book.proofs.book.opened.Statement.{statement}
 use Rattle.book.proofs.book.opened.Tie as tie

@@ -1,7 +1,7 @@
 -- `zeros`: no plan, and no row in use.
 -- Assumes nothing.
-use Rattle.slots.proofs.MaskLaws.{mask-nothing}
-use Rattle.members.specs.Members.{rowsOf}
+use Rattle.slot_sets.proofs.MaskLaws.{mask-nothing}
+use Rattle.book_members.specs.Members.{rowsOf}
 use borrow.Author.Needs.{needs}
 use Rattle.book.proofs.book.zeros.Statement.{statement}
 use Rattle.book.proofs.book.zeros.Tie as tie

@@ -7,8 +7,8 @@ use native.Mathlib.Omega.{arith}
 use lib.ListN.{length, length-set, drop}
 use Rattle.octets.specs.Lists.{tab}
 use Rattle.octets.proofs.ListLaws.{tab-none, tab-more}
-use Rattle.slots.specs.Sets.{slotsOf}
-use Rattle.site.specs.Schedules.{kindOf}
+use Rattle.slot_sets.specs.Sets.{slotsOf}
+use Rattle.site_plan.specs.Schedules.{kindOf}
 use Rattle.book.proofs.ScheduleLaws.{all-put}
 use borrow.Author.Needs.{needs}
 use Rattle.book.proofs.schedule.put_awake.Statement.{statement}

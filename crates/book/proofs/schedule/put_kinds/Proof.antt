@@ -2,7 +2,7 @@
 -- Assumes nothing.
 use mathlib.Core.Path.{_∙_}
 use denote.Ref.{now}
-use Rattle.slots.specs.Sets.{slotsOf}
+use Rattle.slot_sets.specs.Sets.{slotsOf}
 use Rattle.book.proofs.ScheduleLaws.{both-put}
 use borrow.Author.Needs.{needs}
 use Rattle.book.proofs.schedule.put_kinds.Statement.{statement}

@@ -5,7 +5,7 @@ use Prim.Native.Nat.{_-_, _≤_}
 use native.Mathlib.Omega.{arith}
 use lib.ListN.{length, length-set, replicate}
 use lib.Seq.{sets}
-use Rattle.site.specs.Schedules.{sleep}
+use Rattle.site_plan.specs.Schedules.{sleep}
 use Rattle.book.proofs.ScheduleLaws.{sleep-turn, sleep-end}
 use borrow.Author.Needs.{needs}
 use Rattle.book.proofs.schedule.put_sleep.Statement.{statement}

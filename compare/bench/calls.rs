@@ -1,0 +1,204 @@
+//! The calls that are measured, each by the library and by the independent implementation. The same buffers go in and
+//! come out: both have to decode, judge and write the same bytes, and both refuse what is to be refused.
+
+use crate::shared::moments::Moment;
+use crate::shared::refusal::Refusal;
+
+/// When every call comes.
+pub const NOW: Moment = Moment(100_000);
+/// The network of every site and beacon.
+pub const NETWORK: u16 = 0x0102;
+/// How well an update was heard.
+const QUALITY: u8 = 200;
+/// The page of an update that is asked for.
+const PAGE: u32 = 0;
+/// How much later than it was heard a beacon goes on, in ms.
+const DELAY: u32 = 5;
+/// The hop of a unit that asks for its schedule.
+const HOP: u32 = 1;
+
+/// What one call is given and what it leaves; each call uses its part of it.
+#[derive(Clone, Debug, PartialEq, Eq)]
+pub struct Buffers {
+    /// The bytes of a table or of a book.
+    pub kept: Vec<u8>,
+    /// What `kept` has to be before each call, where one call would make the next another. The copy is measured with it.
+    pub before: Option<Vec<u8>>,
+    /// The bytes of a frame or of an image.
+    pub input: Vec<u8>,
+    /// Whom a lookup or a schedule is for, or who is forgotten.
+    pub unit: u16,
+    pub out: Vec<u8>,
+    pub next_hop: u16,
+    pub hops: u8,
+    pub skipped: u8,
+    pub place: u32,
+    pub length: u32,
+}
+
+impl Buffers {
+    pub fn new(kept: Vec<u8>, input: Vec<u8>, unit: u16) -> Buffers {
+        let (out, next_hop, hops, skipped, place, length) = (vec![0; 255], 0, 0, 0, 0, 0);
+        Buffers { kept, before: None, input, unit, out, next_hop, hops, skipped, place, length }
+    }
+
+    /// These buffers, of which `kept` is to be as it is now before each call.
+    pub fn reset_each_time(self) -> Buffers {
+        Buffers { before: Some(self.kept.clone()), ..self }
+    }
+}
+
+/// Each answers its status. In every call each address is that of a live buffer of the length given with it.
+#[rustfmt::skip] // It would give each argument a line.
+pub mod library {
+    use super::*;
+    use crate::book::calls::{braidlark_join, braidlark_schedule};
+    use crate::image::calls::{braidlark_image, braidlark_restore};
+    use crate::routes::calls::{
+        braidlark_forget, braidlark_forward, braidlark_lookup, braidlark_merge, braidlark_page, braidlark_relay,
+    };
+
+    pub fn relay(buffers: &mut Buffers) -> u8 {
+        let Buffers { kept, input, out, next_hop, place, length, .. } = buffers;
+        // SAFETY: as above.
+        unsafe {
+            braidlark_relay(kept.as_ptr(), kept.len(), input.as_ptr(), input.len(), NOW, out.as_mut_ptr(), out.len(),
+                            next_hop, place, length)
+        }
+    }
+
+    pub fn lookup(buffers: &mut Buffers) -> u8 {
+        let Buffers { kept, unit, next_hop, hops, .. } = buffers;
+        // SAFETY: as above.
+        unsafe { braidlark_lookup(kept.as_ptr(), kept.len(), *unit, NOW, next_hop, hops) }
+    }
+
+    pub fn merge(buffers: &mut Buffers) -> u8 {
+        let Buffers { kept, input, skipped, .. } = buffers;
+        // SAFETY: as above.
+        unsafe { braidlark_merge(kept.as_mut_ptr(), kept.len(), input.as_ptr(), input.len(), QUALITY, NOW, skipped) }
+    }
+
+    pub fn page(buffers: &mut Buffers) -> u8 {
+        let Buffers { kept, out, length, .. } = buffers;
+        // SAFETY: as above.
+        unsafe { braidlark_page(kept.as_ptr(), kept.len(), PAGE, NOW, out.as_mut_ptr(), out.len(), length) }
+    }
+
+    pub fn forget(buffers: &mut Buffers) -> u8 {
+        let Buffers { kept, unit, .. } = buffers;
+        // SAFETY: as above.
+        unsafe { braidlark_forget(kept.as_mut_ptr(), kept.len(), *unit, NOW) }
+    }
+
+    pub fn forward(buffers: &mut Buffers) -> u8 {
+        let Buffers { kept, input, out, length, .. } = buffers;
+        // SAFETY: as above.
+        unsafe {
+            braidlark_forward(kept.as_mut_ptr(), kept.len(), NETWORK, input.as_ptr(), input.len(), DELAY, NOW,
+                              out.as_mut_ptr(), out.len(), length)
+        }
+    }
+
+    pub fn join(buffers: &mut Buffers) -> u8 {
+        let Buffers { kept, input, out, length, .. } = buffers;
+        // SAFETY: as above.
+        unsafe {
+            braidlark_join(kept.as_mut_ptr(), kept.len(), input.as_ptr(), input.len(), NOW, out.as_mut_ptr(), out.len(),
+                           length)
+        }
+    }
+
+    pub fn schedule(buffers: &mut Buffers) -> u8 {
+        let Buffers { kept, unit, out, length, .. } = buffers;
+        // SAFETY: as above.
+        unsafe { braidlark_schedule(kept.as_ptr(), kept.len(), *unit, HOP, NOW, out.as_mut_ptr(), out.len(), length) }
+    }
+
+    pub fn image(buffers: &mut Buffers) -> u8 {
+        let Buffers { kept, out, length, .. } = buffers;
+        // SAFETY: as above.
+        unsafe { braidlark_image(kept.as_ptr(), kept.len(), NOW, out.as_mut_ptr(), out.len(), length) }
+    }
+
+    pub fn restore(buffers: &mut Buffers) -> u8 {
+        let Buffers { kept, input, .. } = buffers;
+        // SAFETY: as above.
+        unsafe { braidlark_restore(kept.as_mut_ptr(), kept.len(), input.as_ptr(), input.len(), NOW) }
+    }
+}
+
+pub mod independent {
+    use super::*;
+    use crate::book::members::Book;
+    use crate::routes::table::Table;
+
+    pub fn relay(buffers: &mut Buffers) -> Result<(), Refusal> {
+        let table = Table::from_bytes(&buffers.kept)?;
+        let relayed = table.relay(&buffers.input, NOW, &mut buffers.out)?;
+        (buffers.next_hop, buffers.place, buffers.length) = relayed.numbers();
+        Ok(())
+    }
+
+    pub fn lookup(buffers: &mut Buffers) -> Result<(), Refusal> {
+        let route = Table::from_bytes(&buffers.kept)?.lookup(buffers.unit, NOW)?;
+        buffers.next_hop = route.next_hop;
+        buffers.hops = route.hops;
+        Ok(())
+    }
+
+    pub fn merge(buffers: &mut Buffers) -> Result<(), Refusal> {
+        let mut table = Table::from_bytes(&buffers.kept)?;
+        buffers.skipped = table.merge(&buffers.input, QUALITY, NOW)?;
+        table.to_bytes(&mut buffers.kept);
+        Ok(())
+    }
+
+    pub fn page(buffers: &mut Buffers) -> Result<(), Refusal> {
+        let table = Table::from_bytes(&buffers.kept)?;
+        buffers.length = table.page(PAGE, NOW, &mut buffers.out)? as u32;
+        Ok(())
+    }
+
+    pub fn forget(buffers: &mut Buffers) -> Result<(), Refusal> {
+        let mut table = Table::from_bytes(&buffers.kept)?;
+        table.forget(buffers.unit, NOW)?;
+        table.to_bytes(&mut buffers.kept);
+        Ok(())
+    }
+
+    pub fn forward(buffers: &mut Buffers) -> Result<(), Refusal> {
+        let mut table = Table::from_bytes(&buffers.kept)?;
+        buffers.length = table.forward(NETWORK, &buffers.input, DELAY, NOW, &mut buffers.out)? as u32;
+        table.to_bytes(&mut buffers.kept);
+        Ok(())
+    }
+
+    pub fn join(buffers: &mut Buffers) -> Result<(), Refusal> {
+        let mut book = Book::from_bytes(&buffers.kept)?;
+        buffers.length = book.join(&buffers.input, NOW, &mut buffers.out)? as u32;
+        book.to_bytes(&mut buffers.kept);
+        Ok(())
+    }
+
+    pub fn schedule(buffers: &mut Buffers) -> Result<(), Refusal> {
+        let book = Book::from_bytes(&buffers.kept)?;
+        buffers.length = book.schedule(buffers.unit, HOP, NOW, &mut buffers.out)? as u32;
+        Ok(())
+    }
+
+    pub fn image(buffers: &mut Buffers) -> Result<(), Refusal> {
+        let book = Book::from_bytes(&buffers.kept)?;
+        buffers.length = book.write_image(NOW, &mut buffers.out)? as u32;
+        Ok(())
+    }
+
+    /// What the buffer of the book holds does not matter, but its length does.
+    pub fn restore(buffers: &mut Buffers) -> Result<(), Refusal> {
+        if buffers.kept.len() != Book::LENGTH {
+            return Err(Refusal::OutOfRule);
+        }
+        Book::restore(&buffers.input, NOW)?.to_bytes(&mut buffers.kept);
+        Ok(())
+    }
+}

@@ -1,0 +1,176 @@
+//! What is measured: each case has its buffers, its call by the library and by the independent implementation, and the
+//! number that both answer.
+
+use crate::bench::calls::{independent, library, Buffers, NETWORK, NOW};
+use crate::book::drafts::{book_bytes, join_request};
+use crate::book::members::Row as Member;
+use crate::frames::kinds::{kind_of_type, DATA, MOST_BEACON_HOPS};
+use crate::image::files::full_book;
+use crate::routes::drafts::{beacon, data, update, Entry};
+use crate::routes::table::{Row, Table, MOST_ROWS};
+use crate::shared::random::Random;
+use crate::shared::refusal::{Refusal, ACCEPTED};
+
+/// A call by the library, which answers its status, and by the independent implementation.
+pub struct Call {
+    pub library: fn(&mut Buffers) -> u8,
+    pub independent: fn(&mut Buffers) -> Result<(), Refusal>,
+}
+
+pub struct Case {
+    pub name: &'static str,
+    pub call: Call,
+    pub buffers: fn() -> Buffers,
+    /// The number that the call answers.
+    pub answer: u8,
+}
+
+const NO_ROUTE: u8 = Refusal::NoRoute as u8;
+
+const RELAY: Call = Call { library: library::relay, independent: independent::relay };
+const LOOKUP: Call = Call { library: library::lookup, independent: independent::lookup };
+const MERGE: Call = Call { library: library::merge, independent: independent::merge };
+const PAGE: Call = Call { library: library::page, independent: independent::page };
+const FORGET: Call = Call { library: library::forget, independent: independent::forget };
+const FORWARD: Call = Call { library: library::forward, independent: independent::forward };
+const JOIN: Call = Call { library: library::join, independent: independent::join };
+const SCHEDULE: Call = Call { library: library::schedule, independent: independent::schedule };
+const IMAGE: Call = Call { library: library::image, independent: independent::image };
+const RESTORE: Call = Call { library: library::restore, independent: independent::restore };
+
+/// Tables are full where the name does not end in their rows.
+pub const CASES: [Case; 22] = [
+    Case { name: "relay-10", call: RELAY, buffers: || relaying(10, MOST_ROWS), answer: ACCEPTED },
+    Case { name: "relay-100", call: RELAY, buffers: || relaying(100, MOST_ROWS), answer: ACCEPTED },
+    Case { name: "relay-255", call: RELAY, buffers: || relaying(255, MOST_ROWS), answer: ACCEPTED },
+    Case { name: "lookup", call: LOOKUP, buffers: || looking_up(MOST_ROWS), answer: ACCEPTED },
+    Case { name: "merge", call: MERGE, buffers: || merging(MOST_ROWS), answer: ACCEPTED },
+    Case { name: "page", call: PAGE, buffers: || Buffers::new(table(MOST_ROWS), Vec::new(), OWN), answer: ACCEPTED },
+    Case { name: "forget", call: FORGET, buffers: || forgetting(STRANGER), answer: ACCEPTED },
+    Case { name: "forget-all", call: FORGET, buffers: || forgetting(NEIGHBOUR), answer: ACCEPTED },
+    Case { name: "forward", call: FORWARD, buffers: forwarding, answer: ACCEPTED },
+    Case { name: "relay-100-0", call: RELAY, buffers: || relaying(100, 0), answer: NO_ROUTE },
+    Case { name: "relay-100-12", call: RELAY, buffers: || relaying(100, 12), answer: ACCEPTED },
+    Case { name: "relay-100-24", call: RELAY, buffers: || relaying(100, 24), answer: ACCEPTED },
+    Case { name: "lookup-0", call: LOOKUP, buffers: || looking_up(0), answer: NO_ROUTE },
+    Case { name: "lookup-12", call: LOOKUP, buffers: || looking_up(12), answer: ACCEPTED },
+    Case { name: "lookup-24", call: LOOKUP, buffers: || looking_up(24), answer: ACCEPTED },
+    Case { name: "merge-0", call: MERGE, buffers: || merging(0), answer: ACCEPTED },
+    Case { name: "merge-12", call: MERGE, buffers: || merging(12), answer: ACCEPTED },
+    Case { name: "merge-24", call: MERGE, buffers: || merging(24), answer: ACCEPTED },
+    Case { name: "join", call: JOIN, buffers: joining, answer: ACCEPTED },
+    Case { name: "schedule", call: SCHEDULE, buffers: scheduling, answer: ACCEPTED },
+    Case { name: "image", call: IMAGE, buffers: storing, answer: ACCEPTED },
+    Case { name: "restore", call: RESTORE, buffers: restoring, answer: ACCEPTED },
+];
+
+const OWN: u16 = 0x0100;
+const FIRST: u16 = 0x0201;
+const LAST: u16 = destination(MOST_ROWS - 1);
+const NEIGHBOUR: u16 = destination(MOST_ROWS / 2);
+/// A unit that no row goes to or through: it stands between two rows.
+const STRANGER: u16 = FIRST + 1;
+/// The hops of every row.
+const HOPS: u8 = 3;
+/// What a beacon holds besides the fields that are set does not matter, but is always the same.
+const BEACON_SEED: u64 = 1;
+
+/// A site of 20 rows with 100 slots, and room for a newcomer to be granted all four that it asks for.
+const SITE: (u8, u8, u8) = (1, 20, 23);
+const MEMBERS: usize = 10;
+const NEWCOMER: u16 = 0x0300;
+
+/// The destination of the row at a place.
+const fn destination(place: usize) -> u16 {
+    FIRST + 2 * place as u16
+}
+
+/// The destination of the last of so many rows, or one that has none if there are none.
+fn last_of(rows: usize) -> u16 {
+    destination(rows.saturating_sub(1))
+}
+
+/// A table of so many rows, all through one neighbour, which has a row in the middle of a full table.
+fn table(rows: usize) -> Vec<u8> {
+    let mut table = Table::fresh(OWN, NOW).expect("this unit has an address");
+    for (place, row) in table.rows[..rows].iter_mut().enumerate() {
+        let (destination, next_hop) = (destination(place), NEIGHBOUR);
+        *row = Row { destination, next_hop, hops: HOPS, quality: 100, time: NOW - 1000, withdrawn: false };
+    }
+    let mut bytes = vec![0; Table::LENGTH];
+    table.to_bytes(&mut bytes);
+    bytes
+}
+
+/// A data frame of this length to the unit in the last row.
+fn relaying(length: usize, rows: usize) -> Buffers {
+    let shortest = kind_of_type(DATA).frame_length(0);
+    let payload: Vec<u8> = (0..(length - shortest) as u8).collect();
+    let unit = last_of(rows);
+    Buffers::new(table(rows), data(NEIGHBOUR, unit, 10, 7, &payload), unit)
+}
+
+fn looking_up(rows: usize) -> Buffers {
+    Buffers::new(table(rows), Vec::new(), last_of(rows))
+}
+
+/// A full update, one entry for every second row of a full table. There each replaces its row, the next time too; a
+/// smaller table gets new rows.
+fn merging(rows: usize) -> Buffers {
+    let others = (FIRST + 2..=LAST).step_by(4);
+    let entries: Vec<Entry> = others.map(|destination| (destination, 2, 150, destination, NOW)).collect();
+    let buffers = Buffers::new(table(rows), update(NEIGHBOUR, NOW, &entries), OWN);
+    match rows < MOST_ROWS {
+        true => buffers.reset_each_time(),
+        false => buffers,
+    }
+}
+
+/// A stranger leaves every row as it is; the neighbour takes all of them along.
+fn forgetting(unit: u16) -> Buffers {
+    let buffers = Buffers::new(table(MOST_ROWS), Vec::new(), unit);
+    match unit == STRANGER {
+        true => buffers,
+        false => buffers.reset_each_time(),
+    }
+}
+
+/// A beacon of the unit in the last row, one hop nearer to it. Once forwarded it would not be forwarded again.
+fn forwarding() -> Buffers {
+    let fields = [
+        ("source", u32::from(NEIGHBOUR)),
+        ("network", u32::from(NETWORK)),
+        ("original source", u32::from(LAST)),
+        ("hop", u32::from(HOPS) - 1),
+        ("max hops", MOST_BEACON_HOPS),
+        ("delay", 1000),
+    ];
+    Buffers::new(table(MOST_ROWS), beacon(&fields, &mut Random::new(BEACON_SEED)), OWN).reset_each_time()
+}
+
+/// A newcomer, to a site where half of the rows are taken.
+fn joining() -> Buffers {
+    let (max_hops, rows, data_slots) = SITE;
+    let mut book = full_book(max_hops, rows, data_slots);
+    book.rows[1 + MEMBERS..].fill(Member::EMPTY);
+    Buffers::new(book_bytes(&book), join_request(NEWCOMER, 0, NETWORK, 4), NEWCOMER).reset_each_time()
+}
+
+/// The member in the last row.
+fn scheduling() -> Buffers {
+    let (max_hops, rows, data_slots) = SITE;
+    let book = full_book(max_hops, rows, data_slots);
+    let member = book.rows[usize::from(rows) - 1].unit;
+    Buffers::new(book_bytes(&book), Vec::new(), member)
+}
+
+fn storing() -> Buffers {
+    let (max_hops, rows, data_slots) = SITE;
+    Buffers::new(book_bytes(&full_book(max_hops, rows, data_slots)), Vec::new(), OWN)
+}
+
+/// Into the buffer of another book.
+fn restoring() -> Buffers {
+    let (max_hops, rows, data_slots) = SITE;
+    Buffers::new(joining().kept, full_book(max_hops, rows, data_slots).to_image(), OWN)
+}

@@ -1,0 +1,88 @@
+//! The independent stored image, from the paper's section on it alone: the image of a book, the book that an image
+//! restores, and the text that draws an image.
+
+use crate::book::members::{Book, Row};
+use crate::book::site::{letters, Plan, MOST_ROWS};
+use crate::shared::moments::{accept, Moment};
+use crate::shared::numbers::{long, word};
+use crate::shared::refusal::Refusal;
+
+/// Where the plan and the rows begin.
+pub const PLAN_AT: usize = 11;
+pub const ROWS_AT: usize = 20;
+pub const IMAGE_ROW_LENGTH: usize = 10;
+/// No image is longer.
+pub const LONGEST_IMAGE: usize = ROWS_AT + IMAGE_ROW_LENGTH * MOST_ROWS;
+
+impl Book {
+    /// Writes the image of the live members, and answers its length.
+    #[inline(never)]
+    pub fn write_image(&self, time: Moment, out: &mut [u8]) -> Result<usize, Refusal> {
+        self.check()?;
+        accept(self.time, time)?;
+        let mut live = self.clone();
+        for place in (0..MOST_ROWS).filter(|place| !self.is_live(*place, time)) {
+            live.rows[place] = Row::EMPTY;
+        }
+        let image = live.to_image();
+        out.get_mut(..image.len()).ok_or(Refusal::Room)?.copy_from_slice(&image);
+        Ok(image.len())
+    }
+
+    /// The bytes of the plan and of all its rows, within rule or not.
+    pub fn to_image(&self) -> Vec<u8> {
+        let mut image = contents(self.plan.rows).to_vec();
+        image.resize(ROWS_AT, 0);
+        self.plan.to_bytes(&mut image[PLAN_AT..]);
+        for place in 0..usize::from(self.plan.rows) {
+            let row = self.rows.get(place).unwrap_or(&Row::EMPTY);
+            image.extend(row.unit.to_le_bytes());
+            image.extend(row.slots.to_le_bytes());
+        }
+        image
+    }
+
+    /// The book that an image holds, all its members heard at this time.
+    #[inline(never)]
+    pub fn restore(image: &[u8], time: Moment) -> Result<Book, Refusal> {
+        let head = image.get(..ROWS_AT).ok_or(Refusal::OutOfRule)?;
+        let plan = Plan::from_bytes(&head[PLAN_AT..])?.checked()?;
+        let length = ROWS_AT + IMAGE_ROW_LENGTH * usize::from(plan.rows);
+        if head[..PLAN_AT] != contents(plan.rows) || image.len() != length {
+            return Err(Refusal::OutOfRule);
+        }
+        let mut rows = [Row::EMPTY; MOST_ROWS];
+        for (row, bytes) in rows.iter_mut().zip(image[ROWS_AT..].chunks_exact(IMAGE_ROW_LENGTH)) {
+            let slots = u64::from(long(bytes, 2)) | u64::from(long(bytes, 6)) << 32;
+            *row = match (word(bytes, 0), slots) {
+                (0, 0) => Row::EMPTY,
+                (unit, slots) => Row { unit, slots, time },
+            };
+        }
+        let book = Book { plan, time, rows };
+        book.check().map(|()| book)
+    }
+}
+
+/// What an image of so many rows begins with: how many bodies it has, then the number, place and length of each.
+fn contents(rows: u8) -> [u8; PLAN_AT] {
+    let [low, high] = (IMAGE_ROW_LENGTH as u16 * u16::from(rows)).to_le_bytes();
+    [2, 1, PLAN_AT as u8, 0, Plan::LENGTH as u8, 0, 2, ROWS_AT as u8, 0, low, high]
+}
+
+/// What the program `slotview` prints for these bytes.
+pub fn drawing(image: &[u8]) -> String {
+    // All members are live at the time of the restore, whichever it is.
+    let Book { plan, rows, .. } = match Book::restore(image, Moment(0)) {
+        Ok(book) => book,
+        Err(refusal) => return format!("refused {}\n", refusal.number()),
+    };
+    let mut text = format!("slots {} active {}\n", plan.slots(), plan.active());
+    let mut kinds = vec![0; plan.slots()];
+    for (place, row) in rows.iter().enumerate().filter(|(_, row)| **row != Row::EMPTY) {
+        let hop = if place == 0 { 0 } else { 1 };
+        plan.write_schedule(place, row.slots, hop, &mut kinds);
+        text += &format!("{:04X} {}\n", row.unit, letters(&kinds));
+    }
+    text
+}

@@ -1,0 +1,315 @@
+//! The library's calls on tables of routes, each with a safe wrapper. All their unsafe code is here, but for the
+//! benchmark's.
+//!
+//! They are one kind of value: a table's bytes, and what is asked of it. The answer has every place that any of them
+//! can write to, so that a call is also held to leaving the others alone.
+
+use crate::routes::table::Table;
+use crate::shared::check::{Answer, Call};
+use crate::shared::kept::{self, On};
+use crate::shared::lending::{filler, names_of, Empty, Filler, Lent};
+use crate::shared::moments::Moment;
+use crate::shared::printing::{buffer_shown, input_shown, number_shown};
+use crate::shared::refusal::Refusal;
+use std::fmt;
+
+extern "C" {
+    fn braidlark_table_fresh(table: *mut u8, table_length: usize, own: u16, time: Moment) -> u8;
+
+    pub fn braidlark_lookup(
+        table: *const u8,
+        table_length: usize,
+        destination: u16,
+        time: Moment,
+        next_hop: *mut u16,
+        hops: *mut u8,
+    ) -> u8;
+
+    pub fn braidlark_forget(table: *mut u8, table_length: usize, unit: u16, time: Moment) -> u8;
+
+    pub fn braidlark_merge(
+        table: *mut u8,
+        table_length: usize,
+        frame: *const u8,
+        frame_length: usize,
+        quality: u8,
+        time: Moment,
+        skipped: *mut u8,
+    ) -> u8;
+
+    pub fn braidlark_page(
+        table: *const u8,
+        table_length: usize,
+        page: u32,
+        time: Moment,
+        out: *mut u8,
+        out_length: usize,
+        written: *mut u32,
+    ) -> u8;
+
+    pub fn braidlark_relay(
+        table: *const u8,
+        table_length: usize,
+        frame: *const u8,
+        frame_length: usize,
+        time: Moment,
+        out: *mut u8,
+        out_length: usize,
+        next_hop: *mut u16,
+        place: *mut u32,
+        length: *mut u32,
+    ) -> u8;
+
+    pub fn braidlark_forward(
+        table: *mut u8,
+        table_length: usize,
+        network: u16,
+        frame: *const u8,
+        frame_length: usize,
+        delay: u32,
+        time: Moment,
+        out: *mut u8,
+        out_length: usize,
+        written: *mut u32,
+    ) -> u8;
+}
+
+/// What is asked of a table; `room` is the length of the output buffer.
+#[derive(Clone, Debug)]
+pub enum Ask {
+    Fresh { own: u16, time: Moment },
+    Lookup { destination: u16, time: Moment },
+    Forget { unit: u16, time: Moment },
+    Merge { frame: Vec<u8>, quality: u8, time: Moment },
+    Page { page: u32, time: Moment, room: usize },
+    Relay { frame: Vec<u8>, time: Moment, room: usize },
+    Forward { network: u16, frame: Vec<u8>, delay: u32, time: Moment, room: usize },
+}
+
+/// The calls by name, in the order of `Ask`, each with the refusals that it can give.
+pub const CALLS: [(&str, &[u8]); 7] = [
+    ("fresh", &[14, 4]),
+    ("lookup", &[14, 4, 8, 11]),
+    ("forget", &[14, 4, 6, 8]),
+    ("merge", &[14, 1, 2, 3, 4, 6, 8, 9]),
+    ("page", &[14, 8, 5]),
+    ("relay", &[14, 1, 2, 3, 4, 6, 8, 10, 11, 5]),
+    ("forward", &[14, 1, 2, 3, 4, 6, 15, 8, 11, 16, 5]),
+];
+
+impl Ask {
+    fn frame(&self) -> &[u8] {
+        match self {
+            Ask::Merge { frame, .. } | Ask::Relay { frame, .. } | Ask::Forward { frame, .. } => frame,
+            _ => &[],
+        }
+    }
+
+    fn room(&self) -> usize {
+        match *self {
+            Ask::Page { room, .. } | Ask::Relay { room, .. } | Ask::Forward { room, .. } => room,
+            _ => 0,
+        }
+    }
+}
+
+impl kept::Ask for Ask {
+    fn lent(&mut self) -> (Option<&mut Vec<u8>>, Option<&mut usize>) {
+        match self {
+            Ask::Merge { frame, .. } => (Some(frame), None),
+            Ask::Page { room, .. } => (None, Some(room)),
+            Ask::Relay { frame, room, .. } | Ask::Forward { frame, room, .. } => (Some(frame), Some(room)),
+            Ask::Fresh { .. } | Ask::Lookup { .. } | Ask::Forget { .. } => (None, None),
+        }
+    }
+}
+
+/// A call of the library with the bytes of its table.
+type TableCall<'a> = On<'a, Ask>;
+
+/// What there is after a call. Places that it did not write to hold their filler.
+#[derive(PartialEq, Eq)]
+pub struct TableLeft {
+    pub table: Vec<u8>,
+    pub out: Vec<u8>,
+    pub next_hop: u16,
+    pub hops: u8,
+    pub skipped: u8,
+    pub place: u32,
+    /// What is called `written` where there is no `place`.
+    pub length: u32,
+}
+
+/// The buffers of one call, each lent with filler around it.
+struct Lending {
+    table: Lent<u8>,
+    frame: Lent<u8>,
+    out: Lent<u8>,
+    next_hop: Lent<u16>,
+    hops: Lent<u8>,
+    skipped: Lent<u8>,
+    place: Lent<u32>,
+    length: Lent<u32>,
+}
+
+impl Lending {
+    fn new(call: &TableCall) -> Lending {
+        Lending {
+            table: Lent::input(call.kept),
+            frame: Lent::input(call.ask.frame()),
+            out: Lent::output(call.ask.room()),
+            next_hop: Lent::output(1),
+            hops: Lent::output(1),
+            skipped: Lent::output(1),
+            place: Lent::output(1),
+            length: Lent::output(1),
+        }
+    }
+
+    #[rustfmt::skip] // It would give each argument a line.
+    fn status(&mut self, call: &TableCall, empty: Empty) -> u8 {
+        let (table, table_length) = (self.table.address(empty), call.kept.len());
+        let (frame, frame_length) = (self.frame.address(empty), call.ask.frame().len());
+        let (out, out_length) = (self.out.address(empty), call.ask.room());
+        let (next_hop, hops) = (self.next_hop.address(empty), self.hops.address(empty));
+        let (place, length) = (self.place.address(empty), self.length.address(empty));
+        let skipped = self.skipped.address(empty);
+        // SAFETY: each address is that of a live buffer of the length given with it, or NULL with length 0.
+        unsafe {
+            match *call.ask {
+                Ask::Fresh { own, time } => braidlark_table_fresh(table, table_length, own, time),
+                Ask::Lookup { destination, time } =>
+                    braidlark_lookup(table, table_length, destination, time, next_hop, hops),
+                Ask::Forget { unit, time } => braidlark_forget(table, table_length, unit, time),
+                Ask::Merge { quality, time, .. } =>
+                    braidlark_merge(table, table_length, frame, frame_length, quality, time, skipped),
+                Ask::Page { page, time, .. } =>
+                    braidlark_page(table, table_length, page, time, out, out_length, length),
+                Ask::Relay { time, .. } => braidlark_relay(
+                    table, table_length, frame, frame_length, time, out, out_length, next_hop, place, length,
+                ),
+                Ask::Forward { network, delay, time, .. } => braidlark_forward(
+                    table, table_length, network, frame, frame_length, delay, time, out, out_length, length,
+                ),
+            }
+        }
+    }
+
+    fn disturbed(&self, call: &TableCall) -> Vec<&'static str> {
+        names_of(&[
+            ("around table", self.table.is_overrun()),
+            ("frame", self.frame.is_changed(call.ask.frame())),
+            ("around out", self.out.is_overrun()),
+            ("around next_hop", self.next_hop.is_overrun()),
+            ("around hops", self.hops.is_overrun()),
+            ("around skipped", self.skipped.is_overrun()),
+            ("around place", self.place.is_overrun()),
+            ("around length", self.length.is_overrun()),
+        ])
+    }
+}
+
+impl Call for TableCall<'_> {
+    type Left = TableLeft;
+
+    fn name(&self) -> &'static str {
+        CALLS[self.kind()].0
+    }
+
+    fn kind(&self) -> usize {
+        match self.ask {
+            Ask::Fresh { .. } => 0,
+            Ask::Lookup { .. } => 1,
+            Ask::Forget { .. } => 2,
+            Ask::Merge { .. } => 3,
+            Ask::Page { .. } => 4,
+            Ask::Relay { .. } => 5,
+            Ask::Forward { .. } => 6,
+        }
+    }
+
+    fn untouched(&self) -> TableLeft {
+        TableLeft {
+            table: self.kept.to_vec(),
+            out: filler(self.ask.room()),
+            next_hop: u16::FILLER[0],
+            hops: u8::FILLER[0],
+            skipped: u8::FILLER[0],
+            place: u32::FILLER[0],
+            length: u32::FILLER[0],
+        }
+    }
+
+    fn carry_out(&self, left: &mut TableLeft) -> Result<(), Refusal> {
+        let mut table = match *self.ask {
+            // What the buffer holds does not matter, but its length does.
+            Ask::Fresh { own, time } if self.kept.len() == Table::LENGTH => Table::fresh(own, time)?,
+            _ => Table::from_bytes(self.kept)?,
+        };
+        match self.ask {
+            Ask::Fresh { .. } => {}
+            Ask::Lookup { destination, time } => {
+                let route = table.lookup(*destination, *time)?;
+                left.next_hop = route.next_hop;
+                left.hops = route.hops;
+            }
+            Ask::Forget { unit, time } => table.forget(*unit, *time)?,
+            Ask::Merge { frame, quality, time } => left.skipped = table.merge(frame, *quality, *time)?,
+            Ask::Page { page, time, .. } => left.length = table.page(*page, *time, &mut left.out)? as u32,
+            Ask::Relay { frame, time, .. } => {
+                (left.next_hop, left.place, left.length) = table.relay(frame, *time, &mut left.out)?.numbers();
+            }
+            Ask::Forward { network, frame, delay, time, .. } => {
+                left.length = table.forward(*network, frame, *delay, *time, &mut left.out)? as u32;
+            }
+        }
+        table.to_bytes(&mut left.table);
+        Ok(())
+    }
+
+    fn make(&self, empty: Empty) -> Answer<TableLeft> {
+        let mut lending = Lending::new(self);
+        let status = lending.status(self, empty);
+        let left = TableLeft {
+            table: lending.table.contents().to_vec(),
+            out: lending.out.contents().to_vec(),
+            next_hop: lending.next_hop.contents()[0],
+            hops: lending.hops.contents()[0],
+            skipped: lending.skipped.contents()[0],
+            place: lending.place.contents()[0],
+            length: lending.length.contents()[0],
+        };
+        Answer { status, left, disturbed: lending.disturbed(self) }
+    }
+}
+
+impl fmt::Display for TableCall<'_> {
+    fn fmt(&self, text: &mut fmt::Formatter) -> fmt::Result {
+        write!(text, "table: {}; ", input_shown(self.kept))?;
+        match self.ask {
+            Ask::Fresh { own, time } => write!(text, "own: {:#06x}; time: {}", own, time),
+            Ask::Lookup { destination, time } => write!(text, "destination: {:#06x}; time: {}", destination, time),
+            Ask::Forget { unit, time } => write!(text, "unit: {:#06x}; time: {}", unit, time),
+            Ask::Merge { frame, quality, time } => {
+                write!(text, "frame: {}; quality: {}; time: {}", input_shown(frame), quality, time)
+            }
+            Ask::Page { page, time, room } => write!(text, "page: {}; time: {}; out: {} bytes", page, time, room),
+            Ask::Relay { frame, time, room } => {
+                write!(text, "frame: {}; time: {}; out: {} bytes", input_shown(frame), time, room)
+            }
+            Ask::Forward { network, frame, delay, time, room } => {
+                write!(text, "network: {:#06x}; frame: {}; delay: {}; ", network, input_shown(frame), delay)?;
+                write!(text, "time: {}; out: {} bytes", time, room)
+            }
+        }
+    }
+}
+
+impl fmt::Display for TableLeft {
+    fn fmt(&self, text: &mut fmt::Formatter) -> fmt::Result {
+        write!(text, "table: {}; out: {}", input_shown(&self.table), buffer_shown(&self.out))?;
+        write!(text, "; next_hop: {}; hops: {}", number_shown(self.next_hop), number_shown(self.hops))?;
+        write!(text, "; skipped: {}; place: {}", number_shown(self.skipped), number_shown(self.place))?;
+        write!(text, "; length: {}", number_shown(self.length))
+    }
+}

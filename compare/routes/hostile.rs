@@ -1,0 +1,38 @@
+//! Hostile buffers for the calls on a table.
+
+use crate::routes::calls::Ask;
+use crate::routes::drafts::{beacon, data, update, Entry};
+use crate::routes::table::Table;
+use crate::shared::check::{Agreement, Check};
+use crate::shared::hostile::every_buffer;
+use crate::shared::moments::Moment;
+
+const OWN: u16 = 0x0100;
+const NEAR: u16 = 0x0201;
+const FAR: u16 = 0x0301;
+const NETWORK: u16 = 1;
+const NOW: Moment = Moment(1_000_000);
+
+/// A table of 25 rows, and a frame of each kind that a table takes, as long as there are.
+pub fn check(check: &mut Check) -> Agreement {
+    let entries: Vec<Entry> = (FAR..).take(24).map(|unit| (unit, 2, 150, unit, NOW)).collect();
+    let news = update(NEAR, NOW, &entries);
+    let mut table = Table::fresh(OWN, NOW).expect("this unit has an address");
+    assert_eq!(table.merge(&news, 200, NOW), Ok(0), "there is room for 25 rows");
+    let mut kept = [0; Table::LENGTH];
+    table.to_bytes(&mut kept);
+    let hops = [("source", NEAR), ("network", NETWORK), ("original source", NEAR), ("hop", 0), ("delay", 0)];
+    let call = beacon(&hops.map(|(name, number)| (name, number.into())), &mut check.random);
+    for ask in [
+        Ask::Fresh { own: OWN, time: NOW },
+        Ask::Lookup { destination: FAR, time: NOW },
+        Ask::Forget { unit: NEAR, time: NOW },
+        Ask::Merge { frame: news, quality: 200, time: NOW },
+        Ask::Page { page: 0, time: NOW, room: 250 },
+        Ask::Relay { frame: data(NEAR, FAR, 9, 7, &[5; 245]), time: NOW, room: 256 },
+        Ask::Forward { network: NETWORK, frame: call, delay: 5, time: NOW, room: 35 },
+    ] {
+        every_buffer(check, &kept, &ask)?;
+    }
+    Ok(())
+}

@@ -1,0 +1,13 @@
+//! Routes: a unit's table of them, its updates, and the data and beacons that it sends on.
+
+mod beacons;
+pub mod calls;
+mod cases;
+pub mod check;
+pub mod drafts;
+mod hostile;
+mod pages;
+mod refusals;
+mod relays;
+mod story;
+pub mod table;

@@ -1,0 +1,94 @@
+//! A table and what is told of it, call by call, by the cases that have a name.
+
+use crate::routes::calls::{Ask, TableLeft};
+use crate::routes::drafts::{beacon, data, update, Entry};
+use crate::routes::table::Table;
+use crate::shared::check::{Agreement, Check, Difference};
+use crate::shared::moments::Moment;
+use crate::shared::refusal::ACCEPTED;
+
+pub const OWN: u16 = 0x0100;
+pub const NEAR: u16 = 0x0201;
+pub const OTHER: u16 = 0x0202;
+pub const FAR: u16 = 0x0301;
+/// The times in an update are its sender's, and are not judged.
+pub const SENT: Moment = Moment(0);
+
+/// A table and what is told of it.
+pub struct Story<'a> {
+    pub check: &'a mut Check,
+    pub table: Vec<u8>,
+    /// When it was made.
+    pub start: Moment,
+}
+
+impl Story<'_> {
+    pub fn begin(check: &mut Check, start: Moment) -> Result<Story<'_>, Difference> {
+        let mut story = Story { check, table: vec![0xFF; Table::LENGTH], start };
+        story.change(Ask::Fresh { own: OWN, time: start })?;
+        Ok(story)
+    }
+
+    /// Every call that takes a table: three that need no route, and then three that need one to `FAR`.
+    pub fn every_call(&mut self, time: Moment) -> [Ask; 6] {
+        let fields = [("source", NEAR), ("network", 7), ("original source", FAR), ("hop", 1), ("max hops", 2)];
+        let fields = fields.map(|(name, number)| (name, number.into()));
+        let frame = beacon(&[&fields[..], &[("delay", 0)]].concat(), &mut self.check.random);
+        [
+            Ask::Forget { unit: NEAR, time },
+            Ask::Merge { frame: update(NEAR, SENT, &[]), quality: 40, time },
+            Ask::Page { page: 0, time, room: 100 },
+            Ask::Lookup { destination: FAR, time },
+            Ask::Relay { frame: data(OTHER, FAR, 2, 7, &[1, 2, 3]), time, room: 100 },
+            Ask::Forward { network: 7, frame, delay: 0, time, room: 100 },
+        ]
+    }
+
+    /// Every call finds the table within rule, or refuses it with 14.
+    pub fn is_judged(&mut self, in_rule: bool, time: Moment) -> Agreement {
+        for ask in self.every_call(time) {
+            let answer = self.check.ask(&self.table, &ask)?;
+            assert_eq!(answer.status != 14, in_rule, "{:?}", ask);
+        }
+        Ok(())
+    }
+
+    /// A call that is accepted and leaves its table to the ones after it.
+    pub fn change(&mut self, ask: Ask) -> Result<TableLeft, Difference> {
+        let left = self.check.is_answered(ACCEPTED, &self.table, &ask)?.left;
+        self.table.clone_from(&left.table);
+        Ok(left)
+    }
+
+    pub fn hear(&mut self, origin: u16, quality: u8, entries: &[Entry], time: Moment) -> Result<TableLeft, Difference> {
+        self.change(Ask::Merge { frame: update(origin, time, entries), quality, time })
+    }
+
+    /// A lookup answers this next hop with these hops, or 11.
+    pub fn finds(&mut self, destination: u16, time: Moment, route: Option<(u16, u8)>) -> Agreement {
+        let status = if route.is_some() { ACCEPTED } else { 11 };
+        let left = self.check.is_answered(status, &self.table, &Ask::Lookup { destination, time })?.left;
+        if let Some(route) = route {
+            assert_eq!((left.next_hop, left.hops), route);
+        }
+        Ok(())
+    }
+
+    /// Page 0 has exactly these entries.
+    pub fn shows(&mut self, time: Moment, entries: &[Entry]) -> Agreement {
+        let page = update(OWN, time, entries);
+        let ask = Ask::Page { page: 0, time, room: page.len() };
+        assert_eq!(self.check.is_answered(ACCEPTED, &self.table, &ask)?.left.out, page);
+        Ok(())
+    }
+
+    pub fn is_answered(&mut self, status: u8, ask: Ask) -> Agreement {
+        self.check.is_answered(status, &self.table, &ask).map(drop)
+    }
+
+    /// Refused on a table that is a byte short, and accepted on the whole one.
+    pub fn needs_a_table(&mut self, ask: Ask) -> Agreement {
+        self.check.is_answered(ACCEPTED, &self.table, &ask)?;
+        self.check.is_answered(14, &self.table[1..], &ask).map(drop)
+    }
+}

@@ -1,0 +1,76 @@
+-- The round trips of a book and its bytes.
+-- Assumes nothing.
+use mathlib.Core.Path.{_≡_, refl, ap, ap₂, _∙_}
+use mathlib.Core.List.{List, [], _∷_, _++_, map, append-assoc, append-nil}
+use Prim.Native.Nat.{ℕ, _+_, _*_, _≤_}
+use native.Mathlib.Omega.{arith}
+use lib.ListN.{length, take, drop}
+use lib.Seq.{take-all, take-add}
+use Rattle.octets.specs.Layouts.{fields, bytes, Fit, Bytes}
+use Rattle.octets.specs.Lists.{tab}
+use Rattle.octets.specs.Numbers.{num, digits}
+use Rattle.octets.proofs.LayoutLaws.{fields-bytes, bytes-fields}
+use Rattle.octets.proofs.NumberLaws.{num-lt, num-digits, digits-num}
+use Rattle.slot_sets.specs.Sets.{Slots}
+use Rattle.slot_sets.proofs.MaskLaws.{mask-back, set-back}
+use Rattle.site_plan.specs.declared.plan.Plan.{Plan}
+use Rattle.site_plan.specs.Plans.{planValues}
+use Rattle.site_plan.proofs.PlanByteLaws.{length-plan, plan-read}
+use Rattle.book_members.specs.Members.{Row}
+use Rattle.book.specs.Books.{Stated}
+use Rattle.site_plan.specs.PlanBytes.{planWidths, planFrom, planAt, planBytes}
+use Rattle.book_bytes.specs.BookBytes.{rowWidths, rowValues, rowFrom, rowAt, rowsBytes, bookIn, bookBytes}
+use Rattle.book_bytes.specs.Trips.{RowsFit, Sized, ReadsBack, WritesBack}
+use Rattle.octets.proofs.RunLaws.{run-read, run-kept}
+use Rattle.book_bytes.proofs.BookByteLaws.{rows-run, length-front, length-book}
+
+-- ---- what was written, read
+row-back : (r : Row) → rowFrom (rowValues r) ≡ r
+row-back r = ap (λ (s : Slots 64). record { unit = r .unit; slots = s; time = r .time }) (set-back (r .slots))
+
+rows-back : (rs : List Row) → map (λ r. rowFrom (rowValues r)) rs ≡ rs
+rows-back [] = refl
+rows-back (r ∷ rs) = ap₂ {C = List Row} (λ x xs. x ∷ xs) (row-back r) (rows-back rs)
+
+module _ (b : Stated) (z : Sized b) where
+  time-read : num 4 (bookBytes b) 9 ≡ b .time
+  unfolding bookBytes
+  time-read =
+      rw (append-assoc (planBytes (b .plan)) (digits 4 (b .time)) (rowsBytes (b .places)))
+      (num-digits 4 (b .time) (planBytes (b .plan)) (rowsBytes (b .places)) 9 (length-plan (b .plan)) (z .time))
+
+  rows-read : tab 21 (rowAt (bookBytes b)) ≡ b .places
+  unfolding bookBytes rowAt
+  rows-read =
+      let front = planBytes (b .plan) ++ digits 4 (b .time) in
+      let read = run-read rows-run RowsFit (λ r rs h. h) rowFrom (rowAt (bookBytes b)) (b .places) front 13 (length-front b) (z .rows) (λ i. refl) in
+      (rw (z .places) at read) ∙ rows-back (b .places)
+
+  book-read : bookIn (bookBytes b) ≡ b
+  unfolding bookIn bookBytes
+  book-read = rw (time-read, rows-read, append-assoc (planBytes (b .plan)) (digits 4 (b .time)) (rowsBytes (b .places)), plan-read (b .plan) (digits 4 (b .time) ++ rowsBytes (b .places)) (z .plan))
+
+pub reads-back : ReadsBack
+reads-back b z = (book-read b z, length-book b (z .places))
+
+-- ---- what was read, written
+module _ (s : List ℕ) (b : Bytes s) where
+  row-kept : (at : ℕ) → at + 14 ≤ length s → bytes rowWidths (rowValues (rowFrom (fields rowWidths s at))) ≡ take 14 (drop at s)
+  row-kept at l = rw (mask-back (num 8 s (at + 2)) (num-lt s b 8 (at + 2))) (bytes-fields s b rowWidths at l)
+
+  rows-kept : length s ≡ 307 → rowsBytes (tab 21 (rowAt s)) ≡ take 294 (drop 13 s)
+  unfolding rowAt
+  rows-kept l = run-kept rows-run s 21 13 (rowAt s) (λ i h. row-kept (13 + 14 * i) (omega arith))
+
+pub writes-back : WritesBack
+unfolding bookIn bookBytes planAt planBytes
+writes-back s b l =
+    let long : length s ≡ 307 = l in
+    rw (
+      bytes-fields s b planWidths 0 (omega arith),
+      digits-num s b 4 9 (omega arith),
+      rows-kept s b long,
+      ← take-add 9 4 s,
+      ← take-add 13 294 s,
+    )
+    (take-all 307 s (omega arith))

@@ -1,0 +1,47 @@
+-- A book as 307 bytes: the plan 9, the last accepted time 4, then 21 rows: unit 2, slots 8 (bit i is data slot i), time 4.
+-- Assumes nothing.
+use Prim.Native.Nat.{ℕ, _+_, _*_}
+use mathlib.Core.List.{List, [], _∷_, _++_}
+use lib.ListN.{getD}
+use Rattle.octets.specs.Layouts.{total, fields, bytes}
+use Rattle.octets.specs.Lists.{tab}
+use Rattle.octets.specs.Numbers.{num, digits}
+use Rattle.slot_sets.specs.Sets.{slotsOf, maskOf}
+use Rattle.book_members.specs.Members.{Row}
+use Rattle.book.specs.Books.{Stated}
+use Rattle.site_plan.specs.PlanBytes.{planSize, planAt, planBytes}
+
+-- ---- a row
+abbrev pub rowWidths : List ℕ
+rowWidths = 2 ∷ 8 ∷ 4 ∷ []
+
+abbrev pub rowValues : Row → List ℕ
+rowValues r = r .unit ∷ maskOf (r .slots) ∷ r .time ∷ []
+
+abbrev pub rowFrom : List ℕ → Row
+rowFrom vs = record { unit = getD vs 0 0; slots = slotsOf (getD vs 1 0); time = getD vs 2 0 }
+
+-- where the rows start: 13
+abbrev pub rowsAt : ℕ
+rowsAt = planSize + 4
+
+-- the row at a place, counted from 0, of a book's bytes
+unfoldable pub rowAt : List ℕ → ℕ → Row
+rowAt s i = rowFrom (fields rowWidths s (rowsAt + total rowWidths * i))
+
+-- the bytes of rows, one behind the other
+abbrev pub rowsBytes : List Row → List ℕ
+rowsBytes [] = []
+rowsBytes (r ∷ rs) = bytes rowWidths (rowValues r) ++ rowsBytes rs
+
+-- ---- a book
+-- how many bytes a book has: 307
+abbrev pub bookSize : ℕ
+bookSize = rowsAt + total rowWidths * 21
+
+-- the book that bytes say; a byte past the end is 0
+unfoldable pub bookIn : List ℕ → Stated
+bookIn s = record { plan = planAt s 0; time = num 4 s planSize; places = tab 21 (rowAt s) }
+
+unfoldable pub bookBytes : Stated → List ℕ
+bookBytes b = planBytes (b .plan) ++ digits 4 (b .time) ++ rowsBytes (b .places)

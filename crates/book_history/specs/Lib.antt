@@ -1,0 +1,4 @@
+pub mod BookEvents
+pub mod BookLaws
+pub mod Calls
+pub mod Laws

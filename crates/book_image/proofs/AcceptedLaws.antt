@@ -1,0 +1,195 @@
+-- An accepted image in its parts, and that these are document 01's list.
+-- Assumes nothing.
+use mathlib.Core.Path.{_≡_, refl, ap, ap₂, _∙_}
+use mathlib.Core.Bool.{true, false≢true, and-eq-true-iff, or-true}
+use mathlib.Core.List.{List, [], _∷_, map}
+use mathlib.Core.Logic.{_⊎_, inl, inr}
+use Prim.Native.Nat.{ℕ, _<_}
+use native.Mathlib.Omega.{arith}
+use borrow.Author.Tests.{eq-eqb, ne-eqb, eqb-true, lt-ltb, le-ltb, le-leb}
+use lib.Dec.{eqb}
+use lib.ListN.{length, getD, drop}
+use Rattle.octets.specs.Layouts.{fields}
+use Rattle.octets.specs.Lists.{tab, every}
+use Rattle.octets.proofs.ListLaws.{length-tab, getD-tab, tab-same, take-tab, map-tab, every-at, every-tab, every-behind-tab}
+use Rattle.moments.proofs.MomentLaws.{in-order-self}
+use Rattle.site_plan.specs.Plans.{planRule}
+use Rattle.site_plan.proofs.PlanLaws.{rule-bounds, kept}
+use Rattle.slot_sets.specs.Sets.{count}
+use Rattle.book_members.specs.Members.{Row, emptyRow, free, vacant}
+use Rattle.book_members.specs.Rules.{emptyIs, rowRule, rowsRule, distinct}
+use Rattle.book_members.proofs.RowSums.{tally-distinct, tally-apart}
+use Rattle.book_members.proofs.RowRuleLaws.{address-some, member-rule, rule-either, rule-zeros, rule-empty, empty-is, Ruled, ruled, vacant-free}
+use Rattle.book_members.proofs.PairLaws.{led-first, first-led, distinct-pairs, pairs-distinct, apart-pairs, pairs-apart}
+use Rattle.book.specs.Books.{rowsIn, withinRule}
+use Rattle.book.proofs.WithinLaws.{within, by-parts}
+use Rattle.book_image.specs.Forms.{headWidths, headValues, formSize, same, fits}
+use Rattle.book_image.specs.Images.{sections, planIn, rowIn, bookIn, acceptedImage}
+use Rattle.book_image.specs.Laws.{renewed, Used, Acceptable, AcceptedExactly}
+use Rattle.book_image.proofs.RestoringLaws.{placeIn}
+use Rattle.book_image.proofs.RenewedLaws.{ruled-renewed}
+
+-- ---- the head
+pub same-true : (xs ys : List ℕ) → same xs ys ≡ true → xs ≡ ys
+same-true [] [] e = refl
+same-true [] (y ∷ ys) e = absurd (false≢true e)
+same-true (x ∷ xs) [] e = absurd (false≢true e)
+same-true (x ∷ xs) (y ∷ ys) e =
+    let (here, later) = and-eq-true-iff (eqb x y) (same xs ys) .0 e in
+    ap₂ _∷_ (eqb-true x y here) (same-true xs ys later)
+
+same-self : (xs : List ℕ) → same xs xs ≡ true
+same-self [] = refl
+same-self (x ∷ xs) = rw (eq-eqb x x refl) (same-self xs)
+
+module _ (s : List ℕ) (rows : ℕ) where
+  abbrev heads : List ℕ
+  heads = fields (headWidths (sections rows)) s 0
+
+  pub fits-parts : fits (sections rows) s ≡ true → (heads ≡ headValues (sections rows)) × (length s ≡ formSize (sections rows))
+  fits-parts e =
+      let (head, long) = and-eq-true-iff (same heads (headValues (sections rows))) (eqb (length s) (formSize (sections rows))) .0 e in
+      (same-true heads (headValues (sections rows)) head, eqb-true (length s) (formSize (sections rows)) long)
+
+  pub parts-fit : heads ≡ headValues (sections rows) → length s ≡ formSize (sections rows) → fits (sections rows) s ≡ true
+  parts-fit head long =
+      let values = headValues (sections rows) in
+      and-eq-true-iff (same heads values) (eqb (length s) (formSize (sections rows))) .1
+      (ap (λ (vs : List ℕ). same vs values) head ∙ same-self values, eq-eqb (length s) (formSize (sections rows)) long)
+
+-- ---- the rows
+-- those of an image restored at a time
+abbrev pub rowsFrom : List ℕ → ℕ → List Row
+rowsFrom s time = tab (planIn s .rows) (rowIn s time)
+
+abbrev RowsRuled : List ℕ → ℕ → Type 0
+RowsRuled s time = Ruled (planIn s .manager) (planIn s .«data_slots») time (rowsFrom s time)
+
+pub record Good (s : List ℕ) (time : ℕ) : Type 0 where
+  pub fit : fits (sections (planIn s .rows)) s ≡ true
+  pub plan : planRule (planIn s) ≡ true
+  pub rows : RowsRuled s time
+
+module _ (s : List ℕ) (time : ℕ) where
+  pub rows-used : planRule (planIn s) ≡ true → rowsIn (bookIn s time) ≡ rowsFrom s time
+  unfolding bookIn
+  rows-used h =
+      let count = planIn s .rows in
+      take-tab count 21 (placeIn s time count) (omega (arith, rule-bounds (planIn s) h .few-rows)) ∙
+      tab-same count (placeIn s time count) (rowIn s time) (λ k l. rw (lt-ltb k count l))
+
+  zeros-behind : every emptyIs (drop (planIn s .rows) (bookIn s time .places)) ≡ true
+  unfolding bookIn
+  zeros-behind =
+      let count = planIn s .rows in
+      every-behind-tab emptyIs count 21 (placeIn s time count) (λ k l. rw (le-ltb k count l) empty-is)
+
+  pub good : acceptedImage s time ≡ true → Good s time
+  unfolding acceptedImage bookIn
+  good e =
+      let (fit, ok) = and-eq-true-iff (fits (sections (planIn s .rows)) s) (withinRule (bookIn s time)) .0 e in
+      let w = within (bookIn s time) ok in
+      record { fit = fit; plan = w .plan; rows = rw (rows-used (w .plan)) at (w .rows) }
+
+  pub accepted : Good s time → acceptedImage s time ≡ true
+  unfolding acceptedImage bookIn
+  accepted g =
+      rw (g .fit) (by-parts (bookIn s time) (record {
+        plan = g .plan;
+        few = omega (arith, rule-bounds (planIn s) (g .plan) .few-data-slots);
+        rows = rw (rows-used (g .plan)) (g .rows);
+        behind = zeros-behind;
+      }))
+
+  -- at another time
+  rows-then : (then : ℕ) → map (renewed then) (rowsFrom s time) ≡ rowsFrom s then
+  unfolding rowIn
+  rows-then then = map-tab (renewed then) (planIn s .rows) (rowIn s time)
+
+  good-then : (then : ℕ) → Good s time → Good s then
+  good-then then g = record { fit = g .fit; plan = g .plan; rows = rw (rows-then then) at (ruled-renewed then (g .rows)) }
+
+-- ---- document 01's list
+module _ (s : List ℕ) where
+  abbrev count-rows : ℕ
+  count-rows = planIn s .rows
+
+  abbrev all : List Row
+  all = rowsFrom s 0
+
+  row-at : (i : ℕ) → i < count-rows → getD all i emptyRow ≡ rowIn s 0 i
+  row-at i h = getD-tab count-rows (rowIn s 0) i emptyRow h
+
+  there : (i : ℕ) → i < count-rows → i < length all
+  there i h = omega (arith, h, length-tab count-rows (rowIn s 0))
+
+  among : (i : ℕ) → i < length all → i < count-rows
+  among i h = omega (arith, h, length-tab count-rows (rowIn s 0))
+
+  acceptable : Good s 0 → Acceptable s
+  acceptable g =
+      let (head, long) = fits-parts s count-rows (g .fit) in
+      let plan = planIn s in
+      let manager = plan .manager in
+      let dataSlots = plan .«data_slots» in
+      let some = kept plan (g .plan) .rows in
+      record {
+        contents = head;
+        size = omega (arith, long);
+        plan = g .plan;
+        manager = rw (row-at 0 (omega (arith, some))) at (led-first (plan .manager) all (g .rows .led));
+        rows = λ i h. rule-either manager dataSlots 0 (rowIn s 0 i) (rule i h) (λ t none. inl (rule-zeros manager dataSlots 0 (rowIn s 0 i) (rule i h) t)) (λ t m. inr (record {
+          unit = m .unit;
+          least = m .least;
+          most = m .most;
+          inside = m .inside;
+        }));
+        distinct = λ i j h k. rw (row-at i h, row-at j k) at (distinct-pairs all (tally-distinct all (g .rows .units)) i j (there i h) (there j k));
+        disjoint = λ i j h k. rw (row-at i h, row-at j k) at (apart-pairs all (tally-apart all (g .rows .owners)) i j (there i h) (there j k));
+        room = vacant-free (omega (arith, rule-bounds plan (g .plan) .few-data-slots)) (g .rows);
+      }
+    where
+      rule : (i : ℕ) → i < count-rows → rowRule (planIn s .manager) (planIn s .«data_slots») 0 (rowIn s 0 i) ≡ true
+      rule i h = rw (row-at i h) at (every-at (rowRule (planIn s .manager) (planIn s .«data_slots») 0) all i emptyRow (g .rows .each) (there i h))
+
+  no-time : (i : ℕ) → (rowIn s 0 i .unit ≡ 0 → ⊥) → rowIn s 0 i .time ≡ 0
+  unfolding rowIn
+  no-time i some = rw (ne-eqb (rowIn s 0 i .unit) 0 some)
+
+  used-rule : (manager dataSlots i : ℕ) → (rowIn s 0 i ≡ emptyRow) ⊎ Used dataSlots (rowIn s 0 i) → rowRule manager dataSlots 0 (rowIn s 0 i) ≡ true
+  used-rule manager dataSlots i (inl e) = rw e (rule-empty manager dataSlots 0)
+  used-rule manager dataSlots i (inr u) =
+      member-rule manager dataSlots 0 (rowIn s 0 i) (record {
+        unit = u .unit;
+        least = u .least;
+        most = u .most;
+        inside = u .inside;
+        past = rw (no-time i (address-some (rowIn s 0 i .unit) (u .unit)), in-order-self 0, or-true);
+      })
+
+  rows-listed : Acceptable s → rowsRule (planIn s .manager) (planIn s .«data_slots») 0 all ≡ true
+  unfolding rowsRule
+  rows-listed a =
+      let manager = planIn s .manager in
+      let dataSlots = planIn s .«data_slots» in
+      let some = kept (planIn s) (a .plan) .rows in
+      rw (
+        first-led manager all (there 0 (omega (arith, some))) (rw (row-at 0 (omega (arith, some))) (a .manager)),
+        every-tab (rowRule manager dataSlots 0) count-rows (rowIn s 0) (λ i h. used-rule manager dataSlots i (a .rows i h)),
+        pairs-distinct all (λ i j h k. rw (row-at i (among i h), row-at j (among j k)) (a .distinct i j (among i h) (among j k))),
+        pairs-apart all (λ i j h k. rw (row-at i (among i h), row-at j (among j k)) (a .disjoint i j (among i h) (among j k))),
+        le-leb (vacant all) (count (free dataSlots all)) (a .room),
+      )
+
+  listed : Acceptable s → Good s 0
+  listed a = record {
+    fit = parts-fit s count-rows (a .contents) (omega (arith, a .size));
+    plan = a .plan;
+    rows = ruled (omega (arith, rule-bounds (planIn s) (a .plan) .few-data-slots)) (rows-listed a);
+  }
+
+pub accepted-exactly : AcceptedExactly
+accepted-exactly s time = (
+  λ e. acceptable s (good-then s time 0 (good s time e)),
+  λ a. accepted s time (good-then s 0 time (listed s a)),
+)

@@ -1,0 +1,29 @@
+-- `refusal`: the first reason that holds.
+-- Assumes nothing.
+use mathlib.Core.Path.{ap, _∙_}
+use Rattle.frame_requests.specs.Requests.{slotRequestFrom}
+use borrow.Author.Needs.{needs}
+use Rattle.book_joins.proofs.asking.refusal.Statement.{statement}
+use Rattle.book_joins.proofs.asking.refusal.Tie as tie
+
+returns : tie.Need-returns
+returns c =
+    let third = c .before .before .before .before in
+    let first = third .before .before .before in
+    let request = first .before in
+    c .refuse-if6 .ensures ∙
+    rw (
+      c .before .before .refuse-if5 .ensures,
+      c .before .before .before .refuse-if4 .ensures,
+      third .refuse-if3 .ensures,
+      third .before .before .refuse-if2 .ensures,
+      first .refuse-if .ensures,
+      c .before .within-rule .ensures,
+      third .before .in-order .ensures,
+      request .before .slot-request .ensures,
+      ap slotRequestFrom (request .of .ensures),
+    )
+
+pub refusal-spec : {M : Type 1} → statement M
+refusal-spec =
+    tie.close (tie.spec (λ c κs. search needs) (λ c κs. search needs) (λ c κs. search needs) (λ c κs. search needs) (λ c κs. search needs) (λ c κs. search needs) (λ c κs. search needs) (λ c κs. search needs) (λ c κs. search needs) (λ c κs. search needs) returns)

@@ -1,4 +1,0 @@
-pub mod ClockCallLaws
-pub mod EntryCallLaws
-pub mod FrameCallLaws
-pub mod StateCallLaws

@@ -1,4 +1,0 @@
-pub mod ClockCalls
-pub mod EntryCalls
-pub mod FrameCalls
-pub mod StateCalls

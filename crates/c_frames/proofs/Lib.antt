@@ -1,0 +1,2 @@
+pub mod EntryCallLaws
+pub mod FrameCallLaws

@@ -1,0 +1,34 @@
+-- What relaying returns and leaves.
+-- Assumes nothing.
+use Prim.Native.Nat.{ℕ}
+use mathlib.Core.Bool.{cond}
+use mathlib.Core.List.{List}
+use lib.ListN.{getD}
+use Rattle.octets.specs.Calls.{after}
+use Rattle.frame_kinds.specs.Shape.{placeOf}
+use Rattle.frame_traffic.specs.Traffic.{dataKind}
+use Rattle.route_bytes.specs.StoredTables.{storedTable}
+use Rattle.route_bytes.specs.TableBytes.{tableIn}
+use Rattle.route_relays.specs.Relays.{forUs, relayOf}
+
+-- ---- relaying: the status, the buffer, the next hop, and the place and the number of the bytes that count
+pub record RelayLeft : Type 0 where
+  pub status : ℕ
+  pub out : List ℕ
+  pub nextHop : ℕ
+  pub place : ℕ
+  pub extent : ℕ
+
+abbrev pub relayLeft : ℕ → List ℕ → ℕ → ℕ → ℕ → RelayLeft
+relayLeft status out nextHop place extent =
+    record { status = status; out = out; nextHop = nextHop; place = place; extent = extent }
+
+-- for this unit: no next hop, the payload's place in the frame and its length; else the next hop, and the bytes written from the buffer's start
+unfoldable pub relayCall : List ℕ → List ℕ → ℕ → List ℕ → ℕ → ℕ → ℕ → RelayLeft
+relayCall s frame time out nextHop place extent =
+    let wrote = relayOf (tableIn s) frame time out in
+    let vs = wrote .said .values in
+    let status = storedTable s (wrote .said .refusal) in
+    let ours = forUs (tableIn s) frame in
+    relayLeft status (after status out (wrote .held)) (after status nextHop (cond ours 0 (getD vs 0 0)))
+    (after status place (cond ours (placeOf dataKind) 0)) (after status extent (cond ours (getD vs 0 0) (getD vs 1 0)))

@@ -1,0 +1,59 @@
+// Frames that go on by a table of 539 bytes: data is handed back or relayed, a beacon is forwarded.
+ghost use mathlib.Core.Path.{_≡_};
+ghost use Rattle.route_forwards.specs.Forwards.{forwardLeft, forwardCall};
+ghost use Rattle.c_routes.specs.RelayCalls.{relayLeft, relayCall};
+use route_forwards::forwarding::forward_in;
+use route_relays::relaying::Relayed;
+use route_relays::relaying::relay_in;
+
+// Relays a data frame. For this unit: next hop 0, and where the payload starts in the frame and how long it is. Else: the next hop, place 0, and
+// how many bytes were written.
+#[no_mangle]
+pub extern "C" fn braidlark_relay(
+    table: &[u8],
+    frame: &[u8],
+    time: u32,
+    out: &mut [u8],
+    next_hop: &mut u16,
+    place: &mut u32,
+    length: &mut u32,
+) -> u8
+    ensures { λ r. ⌜ relayLeft r (now (out .exit)) (now («next_hop» .exit)) (now (place .exit)) (now (length .exit)) ≡ relayCall (now (table .entry)) (now (frame .entry)) time (now (out .entry)) (now («next_hop» .entry)) (now (place .entry)) (now (length .entry)) ⌝ }
+{
+    match relay_in(table, frame, time, out) {
+        Relayed::ForUs(count) => {
+            *next_hop = 0;
+            *place = 9;
+            *length = count as u32;
+            0
+        }
+        Relayed::Passed(passage) => {
+            *next_hop = passage.next_hop;
+            *place = 0;
+            *length = passage.size as u32;
+            0
+        }
+        Relayed::Refused(refusal) => refusal.number,
+    }
+}
+
+// Forwards a beacon with this delay added, and says how many bytes were written.
+#[no_mangle]
+pub extern "C" fn braidlark_forward(
+    table: &mut [u8],
+    network: u16,
+    frame: &[u8],
+    delay: u32,
+    time: u32,
+    out: &mut [u8],
+    written: &mut u32,
+) -> u8
+    ensures { λ r. ⌜ forwardLeft r (now (table .exit)) (now (out .exit)) (now (written .exit)) ≡ forwardCall (now (table .entry)) network (now (frame .entry)) delay time (now (out .entry)) (now (written .entry)) ⌝ }
+{
+    let forwarded = forward_in(table, network, frame, delay, time, out);
+    if forwarded.refused != 0 {
+        return forwarded.refused;
+    }
+    *written = forwarded.written as u32;
+    0
+}

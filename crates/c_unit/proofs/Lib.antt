@@ -1,0 +1,2 @@
+pub mod ClockCallLaws
+pub mod StateCallLaws

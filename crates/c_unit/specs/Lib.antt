@@ -1,0 +1,2 @@
+pub mod ClockCalls
+pub mod StateCalls

@@ -1,0 +1,12 @@
+-- `Beacon::of`: each field stands where the layout says.
+-- Assumes nothing.
+use borrow.Author.Needs.{needs}
+use Rattle.frame_beacons.proofs.beacon.Beacon.of.Statement.{statement}
+use Rattle.frame_beacons.proofs.beacon.Beacon.of.Tie as tie
+
+returns : tie.Need-returns
+returns c = cc
+
+pub of-spec : {M : Type 1} → statement M
+of-spec =
+    tie.close (tie.spec (λ c κs. search needs) (λ c κs. search needs) (λ c κs. search needs) (λ c κs. search needs) (λ c κs. search needs) (λ c κs. search needs) (λ c κs. search needs) (λ c κs. search needs) (λ c κs. search needs) (λ c κs. search needs) (λ c κs. search needs) (λ c κs. search needs) (λ c κs. search needs) (λ c κs. search needs) returns)

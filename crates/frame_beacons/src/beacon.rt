@@ -1,0 +1,64 @@
+// 0x46, the beacon: the manager's time and superframe, passed on hop by hop.
+ghost use mathlib.Core.Path.{_≡_};
+ghost use Rattle.frame_beacons.specs.Beacons.{beacon, beaconValues, beaconRule};
+ghost use Rattle.frame_kinds.specs.Shape.{valuesIn};
+use octets::numbers::number8;
+use octets::numbers::number16;
+use octets::numbers::number32;
+
+pub struct Beacon {
+    pub destination: u16,
+    pub source: u16,
+    pub size: u8,
+    pub network: u16,
+    pub superframe_number: u32,
+    pub superframe_ms: u16,
+    pub total_slots: u8,
+    pub slot_ms: u32,
+    pub original_source: u16,
+    pub hop: u8,
+    pub original_time: u32,
+    pub delay: u32,
+    pub max_hops: u8,
+    pub sequence: u16,
+}
+
+impl Beacon {
+    // The fields where they stand in a frame of this kind.
+    pub fn of(s: &[u8]) -> Beacon
+        ensures { λ r. ⌜ beaconValues r ≡ valuesIn beacon (now (s .entry)) ⌝ }
+    {
+        Beacon {
+            destination: number16(s, 1),
+            source: number16(s, 3),
+            size: number8(s, 5),
+            network: number16(s, 6),
+            superframe_number: number32(s, 8),
+            superframe_ms: number16(s, 12),
+            total_slots: number8(s, 14),
+            slot_ms: number32(s, 15),
+            original_source: number16(s, 19),
+            hop: number8(s, 21),
+            original_time: number32(s, 22),
+            delay: number32(s, 26),
+            max_hops: number8(s, 30),
+            sequence: number16(s, 31),
+        }
+    }
+
+    // Whether the fields keep their rules.
+    pub fn good(self) -> bool
+        ensures { λ r. ⌜ r ≡ beaconRule self ⌝ }
+    {
+        (self.destination == 0xFFFF)
+            & ((1 <= self.source) & (self.source <= 0xFFFE))
+            & (self.size == 27)
+            & (1 <= self.network)
+            & ((1 <= self.original_source) & (self.original_source <= 0xFFFE))
+            & ((1 <= self.max_hops) & (self.max_hops <= 10))
+            & (self.hop <= self.max_hops)
+            & ((1 <= self.total_slots) & (self.total_slots <= 100))
+            & (1 <= self.slot_ms)
+            & (self.superframe_ms as u64 == self.total_slots as u64 * self.slot_ms as u64)
+    }
+}

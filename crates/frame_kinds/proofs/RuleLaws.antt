@@ -1,0 +1,20 @@
+-- What the shared field rules say of a number's size.
+-- Assumes nothing.
+use mathlib.Core.Path.{_≡_}
+use mathlib.Core.Bool.{true, and-eq-true-iff}
+use Prim.Native.Nat.{ℕ, _<_}
+use native.Mathlib.Omega.{arith}
+use borrow.Author.Tests.{leb-true}
+use lib.Dec.{leb}
+use Rattle.frame_kinds.specs.Rules.{address}
+
+-- an address is not 0, and has 16 bits
+pub address-least : (n : ℕ) → address n ≡ true → 0 < n
+address-least n e =
+    let h = leb-true 1 n (and-eq-true-iff (leb 1 n) (leb n 0xFFFE) .0 e .0) in
+    omega (arith, h)
+
+pub address-fits : (n : ℕ) → address n ≡ true → n < 0x10000
+address-fits n e =
+    let h = leb-true n 0xFFFE (and-eq-true-iff (leb 1 n) (leb n 0xFFFE) .0 e .1) in
+    omega (arith, h)

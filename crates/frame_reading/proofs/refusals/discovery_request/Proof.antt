@@ -1,0 +1,13 @@
+-- `discovery_request`: the shared tests, with its own fields and rule.
+-- Assumes nothing.
+use Rattle.frame_requests.specs.Requests.{discoveryRequest}
+use Rattle.frame_kinds.proofs.ReadingLaws.{refused-as}
+use borrow.Author.Needs.{needs}
+use Rattle.frame_reading.proofs.refusals.discovery_request.Statement.{statement}
+use Rattle.frame_reading.proofs.refusals.discovery_request.Tie as tie
+
+returns : tie.Need-returns
+returns c = refused-as discoveryRequest _ _ _ _ (c .refused .ensures) (c .before .good2 .ensures) (c .before .before .of .ensures)
+
+pub discovery-request-spec : {M : Type 1} → statement M
+discovery-request-spec = tie.close (tie.spec (λ c κs. search needs) (λ c κs. search needs) (λ c κs. search needs) returns)

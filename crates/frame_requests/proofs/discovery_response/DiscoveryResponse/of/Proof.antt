@@ -1,0 +1,12 @@
+-- `DiscoveryResponse::of`: each field stands where the layout says.
+-- Assumes nothing.
+use borrow.Author.Needs.{needs}
+use Rattle.frame_requests.proofs.discovery_response.DiscoveryResponse.of.Statement.{statement}
+use Rattle.frame_requests.proofs.discovery_response.DiscoveryResponse.of.Tie as tie
+
+returns : tie.Need-returns
+returns c = cc
+
+pub of-spec : {M : Type 1} → statement M
+of-spec =
+    tie.close (tie.spec (λ c κs. search needs) (λ c κs. search needs) (λ c κs. search needs) (λ c κs. search needs) (λ c κs. search needs) (λ c κs. search needs) returns)

@@ -1,0 +1,40 @@
+// 0x22, the join response: the manager grants a slot, or none.
+ghost use mathlib.Core.Path.{_≡_};
+ghost use Rattle.frame_requests.specs.Requests.{joinResponse, joinResponseValues, joinResponseRule};
+ghost use Rattle.frame_kinds.specs.Shape.{valuesIn};
+use octets::numbers::number8;
+use octets::numbers::number16;
+use octets::numbers::number32;
+
+pub struct JoinResponse {
+    pub node: u16,
+    pub status: u8,
+    pub slot: u16,
+    pub superframe_time: u32,
+    pub network: u16,
+}
+
+impl JoinResponse {
+    // The fields where they stand in a frame of this kind.
+    pub fn of(s: &[u8]) -> JoinResponse
+        ensures { λ r. ⌜ joinResponseValues r ≡ valuesIn joinResponse (now (s .entry)) ⌝ }
+    {
+        JoinResponse {
+            node: number16(s, 1),
+            status: number8(s, 3),
+            slot: number16(s, 4),
+            superframe_time: number32(s, 6),
+            network: number16(s, 10),
+        }
+    }
+
+    // Whether the fields keep their rules.
+    pub fn good(self) -> bool
+        ensures { λ r. ⌜ r ≡ joinResponseRule self ⌝ }
+    {
+        ((1 <= self.node) & (self.node <= 0xFFFE))
+            & (1 <= self.network)
+            & (((self.status == 0) & (self.slot < 100))
+                | ((self.status == 1) & (self.slot == 0xFFFF)))
+    }
+}

@@ -1,0 +1,38 @@
+// 0x11, data: an order or a reading on its way to a unit.
+ghost use mathlib.Core.Path.{_≡_};
+ghost use Rattle.frame_traffic.specs.Traffic.{dataKind, dataValues, dataRule};
+ghost use Rattle.frame_kinds.specs.Shape.{valuesIn};
+use octets::numbers::number8;
+use octets::numbers::number16;
+
+// `count` is how many bytes of payload follow.
+pub struct DataHeader {
+    pub source: u16,
+    pub destination: u16,
+    pub ttl: u8,
+    pub sequence: u16,
+    pub count: u8,
+}
+
+impl DataHeader {
+    // The fields where they stand in a frame of this kind.
+    pub fn of(s: &[u8]) -> DataHeader
+        ensures { λ r. ⌜ dataValues r ≡ valuesIn dataKind (now (s .entry)) ⌝ }
+    {
+        DataHeader {
+            source: number16(s, 1),
+            destination: number16(s, 3),
+            ttl: number8(s, 5),
+            sequence: number16(s, 6),
+            count: number8(s, 8),
+        }
+    }
+
+    // Whether the fields keep their rules.
+    pub fn good(self) -> bool
+        ensures { λ r. ⌜ r ≡ dataRule self ⌝ }
+    {
+        ((1 <= self.source) & (self.source <= 0xFFFE))
+            & ((1 <= self.destination) & (self.destination <= 0xFFFE))
+    }
+}

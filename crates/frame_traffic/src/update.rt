@@ -1,0 +1,35 @@
+// 0x31, the routing update: the routes that its origin knows.
+ghost use mathlib.Core.Path.{_≡_};
+ghost use Rattle.frame_traffic.specs.Traffic.{update, updateValues, updateRule};
+ghost use Rattle.frame_kinds.specs.Shape.{valuesIn};
+use crate::entry::entries_good;
+use octets::numbers::number8;
+use octets::numbers::number16;
+use octets::numbers::number32;
+
+// `count` is how many entries follow.
+pub struct UpdateHeader {
+    pub origin: u16,
+    pub count: u8,
+    pub time: u32,
+}
+
+impl UpdateHeader {
+    // The fields where they stand in a frame of this kind.
+    pub fn of(s: &[u8]) -> UpdateHeader
+        ensures { λ r. ⌜ updateValues r ≡ valuesIn update (now (s .entry)) ⌝ }
+    {
+        UpdateHeader {
+            origin: number16(s, 1),
+            count: number8(s, 3),
+            time: number32(s, 4),
+        }
+    }
+
+    // Whether the fields and the entries' bytes keep their rules.
+    pub fn good(self, entries: &[u8]) -> bool
+        ensures { λ r. ⌜ r ≡ updateRule self (now (entries .entry)) ⌝ }
+    {
+        ((1 <= self.origin) & (self.origin <= 0xFFFE)) & entries_good(entries, self.count)
+    }
+}

@@ -1,4 +1,0 @@
-pub mod BookEvents
-pub mod BookLaws
-pub mod TableCalls
-pub mod TableLaws

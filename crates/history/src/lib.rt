@@ -1,1 +1,0 @@
-// History: what holds over any sequence of calls. There is no code here, only theorems.

@@ -1,3 +1,0 @@
-pub mod BookBytes
-pub mod PlanBytes
-pub mod Trips

@@ -1,3 +1,0 @@
-// Ledgers: a plan and a book as bytes of a fixed length, which a C caller keeps for us between two calls.
-pub mod books;
-pub mod plans;

@@ -1,0 +1,2 @@
+pub mod TableCalls
+pub mod TableLaws

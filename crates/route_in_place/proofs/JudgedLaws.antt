@@ -1,0 +1,229 @@
+-- One loop over the rows in use, each against the one before, and one over the zeros behind, judge what the definition does.
+-- Assumes nothing.
+use mathlib.Core.Path.{_≡_, refl, sym, ap, ap₂, _∙_}
+use mathlib.Core.Bool.{Bool, true, false, not, _&&_, _||_, and-true, and-false, and-eq-true-iff}
+use mathlib.Core.List.{List, [], _∷_}
+use Prim.Native.Nat.{ℕ, zero, suc, _+_, _*_, _-_, _≤_, _<_}
+use native.Mathlib.Numerals.{add-one}
+use native.Mathlib.Decide.{ℕ-discrete}
+use native.Mathlib.Omega.{arith}
+use borrow.Author.Tests.{eq-eqb, ne-eqb, lt-ltb, le-leb, lt-leb, not-true, not-false}
+use lib.Dec.{eqb, leb, ltb}
+use lib.ListN.{length, take, drop, drop-of-length-le}
+use lib.Seq.{drop-cons}
+use Rattle.octets.specs.Layouts.{fields}
+use Rattle.octets.specs.Lists.{tab, every}
+use Rattle.octets.specs.Numbers.{num}
+use Rattle.octets.proofs.LayoutLaws.{fields-part}
+use Rattle.octets.proofs.NumberLaws.{num-part}
+use Rattle.octets.proofs.ListLaws.{length-tab, getD-tab}
+use Rattle.route_table.specs.declared.row.Row.{Row}
+use Rattle.route_table.specs.Places.{firstDestination, okPlaces}
+use Rattle.route_table.specs.Rows.{rowRule, isNone}
+use Rattle.route_table.specs.declared.table.Head.{Head}
+use Rattle.route_table.specs.Tables.{headOf, pairOk, withinRule}
+use Rattle.frame_kinds.specs.Rules.{address}
+use Rattle.route_table.proofs.PlaceLaws.{ok-right, none-first}
+use Rattle.route_table.proofs.TableLaws.{table-right}
+use Rattle.route_bytes.specs.TableBytes.{rowWidths, rowFrom, rowAt, tableIn, flagsOk, isTable, holdsTable}
+use Rattle.route_bytes.proofs.TableByteLaws.{table-length}
+use Rattle.octets.specs.Zeros.{isZero, zerosFrom}
+use Rattle.route_in_place.specs.Judged.{rowsOk, zerosBehind}
+use Rattle.octets.proofs.ZeroLaws.{fields-zero}
+
+-- ---- lists that are read from bytes, from a place on
+pub tab-from : {A : Type 0} (n : ℕ) (f : ℕ → A) (i : ℕ) → i < n → drop i (tab n f) ≡ f i ∷ drop (i + 1) (tab n f)
+tab-from n f i h = rw (drop-cons (tab n f) i (f i) (omega (arith, length-tab n f, h)), getD-tab n f i (f i) h, add-one)
+
+pub tab-past : {A : Type 0} (n : ℕ) (f : ℕ → A) (i : ℕ) → n ≤ i → drop i (tab n f) ≡ []
+tab-past n f i h =
+    let k : length (tab n f) ≤ i = omega (arith, length-tab n f, h) in
+    drop-of-length-le (tab n f) k
+
+abbrev small : ℕ → Bool
+small v = leb v 1
+
+abbrev flagAt : List ℕ → ℕ → ℕ
+flagAt s i = num 1 s (21 + 11 * i)
+
+-- ---- an empty place is 11 zeros
+flag-zero : (v : ℕ) → (leb v 1 && not (eqb v 1)) ≡ isZero v
+flag-zero v = go (ℕ-discrete v 0) (ℕ-discrete v 1)
+  where
+    go : Dec (v ≡ 0) → Dec (v ≡ 1) → (leb v 1 && not (eqb v 1)) ≡ isZero v
+    go (yes z) d = rw z
+    go (no z) (yes o) = rw o
+    go (no z) (no o) = rw (lt-leb v 1 (omega (arith, z, o)), ne-eqb v 0 z)
+
+one-by-one : (d h n q t l f : Bool) → (l && (d && h && n && q && t && f)) ≡ (d && (h && (n && (q && (t && ((l && f) && true))))))
+one-by-one true true true true true l f = sym (and-true (l && f))
+one-by-one true true true true false l f = and-false l
+one-by-one true true true false t l f = and-false l
+one-by-one true true false q t l f = and-false l
+one-by-one true false n q t l f = and-false l
+one-by-one false h n q t l f = and-false l
+
+row-zero : (d h n q t v : ℕ) → (small v && isNone (rowFrom (d ∷ h ∷ n ∷ q ∷ t ∷ v ∷ []))) ≡ every isZero (d ∷ h ∷ n ∷ q ∷ t ∷ v ∷ [])
+unfolding every
+row-zero d h n q t v =
+    one-by-one (isZero d) (isZero h) (isZero n) (isZero q) (isZero t) (small v) (not (eqb v 1)) ∙ rw (flag-zero v)
+
+place-zero : (s : List ℕ) (i : ℕ) → (small (flagAt s i) && isNone (rowAt s i)) ≡ every isZero (fields rowWidths s (11 + 11 * i))
+unfolding rowAt
+place-zero s i =
+    let at = 11 + 11 * i in
+    let e : 21 + 11 * i ≡ at + 2 + 2 + 1 + 1 + 4 = omega arith in
+    rw e (row-zero (num 2 s at) (num 2 s (at + 2)) (num 1 s (at + 2 + 2)) (num 1 s (at + 2 + 2 + 1)) (num 4 s (at + 2 + 2 + 1 + 1)) (num 1 s (at + 2 + 2 + 1 + 1 + 4)))
+
+swap : (f e n o : Bool) → (f && e && (n && o)) ≡ (f && n && (e && o))
+swap true true n o = refl
+swap true false true o = refl
+swap true false false o = refl
+swap false e n o = refl
+
+regroup : (b g f a e o : Bool) → (b && (f && e && (g && a && o))) ≡ (g && b && f && (a && (e && o)))
+regroup true true true true e o = refl
+regroup true true true false e o = and-false e
+regroup true true false a e o = refl
+regroup true false f a e o = and-false (f && e)
+regroup false true f a e o = refl
+regroup false false f a e o = refl
+
+-- rows may follow one with this destination
+abbrev follow : ℕ → List Row → Bool
+follow below rs = eqb (firstDestination rs) 0 || ltb below (firstDestination rs)
+
+-- the rows passed are right: the rest is right exactly if the whole is
+pub record Judging (s : List ℕ) (own last below place : ℕ) : Type 0 where
+  pub within : place ≤ 48
+  pub rest : (follow below (drop place (tab 48 (rowAt s))) && (every small (drop place (tab 48 (flagAt s))) && okPlaces own last (drop place (tab 48 (rowAt s))))) ≡ rowsOk own last s
+
+-- ---- a row through a part of known length
+module _ (s : List ℕ) (i : ℕ) where
+  abbrev pub part : List ℕ
+  part = take (11 + 11 * i + 11 - (11 + 11 * i)) (drop (11 + 11 * i) s)
+
+  pub part-row : (r : Row) → r ≡ rowFrom (fields rowWidths part 0) → r ≡ rowAt s i
+  unfolding rowAt
+  part-row r e = e ∙ ap rowFrom (fields-part rowWidths s (11 + 11 * i) (11 + 11 * i + 11 - (11 + 11 * i)) (omega arith))
+
+  part-flag : (v : ℕ) → v ≡ num 1 part 10 → v ≡ flagAt s i
+  part-flag v e =
+      let k : 11 + 11 * i + 10 ≡ 21 + 11 * i = omega arith in
+      e ∙ (rw k at (num-part 1 s (11 + 11 * i) (11 + 11 * i + 11 - (11 + 11 * i)) 10 (omega arith)))
+
+module _ (s : List ℕ) (l : length s ≡ 539) where
+  behind : (n i : ℕ) → n + i ≡ 48 → (every small (drop i (tab 48 (flagAt s))) && every isNone (drop i (tab 48 (rowAt s)))) ≡ zerosFrom (11 + 11 * i) s
+  unfolding every
+  behind zero i e =
+      let h : 48 ≤ i = omega arith in
+      let k : length s ≤ 11 + 11 * i = omega arith in
+      rw (tab-past 48 (flagAt s) i h, tab-past 48 (rowAt s) i h, drop-of-length-le s k)
+  behind (suc n) i e =
+      let h : i < 48 = omega arith in
+      let next : 11 + 11 * i + 11 ≡ 11 + 11 * (i + 1) = omega arith in
+      rw (tab-from 48 (flagAt s) i h, tab-from 48 (rowAt s) i h)
+      (swap (small (flagAt s i)) (every small (drop (i + 1) (tab 48 (flagAt s)))) (isNone (rowAt s i)) (every isNone (drop (i + 1) (tab 48 (rowAt s))))
+      ∙ (ap₂ _&&_ (place-zero s i) (behind n (i + 1) (omega arith))
+      ∙ sym (rw next at (fields-zero rowWidths s (11 + 11 * i) (omega arith)))))
+
+  module _ (own last : ℕ) where
+    none-ok : (rs : List Row) → firstDestination rs ≡ 0 → okPlaces own last rs ≡ every isNone rs
+    unfolding every
+    none-ok rs z = ok-right own last rs ∙ rw (none-first rs z)
+
+    module _ (below i : ℕ) (j : Judging s own last below i) where
+      -- no row is left
+      pub none-left : i ≡ 48 → zerosBehind 48 s ≡ rowsOk own last s
+      unfolding every
+      none-left e =
+          let k : length s ≤ 539 = omega arith in
+          rw (drop-of-length-le s k) (rw (e, tab-past 48 (rowAt s) 48 (omega arith), tab-past 48 (flagAt s) 48 (omega arith)) at (j .rest))
+
+      module _ (h : i < 48) where
+        module _ (r : Row) (here : r ≡ rowFrom (fields rowWidths (part s i) 0)) where
+          same : r ≡ rowAt s i
+          same = part-row s i r here
+
+          -- the first empty place
+          pub empty-here : r .destination ≡ 0 → zerosBehind i s ≡ rowsOk own last s
+          empty-here z =
+              let rs = drop i (tab 48 (rowAt s)) in
+              let first : firstDestination rs ≡ 0 = rw (tab-from 48 (rowAt s) i h, ← same) z in
+              rw (le-leb i 48 (omega arith))
+              (sym (behind (48 - i) i (omega arith)) ∙ (sym (ap (λ (b : Bool). every small (drop i (tab 48 (flagAt s))) && b) (none-ok rs first)) ∙ (rw (eq-eqb (firstDestination rs) 0 first) at (j .rest))))
+
+          module _ (some : r .destination ≡ 0 → ⊥) (good : Bool) (e : good ≡ rowRule own last r) (v : ℕ) (flag : v ≡ num 1 (part s i) 10) where
+            abbrev kept : Bool
+            kept = good && ltb below (r .destination) && leb v 1
+
+            turn : (kept && (follow (r .destination) (drop (i + 1) (tab 48 (rowAt s))) && (every small (drop (i + 1) (tab 48 (flagAt s))) && okPlaces own last (drop (i + 1) (tab 48 (rowAt s)))))) ≡ rowsOk own last s
+            unfolding every
+            turn =
+                let rs = drop (i + 1) (tab 48 (rowAt s)) in
+                let fs = drop (i + 1) (tab 48 (flagAt s)) in
+                sym (regroup (ltb below (r .destination)) good (small v) (follow (r .destination) rs) (every small fs) (okPlaces own last rs))
+                ∙ (rw (tab-from 48 (rowAt s) i h, tab-from 48 (flagAt s) i h, ← same, ← part-flag s i v flag, ne-eqb (r .destination) 0 some, ← e) at (j .rest))
+
+            pub row-bad : not kept ≡ true → zerosBehind 49 s ≡ rowsOk own last s
+            row-bad t = rw (not-true kept t) at turn
+
+            pub row-kept : not kept ≡ false → Judging s own last (r .destination) (i + 1)
+            row-kept t = record { within = omega arith; rest = rw (not-false kept t) at turn }
+
+pub judging : (s : List ℕ) (own last : ℕ) → Judging s own last 0 0
+judging s own last = record { within = omega arith; rest = rw (above-none (firstDestination (tab 48 (rowAt s)))) }
+  where
+    above-none : (d : ℕ) → (eqb d 0 || ltb 0 d) ≡ true
+    above-none d = go (ℕ-discrete d 0)
+      where
+        go : Dec (d ≡ 0) → (eqb d 0 || ltb 0 d) ≡ true
+        go (yes z) = rw (eq-eqb d 0 z)
+        go (no z) = rw (ne-eqb d 0 z, lt-ltb 0 d (omega (arith, z)))
+
+-- ---- the head, the rows and the zeros are the definition
+head-first : (a f p g o : Bool) → (a && f && p && (g && o)) ≡ (true && f && g && (a && p && o))
+head-first true true true g o = refl
+head-first true true false g o = sym (and-false g)
+head-first true false p g o = refl
+head-first false f p g o = sym (and-false (f && g))
+
+pub no-length : (s : List ℕ) → (length s ≡ 539 → ⊥) → false ≡ holdsTable s
+unfolding isTable holdsTable
+no-length s n = rw (ne-eqb (length s) 539 n)
+
+module _ (s : List ℕ) (l : length s ≡ 539) (h : Head) (e : h ≡ headOf (tableIn s)) (used : ℕ) (q : zerosBehind used s ≡ rowsOk (h .own) (h .time) s) where
+  abbrev pair : Bool
+  pair = pairOk (h .forwarded) (h .origin) (h .sequence)
+
+  whole : (address (h .own) && leb (num 1 s 6) 1 && pair && zerosBehind used s) ≡ holdsTable s
+  unfolding isTable tableIn holdsTable
+  whole =
+      let places = okPlaces (h .own) (h .time) (tab 48 (rowAt s)) in
+      let known : (true && leb (num 1 s 6) 1 && flagsOk 48 s) ≡ isTable s = rw (eq-eqb (length s) 539 l) in
+      let rule : (address (h .own) && pair && places) ≡ withinRule (tableIn s) = rw e (table-right (tableIn s) _ _ (length-tab 48 (rowAt s)) refl refl) in
+      rw q (head-first (address (h .own)) (leb (num 1 s 6) 1) pair (flagsOk 48 s) places ∙ ap₂ _&&_ known rule)
+
+  pub rows-bad : 48 < used → false ≡ holdsTable s
+  rows-bad k = sym (and-false (address (h .own) && leb (num 1 s 6) 1 && pair)) ∙ (rw (lt-leb used 48 k) at whole)
+
+  pub all-judged : used ≤ 48 → (flag : ℕ) (right zeros : Bool) → flag ≡ num 1 s 6 → right ≡ pair → zeros ≡ zerosFrom (11 + 11 * used) s
+      → (address (h .own) && leb flag 1 && right && zeros) ≡ holdsTable s
+  all-judged k flag right zeros f p z = rw (f, p, z) (rw (le-leb used 48 k) at whole)
+
+-- ---- what holds of bytes that hold a table within rule
+module _ (s : List ℕ) (e : holdsTable s ≡ true) where
+  pub judged-table : isTable s ≡ true
+  unfolding holdsTable
+  judged-table = and-eq-true-iff (isTable s) (withinRule (tableIn s)) .0 e .0
+
+  pub judged-rule : withinRule (tableIn s) ≡ true
+  unfolding holdsTable
+  judged-rule = and-eq-true-iff (isTable s) (withinRule (tableIn s)) .0 e .1
+
+  pub judged-length : length s ≡ 539
+  judged-length = table-length s judged-table
+
+  pub judged-flags : flagsOk 48 s ≡ true
+  unfolding isTable
+  judged-flags = and-eq-true-iff (eqb (length s) 539 && leb (num 1 s 6) 1) (flagsOk 48 s) .0 judged-table .1

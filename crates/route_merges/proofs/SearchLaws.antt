@@ -1,0 +1,126 @@
+-- The search for a destination among ascending rows: it goes past the lower ones, and stops at the row itself or where it would stand.
+-- Assumes nothing.
+use mathlib.Core.Path.{_≡_, refl, sym, ap, _∙_}
+use mathlib.Core.Bool.{Bool, true, false, cond, and-eq-true-iff}
+use mathlib.Core.List.{List, [], _∷_, _++_}
+use Prim.Native.Nat.{ℕ, zero, suc, _+_, _≤_, _<_}
+use native.Mathlib.Numerals.{add-one}
+use native.Mathlib.Omega.{arith}
+use borrow.Author.Tests.{eq-eqb, ne-eqb, lt-ltb, ltb-true, ltb-false}
+use lib.Dec.{ltb}
+use lib.ListN.{length, getD, take, drop, set, length-append, drop-of-length-le}
+use lib.Seq.{drop-cons, take-suc, take-at, length-take-le, set-split}
+use Rattle.octets.specs.Lists.{every}
+use Rattle.octets.proofs.ListLaws.{every-snoc, every-on}
+use Rattle.route_table.specs.declared.row.Row.{Row}
+use Rattle.route_table.specs.Rows.{none, ascending, rowFor}
+use Rattle.route_table.proofs.StandingLaws.{ascending-rest}
+use Rattle.route_merges.specs.Learning.{put}
+use Rattle.route_merges.specs.Searching.{startsAt}
+use Rattle.route_merges.proofs.PutLaws.{put-above, put-same, put-below}
+
+abbrev below : ℕ → Row → Bool
+below d r = ltb (r .destination) d
+
+-- the search for a destination has come to this place: all rows before it are lower
+pub record Searched (d : ℕ) (rs : List Row) (at : ℕ) : Type 0 where
+  pub within : at ≤ length rs
+  pub lower : every (below d) (take at rs) ≡ true
+
+pub searched-start : (d : ℕ) (rs : List Row) → Searched d rs 0
+unfolding every
+searched-start d rs = record { within = omega arith; lower = refl }
+
+-- what is left to do behind lower rows is the whole
+found-behind : (d : ℕ) (rs : List Row) (at : ℕ) → every (below d) (take at rs) ≡ true → rowFor d (drop at rs) ≡ rowFor d rs
+unfolding every
+found-behind d rs zero e = refl
+found-behind d [] (suc at) e = refl
+found-behind d (r ∷ rs) (suc at) e =
+    let (low, later) = and-eq-true-iff (below d r) (every (below d) (take at rs)) .0 e in
+    rw (ne-eqb (r .destination) d (omega (arith, ltb-true (r .destination) d low))) (found-behind d rs at later)
+
+put-behind : (d : ℕ) (rs : List Row) (at : ℕ) → every (below d) (take at rs) ≡ true → (w : Row) → w .destination ≡ d → take at rs ++ put w (drop at rs) ≡ put w rs
+unfolding every
+put-behind d rs zero e w q = refl
+put-behind d [] (suc at) e w q = refl
+put-behind d (r ∷ rs) (suc at) e w q =
+    let (low, later) = and-eq-true-iff (below d r) (every (below d) (take at rs)) .0 e in
+    ap (λ (l : List Row). r ∷ l) (put-behind d rs at later w q) ∙ sym (put-above w r rs (omega (arith, ltb-true (r .destination) d low)))
+
+module _ (d : ℕ) (rs : List Row) (at : ℕ) (s : Searched d rs at) where
+  abbrev here : Row
+  here = getD rs at none
+
+  found : rowFor d (drop at rs) ≡ rowFor d rs
+  found = found-behind d rs at (s .lower)
+
+  puts : (w : Row) → w .destination ≡ d → take at rs ++ put w (drop at rs) ≡ put w rs
+  puts = put-behind d rs at (s .lower)
+
+  pub searched-on : at < length rs → here .destination < d → Searched d rs (at + 1)
+  searched-on h low =
+      record {
+        within = omega arith;
+        lower = rw (add-one, take-suc rs at none h, every-snoc (below d) (take at rs) here, s .lower, lt-ltb (here .destination) d low);
+      }
+
+  -- a row that is put leaves the rows before it
+  pub put-keeps : (w : Row) → w .destination ≡ d → (take at (put w rs) ≡ take at rs) × (at ≤ length (put w rs))
+  put-keeps w q =
+      let size = length-take-le at rs (s .within) in
+      rw (← puts w q) (take-at (take at rs) (put w (drop at rs)) at size, omega (arith, size, length-append (take at rs) (put w (drop at rs))))
+
+  -- the search for the next destination, where the rows before this place still stand
+  pub searched-next : (next : ℕ) (rs′ : List Row) → (take at rs′ ≡ take at rs) × (at ≤ length rs′) → Searched next rs′ (startsAt at d next)
+  searched-next next rs′ (kept, within′) = go (ltb next d) refl
+    where
+      go : (b : Bool) → ltb next d ≡ b → Searched next rs′ (cond b 0 at)
+      go true q = searched-start next rs′
+      go false q =
+          record {
+            within = within′;
+            lower =
+                rw kept
+                (every-on (below d) (below next) (λ r e. lt-ltb (r .destination) next (omega (arith, ltb-true (r .destination) d e, ltb-false next d q))) (take at rs) (s .lower));
+          }
+
+  -- past the last row
+  pub stop-end : at ≡ length rs → rowFor d rs ≡ none
+  stop-end e = sym found ∙ rw (drop-of-length-le rs {i = at} (omega arith))
+
+  pub put-end : at ≡ length rs → (w : Row) → w .destination ≡ d → put w rs ≡ take at rs ++ (w ∷ drop at rs)
+  put-end e w q = sym (puts w q) ∙ rw (drop-of-length-le rs {i = at} (omega arith))
+
+  module _ (h : at < length rs) where
+    -- at the row itself
+    pub stop-same : here .destination ≡ d → rowFor d rs ≡ here
+    stop-same e = sym found ∙ rw (drop-cons rs at none h, eq-eqb (here .destination) d e)
+
+    pub set-same : here .destination ≡ d → (w : Row) → w .destination ≡ d → put w rs ≡ set rs at w
+    set-same e w q =
+        sym (puts w q) ∙
+        (rw (drop-cons rs at none h, put-same w here (drop (suc at) rs) (e ∙ sym q)) (sym (set-split rs at w h)))
+
+    -- before the first row that is higher
+    pub put-higher : d < here .destination → (w : Row) → w .destination ≡ d → put w rs ≡ take at rs ++ (w ∷ drop at rs)
+    put-higher k w q =
+        sym (puts w q) ∙ rw (drop-cons rs at none h, put-below w here (drop (suc at) rs) (omega arith))
+
+-- ascending rows that begin above a destination have no row for it
+pub none-above : (d : ℕ) (r : Row) (rs : List Row) → ascending (r ∷ rs) ≡ true → d < r .destination → rowFor d (r ∷ rs) ≡ none
+none-above d r [] e h = rw (ne-eqb (r .destination) d (omega arith))
+none-above d r (s ∷ rs) e h =
+    let k = ltb-true (r .destination) (s .destination) (and-eq-true-iff (ltb (r .destination) (s .destination)) (ascending (s ∷ rs)) .0 e .0) in
+    rw (ne-eqb (r .destination) d (omega arith)) (none-above d s rs (ascending-rest r (s ∷ rs) e) (omega (arith, k)))
+
+ascending-drop : (at : ℕ) (rs : List Row) → ascending rs ≡ true → ascending (drop at rs) ≡ true
+ascending-drop zero rs e = e
+ascending-drop (suc at) [] e = refl
+ascending-drop (suc at) (r ∷ rs) e = ascending-drop at rs (ascending-rest r rs e)
+
+pub stop-higher : (d : ℕ) (rs : List Row) (at : ℕ) → Searched d rs at → at < length rs → ascending rs ≡ true → d < getD rs at none .destination → rowFor d rs ≡ none
+stop-higher d rs at s h e k =
+    let tail = drop-cons rs at none h in
+    let a : ascending (getD rs at none ∷ drop (suc at) rs) ≡ true = rw (← tail) (ascending-drop at rs e) in
+    sym (found d rs at s) ∙ rw tail (none-above d (getD rs at none) (drop (suc at) rs) a k)

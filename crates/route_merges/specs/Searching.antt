@@ -1,0 +1,35 @@
+-- What the code sees of a table's 48 places while it looks for a candidate's row: the search goes up from a place behind lower ones and stops at the
+-- first that is not lower. The laws carry it to the list of rows.
+-- Assumes nothing.
+use Prim.Native.Nat.{ℕ}
+use mathlib.Core.Bool.{Bool, not, _&&_, _||_, cond}
+use lib.Dec.{ltb}
+use Rattle.route_table.specs.declared.row.Row.{Row}
+use Rattle.route_table.specs.Rows.{withdrawnAt}
+use Rattle.route_merges.specs.declared.candidate.Candidate.{Candidate}
+use Rattle.route_merges.specs.Candidates.{bad}
+use Rattle.route_merges.specs.Learning.{rowBy, givesWay, takenBack}
+
+-- the search for a destination goes on from the place `at`, which holds the row r; the last place ends it in any case
+abbrev pub goesOn : ℕ → ℕ → Row → Bool
+goesOn at destination r = ltb at 47 && ltb 0 (r .destination) && ltb (r .destination) destination
+
+-- where the search for a destination starts, when that for the one before it stopped at a place: there, or anew where it is lower
+abbrev pub startsAt : ℕ → ℕ → ℕ → ℕ
+startsAt place before destination = cond (ltb destination before) 0 place
+
+-- a candidate changes the row for its destination
+abbrev pub changes : ℕ → ℕ → Candidate → Row → Bool
+changes via time c r = cond (bad c) (takenBack via time r) (givesWay via time c r)
+
+-- where the search stopped at the row r, which is for its destination or not, with the last place in use or not: it stores a row there, ..
+abbrev pub stores : ℕ → ℕ → Candidate → Row → Bool → Bool → Bool
+stores via time c r there full = there && changes via time c r || not there && not (bad c) && not full
+
+-- .. or there is no room for it
+abbrev pub skips : Candidate → Bool → Bool → Bool
+skips c there full = not there && not (bad c) && full
+
+-- what it makes of that row, or of none
+abbrev pub made : ℕ → ℕ → Candidate → Row → Row
+made via time c r = cond (bad c) (withdrawnAt time r) (rowBy via time c)

@@ -1,0 +1,58 @@
+-- `standing_from`'s loop: the rows counted, with those that are left, are all, up to 24.
+-- Assumes nothing.
+use mathlib.Core.Path.{sym, _∙_}
+use Prim.Native.Nat.{_-_}
+use native.Mathlib.Omega.{arith}
+use borrow.Author.Tests.{not-true, not-false}
+use Rattle.route_pages.proofs.WalkLaws.{none-past, none-left, Counted, count-full, count-none, count-gone, count-one}
+use borrow.Author.Needs.{needs}
+use Rattle.route_pages.proofs.rows.standing_from.Statement.{statement}
+use Rattle.route_pages.proofs.rows.standing_from.Tie as tie
+
+abbrev Inv-loop : tie.InvT-loop
+Inv-loop s from time place₀ count₀ place count = Counted s from time place count
+
+abbrev μ-loop : tie.MeasureT-loop
+μ-loop s from time place₀ count₀ place count = 48 - place
+
+loop-holds : tie.Need-loop-holds Inv-loop μ-loop
+loop-holds c = record { few = omega arith; rest = omega arith }
+
+returns : tie.Need-returns Inv-loop μ-loop
+returns c =
+    let at = c .before .before in
+    let a = at .before .before .args in
+    count-none (a .s .now) (a .from) (a .time) (at .loop .place) (at .loop .count) (at .loop .inv) (none-past (a .s .now) (a .time) (at .loop .place) (c .if1 .taken))
+
+returns-2 : tie.Need-returns-2 Inv-loop μ-loop
+returns-2 c =
+    let row = c .before .before in
+    let at = row .before .before .before in
+    let a = at .before .before .args in
+    count-none (a .s .now) (a .from) (a .time) (at .loop .place) (at .loop .count) (at .loop .inv) (none-left (a .s .now) (a .time) (at .loop .place) (search needs) (row .row-at .result) (row .row-at .ensures) (c .if2 .taken))
+
+loop-again : tie.Need-loop-again Inv-loop μ-loop
+loop-again c =
+    let test = c .before .before in
+    let row = test .before .before in
+    let at = row .before .before .before in
+    let a = at .before .before .args in
+    count-gone (a .s .now) (a .from) (a .time) (at .loop .place) (at .loop .count) (at .loop .inv) (search needs) (row .row-at .result) (row .row-at .ensures) (test .if2 .left) (sym (c .before .stands .ensures) ∙ not-true _ (c .if3 .taken))
+
+loop-again-2 : tie.Need-loop-again-2 Inv-loop μ-loop
+loop-again-2 c =
+    let test = c .before .before in
+    let row = test .before .before in
+    let at = row .before .before .before in
+    let a = at .before .before .args in
+    count-one (a .s .now) (a .from) (a .time) (at .loop .place) (at .loop .count) (at .loop .inv) (search needs) (row .row-at .result) (row .row-at .ensures) (test .if2 .left) (search needs) (sym (c .before .stands .ensures) ∙ not-false _ (c .if3 .left))
+
+returns-3 : tie.Need-returns-3 Inv-loop μ-loop
+returns-3 c =
+    let at = c .before in
+    let a = at .before .before .args in
+    count-full (a .s .now) (a .from) (a .time) (at .loop .place) (at .loop .count) (at .loop .inv) (search needs)
+
+pub standing-from-spec : {M : Type 1} → statement M
+standing-from-spec =
+    tie.close (tie.spec Inv-loop μ-loop loop-holds returns (λ c κs. search needs) returns-2 (λ c. search needs) (λ c κs. search needs) (λ c. search needs) loop-again (λ c. search needs) (λ c. search needs) loop-again-2 returns-3)

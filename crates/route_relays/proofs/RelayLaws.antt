@@ -1,0 +1,205 @@
+-- Relaying, from what its parts say.
+-- Assumes nothing.
+use mathlib.Core.Path.{_≡_, refl, sym, ap, _∙_}
+use mathlib.Core.Bool.{Bool, true, false, not, _&&_, cond, and-eq-true-iff, false≢true}
+use mathlib.Core.List.{List, [], _∷_}
+use Prim.Native.Nat.{ℕ, _+_, _≤_}
+use native.Mathlib.Omega.{arith}
+use borrow.Author.Tests.{eqb-true, leb-false, ltb-false, not-true, not-false}
+use lib.Dec.{eqb}
+use lib.ListN.{length, getD}
+use lib.Seq.{sets}
+use Rattle.octets.specs.Answers.{Said, accepted, refused, Reason, first, unless}
+use Rattle.octets.specs.Parts.{Lent, partOf}
+use Rattle.octets.specs.Told.{Wrote}
+use Rattle.octets.proofs.AnswerLaws.{Numbered, numbered, refusing-numbered, none-holds}
+use Rattle.moments.specs.Moments.{inOrder}
+use Rattle.frame_kinds.specs.Reading.{refusalAs}
+use Rattle.frame_kinds.specs.Rules.{address}
+use Rattle.frame_kinds.specs.Shape.{valuesIn, partIn, partLent, frameOf}
+use Rattle.frame_kinds.proofs.ReadingLaws.{passed, part-length}
+use Rattle.frame_traffic.specs.declared.data_frame.DataHeader.{DataHeader}
+use Rattle.frame_traffic.specs.Traffic.{dataKind, dataValues, dataFrom}
+use Rattle.frame_writing.proofs.WritingLaws.{frame-length}
+use Rattle.route_table.specs.declared.table.Table.{Table}
+use Rattle.route_table.specs.declared.table.Hop.{Hop}
+use Rattle.route_table.specs.Rows.{rowFor}
+use Rattle.route_table.specs.Tables.{rowsOf, withinRule, foundBy, lookupOf}
+use Rattle.route_table.specs.Told.{hopOf}
+use Rattle.route_table.proofs.LookupLaws.{looked-up, lookup-told}
+use Rattle.route_bytes.specs.TableBytes.{tableIn, isTable, holdsTable}
+use Rattle.route_in_place.proofs.JudgedLaws.{judged-table}
+use Rattle.route_relays.specs.declared.relaying.Relayed.{Relayed}
+use Rattle.route_relays.specs.Relays.{dataIn, isFor, forUs, passedOn, copyOf, unrelayedReasons, relayReasons, relayRefusal, relayOf, relayBy, relayIn, handedBack, toldRelayed, relayed}
+
+pub header-in : (h : DataHeader) (s : List ℕ) → dataValues h ≡ valuesIn dataKind s → h ≡ dataIn s
+header-in h s e = ap dataFrom e
+
+-- a copy has its payload and ten bytes
+pub copy-length : (s : List ℕ) → length (partIn dataKind s) + 10 ≡ length (copyOf s)
+copy-length s =
+    omega (arith, frame-length (1 ∷ dataKind .widths) (dataKind .code ∷ dataValues (passedOn (dataIn s))) (partIn dataKind s) [] 9 refl refl)
+
+-- the addresses of a frame that was read
+pub read-destination : (s : List ℕ) → refusalAs dataKind s ≡ 0 → address (dataIn s .destination) ≡ true
+read-destination s e = and-eq-true-iff (address (dataIn s .source)) (address (dataIn s .destination)) .0 (passed _ _ _ s e .kept) .1
+
+-- ---- by a table within rule of which the unit, the last accepted time and a lookup are known
+module _ (own last : ℕ) (found : Said) (s : List ℕ) (time room : ℕ) where
+  pub numbers : Numbered (unrelayedReasons own last found s time room)
+  numbers =
+      (refusing-numbered (refusalAs dataKind s), (numbered _ 6 (λ z. omega arith), (numbered _ 8 (λ z. omega arith), (numbered _ 10 (λ z. omega arith), (numbered _ 11 (λ z. omega arith), (numbered _ 5 (λ z. omega arith), tt))))))
+
+  -- what is known of a frame that is passed on
+  record OnwardBy : Type 0 where
+    unread : refusalAs dataKind s ≡ 0
+    ordered : inOrder last time ≡ true
+    lives : 2 ≤ dataIn s .ttl
+    there : found .refusal ≡ 0
+    fits : length (copyOf s) ≤ room
+
+  onward-by : first (unrelayedReasons own last found s time room) ≡ 0 → isFor own s ≡ false → OnwardBy
+  onward-by e o =
+      let n = refusalAs dataKind s in
+      let none = none-holds (unrelayedReasons own last found s time room) numbers e in
+      record {
+        unread = eqb-true n 0 (not-false _ (none .0));
+        ordered = not-false (inOrder last time) (none .1 .1 .0);
+        lives = leb-false (dataIn s .ttl) 1 (rw o at (none .1 .1 .1 .0));
+        there = eqb-true (found .refusal) 0 (not-false _ (rw o at (none .1 .1 .1 .1 .0)));
+        fits = ltb-false room (length (copyOf s)) (rw o at (none .1 .1 .1 .1 .1 .0));
+      }
+
+-- ---- by a table
+module _ (t : Table) (s : List ℕ) (time room : ℕ) where
+  abbrev reasons : List Reason
+  reasons = unrelayedReasons (t .own) (t .time) (lookupOf t (dataIn s .destination) time) s time room
+
+  -- nothing refuses it: neither the table's rule nor what comes behind it
+  unrefused : relayRefusal t s time room ≡ 0 → (withinRule t ≡ true) × (first reasons ≡ 0)
+  unfolding relayRefusal
+  unrefused e =
+      let none = none-holds (relayReasons t s time room) (numbered _ 14 (λ z. omega arith), numbers (t .own) (t .time) (lookupOf t (dataIn s .destination) time) s time room) e in
+      let right = not-false (withinRule t) (none .0) in
+      (right, rw right at e)
+
+  -- a frame that is not refused is read
+  pub relayed-read : relayRefusal t s time room ≡ 0 → refusalAs dataKind s ≡ 0
+  relayed-read e =
+      eqb-true (refusalAs dataKind s) 0
+      (not-false _ (none-holds reasons (numbers (t .own) (t .time) (lookupOf t (dataIn s .destination) time) s time room) (unrefused e .1) .0))
+
+  -- what is known of a frame that is passed on
+  pub record Onward : Type 0 where
+    pub right : withinRule t ≡ true
+    pub unread : refusalAs dataKind s ≡ 0
+    pub ordered : inOrder (t .time) time ≡ true
+    pub lives : 2 ≤ dataIn s .ttl
+    pub found : lookupOf t (dataIn s .destination) time .refusal ≡ 0
+    pub fits : length (copyOf s) ≤ room
+
+  pub onward : relayRefusal t s time room ≡ 0 → forUs t s ≡ false → Onward
+  onward e o =
+      let (right, none) = unrefused e in
+      let k = onward-by (t .own) (t .time) (lookupOf t (dataIn s .destination) time) s time room none o in
+      record { right = right; unread = k .unread; ordered = k .ordered; lives = k .lives; found = k .there; fits = k .fits }
+
+-- the copy of a frame that is passed on
+module _ (t : Table) (s : List ℕ) (time : ℕ) (out : List ℕ) (e : relayRefusal t s time (length out) ≡ 0) (o : forUs t s ≡ false) where
+  known : Onward t s time (length out)
+  known = onward t s time (length out) e o
+
+  part-is : length (partIn dataKind s) ≡ dataIn s .count
+  part-is = part-length dataKind s (known .unread)
+
+  pub copy-short : length (copyOf s) ≤ 255
+  copy-short =
+      let p = passed _ _ _ s (known .unread) in
+      omega (arith, copy-length s, part-is, p .sized, p .short)
+
+  -- the answer to it: the next hop of the row for its destination, and the copy from the buffer's start
+  pub onto : record { said = accepted (rowFor (dataIn s .destination) (rowsOf t) .«next_hop» ∷ length (copyOf s) ∷ []); held = sets out 0 (copyOf s) } ≡ relayOf t s time out
+  unfolding relayOf
+  onto = rw (lookup-told t (dataIn s .destination) time (known .found), e, o)
+
+-- of a table within rule it is what its row for the destination makes of it; of any other 14
+module _ (t : Table) (s : List ℕ) (time : ℕ) (out : List ℕ) where
+  pub relayed-by : withinRule t ≡ true
+      → relayBy (t .own) (t .time) (foundBy (t .time) (rowFor (dataIn s .destination) (rowsOf t)) (dataIn s .destination) time) s time out ≡ relayOf t s time out
+  unfolding relayBy relayOf relayRefusal
+  relayed-by w = rw (looked-up t (dataIn s .destination) time w, w)
+
+  pub unrelayed : withinRule t ≡ false → relayed (Relayed.Refused (record { number = 14 })) out ≡ relayOf t s time out
+  unfolding relayOf relayRefusal
+  unrelayed w = rw w
+
+-- the same of the table that bytes hold
+module _ (table s : List ℕ) (time : ℕ) (out : List ℕ) where
+  pub stored-relayed : holdsTable table ≡ true → relayOf (tableIn table) s time out ≡ relayIn table s time out
+  unfolding relayIn
+  stored-relayed e = rw (judged-table table e)
+
+  pub stored-none : holdsTable table ≡ false → relayed (Relayed.Refused (record { number = 14 })) out ≡ relayIn table s time out
+  unfolding relayIn holdsTable
+  stored-none e = go (isTable table) refl
+    where
+      go : (b : Bool) → isTable table ≡ b → relayed (Relayed.Refused (record { number = 14 })) out ≡ cond b (relayOf (tableIn table) s time out) (record { said = refused 14; held = out })
+      go true q = unrelayed (tableIn table) s time out (rw q at e)
+      go false q = refl
+
+-- ---- the answers, with what was read as the code has it
+module _ (own last : ℕ) (found : Said) (s : List ℕ) (time : ℕ) (out : List ℕ) (h : DataHeader) (n : ℕ) (e : dataValues h ≡ valuesIn dataKind s)
+    (z : n ≡ first (unrelayedReasons own last found s time (length out))) where
+  module _ (f : (eqb n 0 && not (eqb (h .destination) own)) ≡ true) where
+    none : n ≡ 0
+    none = eqb-true n 0 (and-eq-true-iff (eqb n 0) (not (eqb (h .destination) own)) .0 f .0)
+
+    other : isFor own s ≡ false
+    other = rw (header-in h s e) at (not-true (eqb (h .destination) own) (and-eq-true-iff (eqb n 0) (not (eqb (h .destination) own)) .0 f .1))
+
+    pub has-room : (part : List ℕ) → part ≡ partIn dataKind s → 10 + length part ≤ length out
+    has-room part p = rw p (omega (arith, copy-length s, onward-by own last found s time (length out) (sym z ∙ none) other .fits))
+
+    pub relayed-on : (hop : Hop) (copy : DataHeader) (part held : List ℕ) → hop ≡ hopOf found → copy ≡ passedOn h → part ≡ partIn dataKind s
+        → held ≡ sets out 0 (frameOf dataKind (dataValues copy) part)
+        → record { said = accepted (hop .«next_hop» ∷ (length part + 10) ∷ []); held = held } ≡ relayBy own last found s time out
+    unfolding relayBy
+    relayed-on hop copy part held r c p q = rw (r, q, c, p, header-in h s e, copy-length s, ← z, none, other)
+
+  -- a frame of which nothing is written
+  pub relayed-off : (r : Relayed) → (eqb n 0 && not (eqb (h .destination) own)) ≡ false → toldRelayed r ≡ unless n (accepted (h .count ∷ []))
+      → relayed r out ≡ relayBy own last found s time out
+  unfolding relayBy
+  relayed-off r f a =
+      let g = header-in h s e in
+      rw (a, ← z, g) (go (eqb n 0) (isFor own s) (rw g at f))
+    where
+      go : (b u : Bool) → (b && not u) ≡ false → _≡_ {A = Wrote}
+          (record { said = cond b (accepted (dataIn s .count ∷ [])) (refused n); held = out })
+          (record {
+            said = cond b (cond u (accepted (dataIn s .count ∷ [])) (accepted (getD (found .values) 0 0 ∷ length (copyOf s) ∷ []))) (refused n);
+            held = cond b (cond u out (sets out 0 (copyOf s))) out;
+          })
+      go true true f = refl
+      go true false f = absurd (false≢true (sym f))
+      go false u f = refl
+
+-- ---- a payload that is handed back
+module _ (t : Table) (s : Lent) (time : ℕ) where
+  pub handed-to-none : withinRule t ≡ false → partOf s 0 0 ≡ handedBack t s time
+  unfolding handedBack relayRefusal
+  handed-to-none w = rw w
+
+  module _ (w : withinRule t ≡ true) (h : DataHeader) (n : ℕ) (e : dataValues h ≡ valuesIn dataKind (s .bytes))
+      (z : n ≡ first (unrelayedReasons (t .own) (t .time) (foundBy (t .time) (rowFor (h .destination) (rowsOf t)) (h .destination) time) (s .bytes) time 0)) where
+    same : n ≡ relayRefusal t (s .bytes) time 0
+    unfolding relayRefusal
+    same = z ∙ rw (header-in h (s .bytes) e, ← looked-up t (dataIn (s .bytes) .destination) time w, w)
+
+    pub handed-part : (eqb n 0 && eqb (h .destination) (t .own)) ≡ true → partLent dataKind s ≡ handedBack t s time
+    unfolding handedBack
+    handed-part f = let g = rw (header-in h (s .bytes) e) at f in rw (← same, g)
+
+    pub handed-none : (eqb n 0 && eqb (h .destination) (t .own)) ≡ false → partOf s 0 0 ≡ handedBack t s time
+    unfolding handedBack
+    handed-none f = let g = rw (header-in h (s .bytes) e) at f in rw (← same, g)

@@ -1,0 +1,31 @@
+-- `relay`: a table out of rule, or what its row for the destination makes of the frame.
+-- Assumes nothing.
+use mathlib.Core.Path.{sym, _∙_}
+use borrow.Author.Tests.{not-true, not-false}
+use Rattle.route_relays.proofs.RelayLaws.{header-in, relayed-by, unrelayed}
+use borrow.Author.Needs.{needs}
+use Rattle.route_relays.proofs.relaying.relay.Statement.{statement}
+use Rattle.route_relays.proofs.relaying.relay.Tie as tie
+
+returns : tie.Need-returns
+returns c =
+    let rule = c .before in
+    let a = rule .before .before .before .args in
+    unrelayed (a .table) (a .frame .now) (a .time) (a .out .now) (sym (rule .within-rule .ensures) ∙ not-true _ (c .if1 .taken))
+
+returns-2 : tie.Need-returns-2
+returns-2 c =
+    let call = c .before .before in
+    let found = call .before .before in
+    let row = found .before in
+    let header = row .before .before in
+    let test = header .before in
+    let rule = test .before in
+    let a = rule .before .before .before .args in
+    call .relay-by .ensures ∙
+    rw (found .found-by .ensures, row .row-for .ensures, header-in (header .of .result) (a .frame .now) (header .of .ensures))
+    (relayed-by (a .table) (a .frame .now) (a .time) (a .out .now) (sym (rule .within-rule .ensures) ∙ not-false _ (test .if1 .left)))
+
+pub relay-spec : {M : Type 1} → statement M
+relay-spec =
+    tie.close (tie.spec (λ c κs. search needs) returns (λ c κs. search needs) (λ c κs. search needs) (λ c κs. search needs) (λ c κs. search needs) (λ c. search needs) returns-2)

@@ -1,0 +1,11 @@
+-- `Row::lost`: usable, and to the unit or through it.
+-- Assumes nothing.
+use borrow.Author.Needs.{needs}
+use Rattle.route_table.proofs.row.Row.lost.Statement.{statement}
+use Rattle.route_table.proofs.row.Row.lost.Tie as tie
+
+returns : tie.Need-returns
+returns c = rw (c .before .before .usable .ensures)
+
+pub lost-spec : {M : Type 1} → statement M
+lost-spec = tie.close (tie.spec (λ c κs. search needs) returns)

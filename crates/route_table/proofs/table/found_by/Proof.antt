@@ -1,0 +1,25 @@
+-- `found_by`: the first refusal, or the row's next hop.
+-- Assumes nothing.
+use mathlib.Core.Path.{_∙_}
+use Rattle.route_table.specs.Tables.{foundBy}
+use borrow.Author.Needs.{needs}
+use Rattle.route_table.proofs.table.found_by.Statement.{statement}
+use Rattle.route_table.proofs.table.found_by.Tie as tie
+
+returns : tie.Need-returns
+unfolding foundBy
+returns c =
+    let second = c .before .before in
+    let first = second .before .before in
+    c .answered .ensures ∙
+    rw (
+      c .before .refuse-if3 .ensures,
+      second .refuse-if2 .ensures,
+      first .refuse-if .ensures,
+      second .before .in-order .ensures,
+      first .before .leads .ensures,
+    )
+
+pub found-by-spec : {M : Type 1} → statement M
+found-by-spec =
+    tie.close (tie.spec (λ c κs. search needs) (λ c κs. search needs) (λ c κs. search needs) (λ c κs. search needs) (λ c κs. search needs) (λ c κs. search needs) returns)

@@ -1,0 +1,264 @@
+// A unit's table of at most 48 routes, by value.
+ghost use mathlib.Core.Path.{_≡_};
+ghost use mathlib.Core.List.{[], _∷_, map};
+ghost use lib.ListN.{length};
+ghost use Rattle.route_table.specs.Places.{okPlaces};
+ghost use Rattle.route_table.specs.Rows.{forgotten, inUse, rowFor};
+ghost use Rattle.octets.specs.Answers.{accepted, unless};
+ghost use Rattle.octets.specs.Answers.{first};
+ghost use Rattle.route_table.specs.Tables.{headOf, pairOk, withinRule, settled, emptyTable, freshOf, foundBy, lookupOf, unforgottenReasons, forgetOf};
+ghost use Rattle.route_table.specs.Told.{toldFound, hopOf};
+use crate::row::Row;
+use crate::standing::standing_places;
+use moments::in_order;
+use octets::answers::Refusal;
+use octets::answers::refuse_if;
+
+// `forwarded` says whether a beacon was forwarded; `origin` and `sequence` are then the pair of the last one.
+pub struct Table {
+    pub own: u16,
+    pub time: u32,
+    pub forwarded: bool,
+    pub origin: u16,
+    pub sequence: u16,
+    pub rows: [Row; 48],
+}
+
+// A table without its rows.
+pub struct Head {
+    pub own: u16,
+    pub time: u32,
+    pub forwarded: bool,
+    pub origin: u16,
+    pub sequence: u16,
+}
+
+// What a changing call gives: the table, which is as it was where `refused` is not 0.
+pub struct Changed {
+    pub refused: u8,
+    pub table: Table,
+}
+
+pub struct Hop {
+    pub next_hop: u16,
+    pub hops: u8,
+}
+
+// What a lookup answers.
+pub enum Found {
+    Hop(Hop),
+    Refused(Refusal),
+}
+
+// Whether each place may stand before the next.
+fn places_ok(own: u16, last: u32, rows: [Row; 48]) -> bool
+    ensures { λ r. ⌜ (r ≡ okPlaces own last rows) × (length rows ≡ 48) ⌝ }
+{
+    for i in 0..47 {
+        let row = rows[i];
+        let after = rows[i + 1];
+        if !row.ordered(own, last, after.destination) {
+            return false;
+        }
+    }
+    let row = rows[47];
+    row.ordered(own, last, 0)
+}
+
+// The pair of the last beacon forwarded, or zeros.
+pub fn pair_ok(forwarded: bool, origin: u16, sequence: u16) -> bool
+    ensures { λ r. ⌜ r ≡ pairOk forwarded origin sequence ⌝ }
+{
+    if forwarded {
+        (1 <= origin) & (origin <= 0xFFFE)
+    } else {
+        (origin == 0) & (sequence == 0)
+    }
+}
+
+// The row for a destination, or none.
+pub fn row_for(rows: [Row; 48], destination: u16) -> Row
+    ensures { λ r. ⌜ r ≡ rowFor destination (inUse rows) ⌝ }
+{
+    for i in 0..48 {
+        let row = rows[i];
+        if row.destination == 0 {
+            return Row::none();
+        }
+        if row.destination == destination {
+            return row;
+        }
+    }
+    Row::none()
+}
+
+// Each row when a unit is forgotten.
+fn forgotten_rows(rows: [Row; 48], unit: u16, time: u32) -> [Row; 48]
+    ensures { λ r. ⌜ r ≡ map (forgotten unit time) rows ⌝ }
+{
+    let mut out = rows;
+    for i in 0..48 {
+        let row = out[i];
+        out[i] = row.forgotten(unit, time);
+    }
+    out
+}
+
+fn zeros(own: u16, time: u32) -> Table
+    ensures { λ r. ⌜ r ≡ emptyTable own time ⌝ }
+{
+    Table {
+        own,
+        time,
+        forwarded: false,
+        origin: 0,
+        sequence: 0,
+        rows: [Row {
+            destination: 0,
+            next_hop: 0,
+            hops: 0,
+            quality: 0,
+            time: 0,
+            withdrawn: false,
+        }; 48],
+    }
+}
+
+// The table that a call gives: the new one, or the old one with the number that refuses the call.
+pub fn settled(refused: u8, old: Table, new: Table) -> Changed
+    ensures { λ r. ⌜ r ≡ settled refused old new ⌝ }
+{
+    if refused == 0 {
+        return Changed {
+            refused,
+            table: new,
+        };
+    }
+    Changed {
+        refused,
+        table: old,
+    }
+}
+
+fn answered(refused: u8, row: Row) -> Found
+    ensures { λ r. ⌜ toldFound r ≡ unless refused (accepted (row .«next_hop» ∷ row .hops ∷ [])) ⌝ }
+{
+    if refused == 0 {
+        return Found::Hop(Hop {
+            next_hop: row.next_hop,
+            hops: row.hops,
+        });
+    }
+    Found::Refused(Refusal { number: refused })
+}
+
+// What a table within rule answers to a lookup, where it has this last accepted time and this row for the destination: a table by value and one that
+// lies in bytes find the row in their own ways.
+pub fn found_by(last: u32, row: Row, destination: u16, time: u32) -> Found
+    ensures { λ r. ⌜ toldFound r ≡ foundBy last row destination time ⌝ }
+{
+    let address = (1 <= destination) & (destination <= 0xFFFE);
+    let refused = refuse_if(!row.leads(destination, time), 11, 0);
+    let refused = refuse_if(!in_order(last, time), 8, refused);
+    answered(refuse_if(!address, 4, refused), row)
+}
+
+// Why a table within rule of the unit `own`, with this last accepted time, does not forget a unit; 0 where it does.
+pub fn why_unforgotten(own: u16, last: u32, unit: u16, time: u32) -> u8
+    ensures { λ r. ⌜ r ≡ first (unforgottenReasons own last unit time) ⌝ }
+{
+    let address = (1 <= unit) & (unit <= 0xFFFE);
+    let refused = refuse_if(!in_order(last, time), 8, 0);
+    let refused = refuse_if(unit == own, 6, refused);
+    refuse_if(!address, 4, refused)
+}
+
+impl Found {
+    // The number that refuses it, 0 where there is a hop.
+    pub fn refusal(self) -> u8
+        ensures { λ r. ⌜ r ≡ toldFound self .refusal ⌝ }
+    {
+        match self {
+            Found::Hop(_) => 0,
+            Found::Refused(refusal) => refusal.number,
+        }
+    }
+
+    // The next hop and how far it is, none where it is refused.
+    pub fn hop(self) -> Hop
+        ensures { λ r. ⌜ r ≡ hopOf (toldFound self) ⌝ }
+    {
+        match self {
+            Found::Hop(hop) => hop,
+            Found::Refused(_) => Hop {
+                next_hop: 0,
+                hops: 0,
+            },
+        }
+    }
+}
+
+impl Table {
+    // An empty table; a unit that is no address is refused, with zeros.
+    pub fn fresh(own: u16, time: u32) -> Changed
+        ensures { λ r. ⌜ r ≡ freshOf own time ⌝ }
+    {
+        let address = (1 <= own) & (own <= 0xFFFE);
+        settled(refuse_if(!address, 4, 0), zeros(0, 0), zeros(own, time))
+    }
+
+    pub fn head(self) -> Head
+        ensures { λ r. ⌜ r ≡ headOf self ⌝ }
+    {
+        Head {
+            own: self.own,
+            time: self.time,
+            forwarded: self.forwarded,
+            origin: self.origin,
+            sequence: self.sequence,
+        }
+    }
+
+    // Whether it is a table as document 01 says.
+    pub fn within_rule(self) -> bool
+        ensures { λ r. ⌜ r ≡ withinRule self ⌝ }
+    {
+        let rows = self.rows;
+        ((1 <= self.own) & (self.own <= 0xFFFE))
+            & pair_ok(self.forwarded, self.origin, self.sequence)
+            & places_ok(self.own, self.time, rows)
+    }
+
+    // The next hop to a destination, by a row that is usable at this time.
+    pub fn lookup(self, destination: u16, time: u32) -> Found
+        ensures { λ r. ⌜ toldFound r ≡ lookupOf self destination time ⌝ }
+    {
+        if !self.within_rule() {
+            return Found::Refused(Refusal { number: 14 });
+        }
+        let rows = self.rows;
+        found_by(self.time, row_for(rows, destination), destination, time)
+    }
+
+    // Withdraws all usable rows to a unit or through it.
+    pub fn forget(self, unit: u16, time: u32) -> Changed
+        ensures { λ r. ⌜ r ≡ forgetOf self unit time ⌝ }
+    {
+        let rows = self.rows;
+        let refused = why_unforgotten(self.own, self.time, unit, time);
+        let refused = refuse_if(!self.within_rule(), 14, refused);
+        let next = forgotten_rows(standing_places(rows, time), unit, time);
+        settled(
+            refused,
+            self,
+            Table {
+                own: self.own,
+                time,
+                forwarded: self.forwarded,
+                origin: self.origin,
+                sequence: self.sequence,
+                rows: next,
+            },
+        )
+    }
+}

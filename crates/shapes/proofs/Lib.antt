@@ -1,5 +1,0 @@
-pub mod AnsweredLaws
-pub mod ReadingLaws
-pub mod RuleLaws
-pub mod SealLaws
-pub mod WritingLaws

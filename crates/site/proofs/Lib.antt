@@ -1,4 +1,0 @@
-pub mod PlanLaws
-pub mod RegionLaws
-pub mod SendingLaws
-pub mod ToldLaws

@@ -1,0 +1,5 @@
+pub mod PlanByteLaws
+pub mod PlanLaws
+pub mod RegionLaws
+pub mod SendingLaws
+pub mod ToldLaws

@@ -1,0 +1,27 @@
+-- The bytes of a plan: how many they are, that numbers which were read fit, and there and back.
+-- Assumes nothing.
+use mathlib.Core.Path.{_≡_, refl, ap}
+use mathlib.Core.List.{List, [], _++_, append-nil}
+use Prim.Native.Nat.{ℕ}
+use lib.ListN.{length}
+use Rattle.octets.specs.Layouts.{Fit, Bytes}
+use Rattle.octets.proofs.LayoutLaws.{length-bytes, fields-fit, fields-bytes}
+use Rattle.site_plan.specs.declared.plan.Plan.{Plan}
+use Rattle.site_plan.specs.Plans.{planValues}
+use Rattle.site_plan.specs.PlanBytes.{planWidths, planSize, planFrom, planAt, planBytes, PlanReadsBack}
+
+pub length-plan : (p : Plan) → length (planBytes p) ≡ planSize
+unfolding planBytes
+length-plan p = length-bytes planWidths (planValues p) refl
+
+pub plan-fits : (s : List ℕ) (at : ℕ) → Bytes s → Fit planWidths (planValues (planAt s at))
+unfolding planAt
+plan-fits s at b = fields-fit s b planWidths at
+
+-- whatever stands behind it
+pub plan-read : (p : Plan) (q : List ℕ) → Fit planWidths (planValues p) → planAt (planBytes p ++ q) 0 ≡ p
+unfolding planAt planBytes
+plan-read p q h = ap planFrom (fields-bytes planWidths (planValues p) [] q 0 refl h)
+
+pub plan-reads-back : PlanReadsBack
+plan-reads-back p h = rw (append-nil (planBytes p)) at (plan-read p [] h)

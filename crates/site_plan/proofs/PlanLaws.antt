@@ -1,0 +1,163 @@
+-- The numbers of a plan, and what its rule makes of them.
+-- Assumes nothing.
+use mathlib.Core.Path.{_≡_, refl, sym, ap, _∙_}
+use mathlib.Core.Bool.{Bool, true, false, _&&_, and-eq-true-iff, false≢true}
+use mathlib.Core.List.{List}
+use Prim.Native.Nat.{ℕ, _+_, _*_, _≤_, _<_, _^_}
+use native.Mathlib.Omega.{arith}
+use native.Mathlib.Nat.{mul-le-mul, mul-le-mul-right}
+use mir.Val.{boolByte}
+use borrow.Author.Tests.{leb-true, le-leb, ltb-true, ltb-false}
+use lib.Dec.{leb, ltb}
+use lib.ListN.{getD}
+use Rattle.octets.specs.Lists.{tab}
+use Rattle.octets.proofs.ListLaws.{getD-tab}
+use Rattle.frame_kinds.specs.Rules.{address, network}
+use Rattle.site_plan.specs.declared.plan.Plan.{Plan}
+use Rattle.site_plan.specs.Plans.{planRule, discoverySlots, active, slotsIn, superframeMs}
+use Rattle.site_plan.specs.Laws.{LengthsByTable, RuleBounds}
+
+-- ---- the length of a superframe and its time
+pub lengths-by-table : LengthsByTable
+lengths-by-table lengths e active h = ap (λ (l : List ℕ). getD l active 0) e ∙ getD-tab 51 slotsIn active 0 (omega (arith, h))
+
+-- past the table it is the most
+pub past-table : (active : ℕ) → 50 < active → 100 ≡ slotsIn active
+unfolding slotsIn
+past-table active h = omega (arith, h)
+
+-- no superframe is longer than 100 slots
+few-slots : (active : ℕ) → slotsIn active ≤ 100
+unfolding slotsIn
+few-slots active = omega arith
+
+pub length-fits : (lengths : List ℕ) → lengths ≡ tab 51 slotsIn → (active : ℕ) → active ≤ 50 → getD lengths active 0 < 2 ^ 32
+length-fits lengths e active h = omega (arith, lengths-by-table lengths e active h, few-slots active)
+
+-- so its time fits into 32 bits
+pub superframe-fits : (active slots ms : ℕ) → slots ≡ slotsIn active → ms < 2 ^ 16 → slots * ms < 2 ^ 32
+superframe-fits active slots ms e h =
+    let few : slots ≤ 100 = omega (arith, e, few-slots active) in
+    let short : ms ≤ 65535 = omega (arith, h) in
+    omega (arith, mul-le-mul few short)
+
+-- ---- discovery
+-- a test, as a number
+pub test-few : (b : Bool) → boolByte b ≤ 1
+test-few true = omega arith
+test-few false = omega arith
+
+-- from two slots on there is one more from the 7th, the 10th and the 13th row on
+pub by-steps : (rows : ℕ) → 2 + boolByte (ltb 6 rows) + boolByte (ltb 9 rows) + boolByte (ltb 12 rows) ≡ discoverySlots rows
+by-steps rows = go (ltb 6 rows) (ltb 9 rows) (ltb 12 rows) refl refl refl
+  where
+    go : (a b c : Bool) → ltb 6 rows ≡ a → ltb 9 rows ≡ b → ltb 12 rows ≡ c → 2 + boolByte a + boolByte b + boolByte c ≡ discoverySlots rows
+    go true true true p q r = omega (arith, ltb-true 12 rows r)
+    go true true false p q r = omega (arith, ltb-true 9 rows q, ltb-false 12 rows r)
+    go true false true p q r = omega (arith, ltb-false 9 rows q, ltb-true 12 rows r)
+    go true false false p q r = omega (arith, ltb-true 6 rows p, ltb-false 9 rows q)
+    go false true c p q r = omega (arith, ltb-false 6 rows p, ltb-true 9 rows q)
+    go false false true p q r = omega (arith, ltb-false 9 rows q, ltb-true 12 rows r)
+    go false false false p q r = omega (arith, ltb-false 6 rows p)
+
+-- ---- the rule
+-- what its bounds rest on, and that its network and its manager are such
+pub record Kept (p : Plan) : Type 0 where
+  pub named : network (p .network) ≡ true
+  pub manager : address (p .manager) ≡ true
+  pub hops : 1 ≤ p .«max_hops»
+  pub few-hops : p .«max_hops» ≤ 10
+  pub rows : 2 ≤ p .rows
+  pub data-slots : p .rows ≤ p .«data_slots»
+  pub few : active p ≤ 50
+  pub short : superframeMs p ≤ 65535
+
+pub kept : (p : Plan) → planRule p ≡ true → Kept p
+kept p e =
+    let hops = leb 1 (p .«max_hops») && leb (p .«max_hops») 10 in
+    let rows = leb 2 (p .rows) in
+    let data-slots = leb (p .rows) (p .«data_slots») in
+    let few = leb (active p) 50 in
+    let first-two = network (p .network) && address (p .manager) in
+    let (e₇, short-true) = and-eq-true-iff (first-two && hops && rows && data-slots && few && leb 1 (p .«slot_ms»)) (leb (superframeMs p) 65535) .0 e in
+    let (e₆, _) = and-eq-true-iff (first-two && hops && rows && data-slots && few) (leb 1 (p .«slot_ms»)) .0 e₇ in
+    let (e₅, few-true) = and-eq-true-iff (first-two && hops && rows && data-slots) few .0 e₆ in
+    let (e₄, data-true) = and-eq-true-iff (first-two && hops && rows) data-slots .0 e₅ in
+    let (e₃, rows-true) = and-eq-true-iff (first-two && hops) rows .0 e₄ in
+    let (e₂, hops-true) = and-eq-true-iff first-two hops .0 e₃ in
+    let (named, manager) = and-eq-true-iff (network (p .network)) (address (p .manager)) .0 e₂ in
+    let (least, most) = and-eq-true-iff (leb 1 (p .«max_hops»)) (leb (p .«max_hops») 10) .0 hops-true in
+    record {
+      named = named;
+      manager = manager;
+      hops = leb-true _ _ least;
+      few-hops = leb-true _ _ most;
+      rows = leb-true _ _ rows-true;
+      data-slots = leb-true _ _ data-true;
+      few = leb-true _ _ few-true;
+      short = leb-true _ _ short-true;
+    }
+
+-- up to 50 active slots there is room for all of them
+room : (active : ℕ) → active ≤ 50 → active ≤ slotsIn active
+unfolding slotsIn
+room active h = omega (arith, h)
+
+pub rule-bounds : RuleBounds
+rule-bounds p e =
+    let k = kept p e in
+    record {
+      few-rows = omega (arith, k .hops, k .rows, k .data-slots, k .few);
+      few-data-slots = omega (arith, k .hops, k .rows, k .data-slots, k .few);
+      few-slots = few-slots (active p);
+      inside = room (active p) (k .few);
+    }
+
+-- ---- numbers that are wider than the fields of a plan
+-- a superframe has a slot
+a-slot : (active : ℕ) → 1 ≤ active → 1 ≤ slotsIn active
+unfolding slotsIn
+a-slot active h = omega (arith, h)
+
+-- so it is no shorter than one
+slot-within : (p : Plan) → superframeMs p ≤ 65535 → p .«slot_ms» ≤ 65535
+slot-within p short = omega (arith, short, mul-le-mul-right (p .«slot_ms») (a-slot (active p) (omega arith)))
+
+-- what `fit` tests
+abbrev fitting : Plan → Bool
+fitting p = leb (p .«max_hops») 255 && leb (p .rows) 255 && leb (p .«data_slots») 255 && leb (p .«slot_ms») 65535
+
+pub record Fitting (p : Plan) : Type 0 where
+  pub hops : p .«max_hops» ≤ 255
+  pub rows : p .rows ≤ 255
+  pub data-slots : p .«data_slots» ≤ 255
+  pub slot-ms : p .«slot_ms» ≤ 65535
+
+pub fitted : (p : Plan) → fitting p ≡ true → Fitting p
+fitted p e =
+    let hops = leb (p .«max_hops») 255 in
+    let rows = leb (p .rows) 255 in
+    let data-slots = leb (p .«data_slots») 255 in
+    let (e₃, ms-true) = and-eq-true-iff (hops && rows && data-slots) (leb (p .«slot_ms») 65535) .0 e in
+    let (e₂, data-true) = and-eq-true-iff (hops && rows) data-slots .0 e₃ in
+    let (hops-true, rows-true) = and-eq-true-iff hops rows .0 e₂ in
+    record { hops = leb-true _ _ hops-true; rows = leb-true _ _ rows-true; data-slots = leb-true _ _ data-true; slot-ms = leb-true _ _ ms-true }
+
+-- numbers within rule fit
+fits-in-rule : (p : Plan) → planRule p ≡ true → fitting p ≡ true
+fits-in-rule p e =
+    let k = kept p e in
+    rw (
+      le-leb (p .«max_hops») 255 (omega (arith, k .few-hops)),
+      le-leb (p .rows) 255 (omega (arith, k .few)),
+      le-leb (p .«data_slots») 255 (omega (arith, k .few)),
+      le-leb (p .«slot_ms») 65535 (slot-within p (k .short)),
+    )
+
+-- so those of which one does not are out of rule
+pub too-wide : (p : Plan) → fitting p ≡ false → planRule p ≡ false
+too-wide p e = go (planRule p) refl
+  where
+    go : (b : Bool) → planRule p ≡ b → planRule p ≡ false
+    go true r = absurd (false≢true (sym e ∙ fits-in-rule p r))
+    go false r = r

@@ -1,0 +1,34 @@
+-- `plan_of`: each number stands where the layout says.
+-- Assumes nothing.
+use mathlib.Core.Path.{_≡_}
+use Prim.Native.Nat.{_+_}
+use native.Mathlib.Omega.{arith}
+use Rattle.site_plan.specs.PlanBytes.{planAt}
+use borrow.Author.Needs.{needs}
+use Rattle.site_plan.proofs.plan_bytes.plan_of.Statement.{statement}
+use Rattle.site_plan.proofs.plan_bytes.plan_of.Tie as tie
+
+returns : tie.Need-returns
+unfolding planAt
+returns c =
+    let hops = c .before .before .before in
+    let p = hops .before .before .before .before .args .place in
+    let a : p + 2 + 2 ≡ p + 4 = omega arith in
+    let b : p + 4 + 1 ≡ p + 5 = omega arith in
+    let d : p + 5 + 1 ≡ p + 6 = omega arith in
+    let e : p + 6 + 1 ≡ p + 7 = omega arith in
+    rw (
+      a,
+      b,
+      d,
+      e,
+      hops .before .before .number16 .ensures,
+      hops .before .number162 .ensures,
+      hops .number8 .ensures,
+      c .before .before .number82 .ensures,
+      c .before .number83 .ensures,
+      c .number163 .ensures,
+    )
+
+pub plan-of-spec : {M : Type 1} → statement M
+plan-of-spec = tie.close (tie.spec (λ c κs. search needs) (λ c. search needs) (λ c κs. search needs) (λ c. search needs) (λ c κs. search needs) (λ c. search needs) (λ c κs. search needs) (λ c. search needs) (λ c κs. search needs) (λ c. search needs) (λ c κs. search needs) returns)

@@ -1,0 +1,4 @@
+pub mod Laws
+pub mod PlanBytes
+pub mod Plans
+pub mod Schedules

@@ -1,0 +1,78 @@
+-- The site plan: what is computed from its numbers, where each region of its slots begins, and which numbers are refused.
+-- Assumes nothing.
+use Prim.Native.Nat.{ℕ, _+_, _*_, _/_, min, max}
+use mathlib.Core.Bool.{Bool, not, _&&_}
+use mathlib.Core.List.{List, [], _∷_}
+use lib.Dec.{leb}
+use Rattle.octets.specs.Answers.{Said, accepted, refused, reason, first, unless}
+use Rattle.frame_kinds.specs.Rules.{address, network}
+use Rattle.site_plan.specs.declared.plan.Plan.{Plan}
+use Rattle.site_plan.specs.declared.plan.Made.{Made}
+
+-- ---- how many slots
+-- a third, rounded up
+abbrev pub third : ℕ → ℕ
+third n = (n + 2) / 3
+
+abbrev pub discoverySlots : ℕ → ℕ
+discoverySlots rows = min 5 (max 2 (third rows))
+
+-- (h+1) + M + D + discovery
+abbrev pub active : Plan → ℕ
+active p = (p .«max_hops» + 1) + p .rows + p .«data_slots» + discoverySlots (p .rows)
+
+-- the length of a superframe with so many active slots
+unfoldable pub slotsIn : ℕ → ℕ
+slotsIn active = min 100 (third (10 * active))
+
+abbrev pub slots : Plan → ℕ
+slots p = slotsIn (active p)
+
+abbrev pub superframeMs : Plan → ℕ
+superframeMs p = slots p * p .«slot_ms»
+
+-- ---- where each region begins: beacon at 0, then control, data, discovery, sleep
+abbrev pub controlAt : Plan → ℕ
+controlAt p = p .«max_hops» + 1
+
+abbrev pub dataAt : Plan → ℕ
+dataAt p = controlAt p + p .rows
+
+abbrev pub discoveryAt : Plan → ℕ
+discoveryAt p = dataAt p + p .«data_slots»
+
+abbrev pub sleepAt : Plan → ℕ
+sleepAt p = active p
+
+-- ---- what a plan tells
+-- its active slots, the slots of a superframe and their ms, and where control, data, discovery and sleep begin; beacons begin at 0
+abbrev pub planNumbers : Plan → List ℕ
+planNumbers p = active p ∷ slots p ∷ superframeMs p ∷ controlAt p ∷ dataAt p ∷ discoveryAt p ∷ sleepAt p ∷ []
+
+-- ---- the rules
+abbrev pub planRule : Plan → Bool
+planRule p =
+    network (p .network)
+    && address (p .manager)
+    && (leb 1 (p .«max_hops») && leb (p .«max_hops») 10)
+    && leb 2 (p .rows)
+    && leb (p .rows) (p .«data_slots»)
+    && leb (active p) 50
+    && leb 1 (p .«slot_ms»)
+    && leb (superframeMs p) 65535
+
+-- ---- making one
+-- the six numbers in the paper's order
+abbrev pub planValues : Plan → List ℕ
+planValues p = p .network ∷ p .manager ∷ p .«max_hops» ∷ p .rows ∷ p .«data_slots» ∷ p .«slot_ms» ∷ []
+
+-- the plan, or document 01's number
+abbrev pub toldPlan : Made → Said
+toldPlan (Made.Plan p) = accepted (planValues p)
+toldPlan (Made.Refused r) = refused (r .number)
+
+-- a plan made from six numbers: any broken rule is 14
+unfoldable pub planOf : ℕ → ℕ → ℕ → ℕ → ℕ → ℕ → Said
+planOf network manager hops rows dataSlots ms =
+    let p : Plan = record { network = network; manager = manager; «max_hops» = hops; rows = rows; «data_slots» = dataSlots; «slot_ms» = ms } in
+    unless (first (reason (not (planRule p)) 14 ∷ [])) (accepted (planValues p))

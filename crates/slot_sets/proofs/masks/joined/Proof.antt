@@ -1,0 +1,11 @@
+-- `joined`: the bits of either are the slots of either.
+-- Assumes nothing.
+use Rattle.slot_sets.proofs.MaskLaws.{mask-or}
+use Rattle.slot_sets.proofs.masks.joined.Statement.{statement}
+use Rattle.slot_sets.proofs.masks.joined.Tie as tie
+
+returns : tie.Need-returns
+returns c = mask-or (c .args .a) (c .args .b)
+
+pub joined-spec : {M : Type 1} → statement M
+joined-spec = tie.close (tie.spec returns)

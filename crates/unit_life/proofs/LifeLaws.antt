@@ -1,0 +1,41 @@
+-- What holds of every call: the statements of specs/Laws on one call, proved.
+-- Assumes nothing.
+use mathlib.Core.Path.{_≡_, refl}
+use mathlib.Core.Bool.{false, false≢true}
+use borrow.Author.Tests.{eq-eqb, eqb-true}
+use lib.Dec.{eqb}
+use Rattle.octets.proofs.TestLaws.{of-choice}
+use Rattle.unit_life.specs.States.{Stopped, beacon, leadsTo, tickTo}
+use Rattle.unit_life.specs.declared.state.State.{State}
+use Rattle.unit_life.specs.Calls.{onEvent, onTick, gone}
+use Rattle.unit_life.specs.Histories.{event, tick}
+use Rattle.unit_life.specs.Laws.{KeepsRule, StaysStopped, StartsAnew}
+use Rattle.unit_life.proofs.TableLaws.{stays-normal}
+use Rattle.unit_life.proofs.StepLaws.{taken, taken-within, refused-anyhow, records}
+
+pub keeps-rule : KeepsRule
+keeps-rule = (
+  λ time. refl,
+  λ s time. (
+    λ number e joining.
+        let c = event number time in
+        taken-within s c (taken s c e) (λ here heard. joining here (eqb-true number beacon heard)),
+    λ ms e.
+        let c = tick ms time in
+        taken-within s c (taken s c e) (λ here heard. absurd (false≢true heard)),
+  ),
+)
+
+pub stays-stopped : StaysStopped
+unfolding onEvent onTick leadsTo tickTo gone
+stays-stopped s time stopped = (
+  λ event.
+      let refused : eqb (onEvent s event time .refused) 0 ≡ false = rw (stopped, refused-anyhow) in
+      rw refused stopped,
+  λ ms. of-choice (λ (x : State). x .kind ≡ Stopped) (eqb (onTick s ms time .refused) 0) (rw stopped) stopped,
+)
+
+pub starts-anew : StartsAnew
+unfolding onEvent
+starts-anew s number time e normal =
+    rw (eq-eqb (onEvent s number time .refused) 0 e, normal) (records s _ time (λ k. stays-normal number (rw (← k) at normal)))

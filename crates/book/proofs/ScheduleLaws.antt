@@ -21,8 +21,8 @@ use Rattle.site_plan.specs.Plans.{slotsIn, slots, sleepAt}
 use Rattle.site_plan.specs.Schedules.{sleep, kindOf}
 use Rattle.site_plan.proofs.PlanLaws.{kept}
 use Rattle.site_plan.proofs.RegionLaws.{kinds-by-region}
-use Rattle.book_members.specs.Members.{emptyRow, rowFor}
-use Rattle.book.specs.Books.{Stated, withinRule, rowsAt, liveAt}
+use Rattle.book_members.specs.Members.{emptyRow, placeFor}
+use Rattle.book.specs.Books.{Contents, withinRule, rowsAt, liveAt}
 use Rattle.book.specs.Schedules.{hopRule, scheduleReasons, scheduleRefusal, scheduleOf}
 use Rattle.book.proofs.WithinLaws.{within}
 use Rattle.octets.proofs.ListLaws.{length-tab}
@@ -77,13 +77,13 @@ hop-below p unit hop = go (eqb unit (p .manager))
     go false e = leb-true hop (p .«max_hops») (and-eq-true-iff (leb 1 hop) (leb hop (p .«max_hops»)) .0 e .1)
 
 -- what holds where there is a schedule
-pub record Schedulable (b : Stated) (unit hop time : ℕ) (live : Bool) (room : ℕ) : Type 0 where
+pub record Schedulable (b : Contents) (unit hop time : ℕ) (live : Bool) (room : ℕ) : Type 0 where
   pub book : withinRule b ≡ true
   pub near : hop ≤ 10
   pub member : live ≡ true
   pub fits : slots (b .plan) ≤ room
 
-pub schedulable : (b : Stated) (unit hop time : ℕ) (live : Bool) (room : ℕ) → scheduleRefusal b unit hop time live room ≡ 0 → Schedulable b unit hop time live room
+pub schedulable : (b : Contents) (unit hop time : ℕ) (live : Bool) (room : ℕ) → scheduleRefusal b unit hop time live room ≡ 0 → Schedulable b unit hop time live room
 schedulable b unit hop time live room e =
     let none =
     none-holds (scheduleReasons b unit hop time live room) (
@@ -99,12 +99,12 @@ schedulable b unit hop time live room e =
       fits = ltb-false room (slots (b .plan)) (none .1 .1 .1 .1 .1 .0);
     }
 
-module _ (b : Stated) (unit hop time n : ℕ) (out : List ℕ) (e : n ≡ scheduleRefusal b unit hop time (liveAt b unit time) (length out)) where
+module _ (b : Contents) (unit hop time n : ℕ) (out : List ℕ) (e : n ≡ scheduleRefusal b unit hop time (liveAt b unit time) (length out)) where
   pub unscheduled : (n ≡ 0 → ⊥) → wrote (Written.Refused (record { number = n })) out ≡ scheduleOf b unit hop time out
   unfolding scheduleOf
   unscheduled z = rw (← e, ne-eqb n 0 z)
 
-  pub scheduled : (count at : ℕ) (own : Slots 64) (held : List ℕ) → n ≡ 0 → count ≡ slots (b .plan) → at ≡ rowFor unit (rowsAt b time) → own ≡ getD (rowsAt b time) at emptyRow .slots
+  pub scheduled : (count at : ℕ) (own : Slots 64) (held : List ℕ) → n ≡ 0 → count ≡ slots (b .plan) → at ≡ placeFor unit (rowsAt b time) → own ≡ getD (rowsAt b time) at emptyRow .slots
       → held ≡ sets out 0 (tab count (kindOf (b .plan) at hop own)) → wrote (Written.Done count) held ≡ scheduleOf b unit hop time out
   unfolding scheduleOf
   scheduled count at own held z c a o h = rw (← e, z, h, c, o, a)

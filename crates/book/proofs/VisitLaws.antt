@@ -15,15 +15,15 @@ use Rattle.octets.proofs.AnswerLaws.{numbered, none-holds}
 use Rattle.slot_sets.specs.Sets.{Slots, slotsOf}
 use Rattle.slot_sets.proofs.MaskLaws.{mask-nothing}
 use Rattle.book_members.specs.declared.member.Member.{Member}
-use Rattle.book_members.specs.Members.{Row, rowsOf, emptyRow, kept, current, rowFor}
+use Rattle.book_members.specs.Members.{Row, rowsOf, emptyRow, kept, current, placeFor}
 use Rattle.book.specs.declared.book.Book.{Book}
-use Rattle.book.specs.Books.{Stated, stated, rowsAt, liveAt, withRow, left, memberReasons, heardOf, leaveOf}
+use Rattle.book.specs.Books.{Contents, contents, rowsAt, liveAt, withRow, changeTo, memberReasons, heardOf, leaveOf}
 
 -- only an accepted call shows the new book
-pub left-same : (n : ℕ) (b x y : Stated) → (n ≡ 0 → x ≡ y) → left n b x ≡ left n b y
+pub left-same : (n : ℕ) (b x y : Contents) → (n ≡ 0 → x ≡ y) → changeTo n b x ≡ changeTo n b y
 left-same n b x y h = go (ℕ-discrete n 0)
   where
-    go : Dec (n ≡ 0) → left n b x ≡ left n b y
+    go : Dec (n ≡ 0) → changeTo n b x ≡ changeTo n b y
     go (yes z) = rw (h z)
     go (no z) = rw (ne-eqb n 0 z)
 
@@ -43,27 +43,27 @@ module _ (b : Book) (unit time : ℕ) (now : List Member) (e : rowsOf now ≡ cu
   abbrev used : List Row
   used = take (b .plan .rows) (rowsOf now)
 
-  pub rows-now : used ≡ rowsAt (stated b) time
+  pub rows-now : used ≡ rowsAt (contents b) time
   rows-now = ap (take (b .plan .rows)) e ∙ take-current time (b .plan .rows) (rowsOf (b .rows))
 
-  module _ (at : ℕ) (a : at ≡ rowFor unit used) (places : ℕ) (p : places ≡ min (b .plan .rows) 21) (l : length used ≡ min (b .plan .rows) 21) where
-    pub live-now : ltb at places ≡ liveAt (stated b) unit time
+  module _ (at : ℕ) (a : at ≡ placeFor unit used) (places : ℕ) (p : places ≡ min (b .plan .rows) 21) (l : length used ≡ min (b .plan .rows) 21) where
+    pub live-now : ltb at places ≡ liveAt (contents b) unit time
     live-now = rw (a, p, ← l, rows-now)
 
-    pub found-at : at ≡ rowFor unit (rowsAt (stated b) time)
-    found-at = a ∙ ap (rowFor unit) rows-now
+    pub found-at : at ≡ placeFor unit (rowsAt (contents b) time)
+    found-at = a ∙ ap (placeFor unit) rows-now
 
     -- of a live member the slots of its row are those of its place
-    pub slots-there : liveAt (stated b) unit time ≡ true → getD (rowsOf now) at emptyRow .slots ≡ getD (rowsAt (stated b) time) at emptyRow .slots
+    pub slots-there : liveAt (contents b) unit time ≡ true → getD (rowsOf now) at emptyRow .slots ≡ getD (rowsAt (contents b) time) at emptyRow .slots
     slots-there q =
         let h : at < length used = ltb-true at (length used) (rw (a, rows-now) q) in
         let below : at < b .plan .rows = omega (arith, h, l) in
         ap (λ (r : Row). r .slots) (sym (getD-take (b .plan .rows) (rowsOf now) at emptyRow below) ∙ ap (λ (rs : List Row). getD rs at emptyRow) rows-now)
 
     -- an accepted call finds the member that it wants
-    found-true : (n : ℕ) (found : Bool) → n ≡ first (memberReasons (stated b) unit time found) → n ≡ 0 → found ≡ true
+    found-true : (n : ℕ) (found : Bool) → n ≡ first (memberReasons (contents b) unit time found) → n ≡ 0 → found ≡ true
     found-true n found q z =
-        let s = stated b in
+        let s = contents b in
         let none =
         none-holds (memberReasons s unit time found)
         (numbered _ 14 (λ y. omega arith), (numbered _ 4 (λ y. omega arith), (numbered _ 8 (λ y. omega arith), (numbered _ 13 (λ y. omega arith), tt)))) (sym q ∙ z) in
@@ -71,23 +71,23 @@ module _ (b : Book) (unit time : ℕ) (now : List Member) (e : rowsOf now ≡ cu
 
     -- the book with one row written, as the code leaves it
     written : (r r′ : Row) (rows : List Member) → rowsOf rows ≡ set (rowsOf now) at r → r ≡ r′
-        → record { plan = b .plan; time = time; places = rowsOf rows } ≡ withRow (stated b) time (rowFor unit (rowsAt (stated b) time)) r′
+        → record { plan = b .plan; time = time; places = rowsOf rows } ≡ withRow (contents b) time (placeFor unit (rowsAt (contents b) time)) r′
     written r r′ rows w q = rw (w, e, found-at, q)
 
-    pub heards : (n mask : ℕ) (rows : List Member) → n ≡ first (memberReasons (stated b) unit time (ltb at places)) → slotsOf mask ≡ getD (rowsOf now) at emptyRow .slots
+    pub heards : (n mask : ℕ) (rows : List Member) → n ≡ first (memberReasons (contents b) unit time (ltb at places)) → slotsOf mask ≡ getD (rowsOf now) at emptyRow .slots
         → rowsOf rows ≡ set (rowsOf now) at (record { unit = unit; slots = slotsOf mask; time = time })
-        → left n (stated b) (record { plan = b .plan; time = time; places = rowsOf rows }) ≡ heardOf (stated b) unit time
+        → changeTo n (contents b) (record { plan = b .plan; time = time; places = rowsOf rows }) ≡ heardOf (contents b) unit time
     unfolding heardOf
     heards n mask rows q m w =
-        let number : n ≡ first (memberReasons (stated b) unit time (liveAt (stated b) unit time)) = rw (← live-now) q in
-        let row : n ≡ 0 → slotsOf mask ≡ getD (rowsAt (stated b) time) (rowFor unit (rowsAt (stated b) time)) emptyRow .slots =
-        λ z. m ∙ (slots-there (found-true n (liveAt (stated b) unit time) number z) ∙ ap (λ (k : ℕ). getD (rowsAt (stated b) time) k emptyRow .slots) found-at) in
-        left-same n (stated b) _ _ (λ z. written _ _ rows w (ap (λ (s : Slots 64). record { unit = unit; slots = s; time = time }) (row z))) ∙ rw number
+        let number : n ≡ first (memberReasons (contents b) unit time (liveAt (contents b) unit time)) = rw (← live-now) q in
+        let row : n ≡ 0 → slotsOf mask ≡ getD (rowsAt (contents b) time) (placeFor unit (rowsAt (contents b) time)) emptyRow .slots =
+        λ z. m ∙ (slots-there (found-true n (liveAt (contents b) unit time) number z) ∙ ap (λ (k : ℕ). getD (rowsAt (contents b) time) k emptyRow .slots) found-at) in
+        left-same n (contents b) _ _ (λ z. written _ _ rows w (ap (λ (s : Slots 64). record { unit = unit; slots = s; time = time }) (row z))) ∙ rw number
 
-    pub leaves : (n : ℕ) (rows : List Member) → n ≡ first (memberReasons (stated b) unit time (ltb at places && not (eqb unit (b .plan .manager))))
+    pub leaves : (n : ℕ) (rows : List Member) → n ≡ first (memberReasons (contents b) unit time (ltb at places && not (eqb unit (b .plan .manager))))
         → rowsOf rows ≡ set (rowsOf now) at (record { unit = 0; slots = slotsOf 0; time = 0 })
-        → left n (stated b) (record { plan = b .plan; time = time; places = rowsOf rows }) ≡ leaveOf (stated b) unit time
+        → changeTo n (contents b) (record { plan = b .plan; time = time; places = rowsOf rows }) ≡ leaveOf (contents b) unit time
     unfolding leaveOf
     leaves n rows q w =
-        let number : n ≡ first (memberReasons (stated b) unit time (liveAt (stated b) unit time && not (eqb unit (b .plan .manager)))) = rw (← live-now) q in
-        left-same n (stated b) _ _ (λ z. written _ _ rows w (ap (λ (s : Slots 64). record { unit = 0; slots = s; time = 0 }) mask-nothing)) ∙ rw number
+        let number : n ≡ first (memberReasons (contents b) unit time (liveAt (contents b) unit time && not (eqb unit (b .plan .manager)))) = rw (← live-now) q in
+        left-same n (contents b) _ _ (λ z. written _ _ rows w (ap (λ (s : Slots 64). record { unit = 0; slots = s; time = 0 }) mask-nothing)) ∙ rw number

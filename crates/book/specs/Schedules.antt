@@ -15,21 +15,21 @@ use Rattle.frame_kinds.specs.Rules.{address}
 use Rattle.site_plan.specs.declared.plan.Plan.{Plan}
 use Rattle.site_plan.specs.Plans.{slots}
 use Rattle.site_plan.specs.Schedules.{kindOf}
-use Rattle.book_members.specs.Members.{emptyRow, rowFor}
-use Rattle.book.specs.Books.{Stated, withinRule, rowsAt, liveAt}
+use Rattle.book_members.specs.Members.{emptyRow, placeFor}
+use Rattle.book.specs.Books.{Contents, withinRule, rowsAt, liveAt}
 
 -- hop 0 is the manager's alone, others are at 1 to h
 abbrev pub hopRule : Plan → ℕ → ℕ → Bool
 hopRule p unit hop = cond (eqb unit (p .manager)) (eqb hop 0) (leb 1 hop && leb hop (p .«max_hops»))
 
 -- the kinds of all slots for a member
-abbrev pub kindsFor : Stated → ℕ → ℕ → ℕ → List ℕ
+abbrev pub kindsFor : Contents → ℕ → ℕ → ℕ → List ℕ
 kindsFor b unit hop time =
-    let at = rowFor unit (rowsAt b time) in
+    let at = placeFor unit (rowsAt b time) in
     tab (slots (b .plan)) (kindOf (b .plan) at hop (getD (rowsAt b time) at emptyRow .slots))
 
 -- 14 4 8 14 13 5, for a unit that is a live member or not, in a buffer with this room
-abbrev pub scheduleReasons : Stated → ℕ → ℕ → ℕ → Bool → ℕ → List Reason
+abbrev pub scheduleReasons : Contents → ℕ → ℕ → ℕ → Bool → ℕ → List Reason
 scheduleReasons b unit hop time live room =
     reason (not (withinRule b)) 14 ∷
     reason (not (address unit)) 4 ∷
@@ -39,10 +39,10 @@ scheduleReasons b unit hop time live room =
     reason (ltb room (slots (b .plan))) 5 ∷
     []
 
-abbrev pub scheduleRefusal : Stated → ℕ → ℕ → ℕ → Bool → ℕ → ℕ
+abbrev pub scheduleRefusal : Contents → ℕ → ℕ → ℕ → Bool → ℕ → ℕ
 scheduleRefusal b unit hop time live room = first (scheduleReasons b unit hop time live room)
 
-unfoldable pub scheduleOf : Stated → ℕ → ℕ → ℕ → List ℕ → Wrote
+unfoldable pub scheduleOf : Contents → ℕ → ℕ → ℕ → List ℕ → Wrote
 scheduleOf b unit hop time out =
     let refusal = scheduleRefusal b unit hop time (liveAt b unit time) (length out) in
     record { said = unless refusal (accepted (slots (b .plan) ∷ [])); held = after refusal out (sets out 0 (kindsFor b unit hop time)) }

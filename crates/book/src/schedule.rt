@@ -7,7 +7,7 @@ ghost use Rattle.octets.specs.Lists.{tab};
 ghost use Rattle.octets.specs.Told.{wrote};
 ghost use Rattle.slot_sets.specs.Sets.{slotsOf};
 ghost use Rattle.site_plan.specs.Schedules.{sleep, kindOf};
-ghost use Rattle.book.specs.Books.{stated};
+ghost use Rattle.book.specs.Books.{contents};
 ghost use Rattle.book.specs.Schedules.{hopRule, scheduleRefusal, scheduleOf};
 use crate::book::Book;
 use book_members::rows::current;
@@ -69,7 +69,7 @@ fn put_kinds(out: &mut [u8], plan: Plan, row: u8, hop: u8, own: u64, count: u8)
 
 // Why there is no schedule for a unit that is a live member or not; 0 where there is one.
 fn refusal(book: Book, unit: u16, hop: u32, time: u32, live: bool, room: usize) -> u8
-    ensures { λ r. ⌜ r ≡ scheduleRefusal (stated book) unit hop time live room ⌝ }
+    ensures { λ r. ⌜ r ≡ scheduleRefusal (contents book) unit hop time live room ⌝ }
 {
     let plan = book.plan;
     let address = (1 <= unit) & (unit <= 0xFFFE);
@@ -84,7 +84,7 @@ fn refusal(book: Book, unit: u16, hop: u32, time: u32, live: bool, room: usize) 
 impl Book {
     // Writes the kinds of all slots for a live member at a hop.
     pub fn schedule(self, unit: u16, hop: u32, time: u32, out: &mut [u8]) -> Written
-        ensures { λ r. ⌜ wrote r (now (out .exit)) ≡ scheduleOf (stated self) unit hop time (now (out .entry)) ⌝ }
+        ensures { λ r. ⌜ wrote r (now (out .exit)) ≡ scheduleOf (contents self) unit hop time (now (out .entry)) ⌝ }
     {
         let plan = self.plan;
         let rows = self.rows;

@@ -1,7 +1,7 @@
 // What needs no frame: a member that was heard, and one that leaves.
 ghost use mathlib.Core.Path.{_≡_};
 ghost use Rattle.octets.specs.Answers.{first};
-ghost use Rattle.book.specs.Books.{stated, memberReasons, leftBy, heardOf, leaveOf};
+ghost use Rattle.book.specs.Books.{contents, memberReasons, changeOf, heardOf, leaveOf};
 use crate::book::Book;
 use crate::book::Changed;
 use crate::book::settled;
@@ -16,7 +16,7 @@ use octets::answers::refuse_if;
 
 // Why a call on a member is refused, where it is found or not; 0 where it is not.
 fn refusal(book: Book, unit: u16, time: u32, found: bool) -> u8
-    ensures { λ r. ⌜ r ≡ first (memberReasons (stated book) unit time found) ⌝ }
+    ensures { λ r. ⌜ r ≡ first (memberReasons (contents book) unit time found) ⌝ }
 {
     let address = (1 <= unit) & (unit <= 0xFFFE);
     let refused = refuse_if(!found, 13, 0);
@@ -28,7 +28,7 @@ fn refusal(book: Book, unit: u16, time: u32, found: bool) -> u8
 impl Book {
     // Renews the time of a live member.
     pub fn heard(self, unit: u16, time: u32) -> Changed
-        ensures { λ r. ⌜ leftBy r ≡ heardOf (stated self) unit time ⌝ }
+        ensures { λ r. ⌜ changeOf r ≡ heardOf (contents self) unit time ⌝ }
     {
         let plan = self.plan;
         let rows = self.rows;
@@ -51,7 +51,7 @@ impl Book {
 
     // Frees the row and the slots of a live member; the manager stays.
     pub fn leave(self, unit: u16, time: u32) -> Changed
-        ensures { λ r. ⌜ leftBy r ≡ leaveOf (stated self) unit time ⌝ }
+        ensures { λ r. ⌜ changeOf r ≡ leaveOf (contents self) unit time ⌝ }
     {
         let plan = self.plan;
         let rows = self.rows;

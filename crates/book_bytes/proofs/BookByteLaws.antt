@@ -10,7 +10,7 @@ use Rattle.octets.proofs.NumberLaws.{length-digits}
 use Rattle.octets.proofs.StoreLaws.{sets-append}
 use Rattle.site_plan.proofs.PlanByteLaws.{length-plan}
 use Rattle.book_members.specs.Members.{rowOf, rowsOf}
-use Rattle.book.specs.Books.{Stated}
+use Rattle.book.specs.Books.{Contents}
 use Rattle.site_plan.specs.PlanBytes.{planBytes}
 use Rattle.book_bytes.specs.BookBytes.{rowWidths, rowValues, rowsBytes, bookSize, bookBytes}
 use Rattle.octets.proofs.RunLaws.{Run, run-length}
@@ -24,17 +24,17 @@ unfolding rowsOf
 members-run = record { none = refl; more = λ m ms. refl; full = λ m. refl }
 
 -- ---- all of it
-pub length-front : (b : Stated) → length (planBytes (b .plan) ++ digits 4 (b .time)) ≡ 13
+pub length-front : (b : Contents) → length (planBytes (b .plan) ++ digits 4 (b .time)) ≡ 13
 length-front b = rw (length-append (planBytes (b .plan)) (digits 4 (b .time)), length-plan (b .plan), length-digits 4 (b .time))
 
-pub length-book : (b : Stated) → length (b .places) ≡ 21 → length (bookBytes b) ≡ bookSize
+pub length-book : (b : Contents) → length (b .places) ≡ 21 → length (bookBytes b) ≡ bookSize
 unfolding bookBytes
 length-book b e =
     let front = planBytes (b .plan) ++ digits 4 (b .time) in
     rw (length-append front (rowsBytes (b .places)), length-front b, run-length rows-run (b .places), e)
 
 -- the plan, the time behind it, and the rows behind that
-pub plan-first : (l : List ℕ) (b : Stated)
+pub plan-first : (l : List ℕ) (b : Contents)
     → sets (sets (sets l 0 (planBytes (b .plan))) 9 (digits 4 (b .time))) 13 (rowsBytes (b .places)) ≡ sets l 0 (bookBytes b)
 unfolding bookBytes
 plan-first l b =

@@ -21,7 +21,7 @@ use Rattle.site_plan.specs.Plans.{planValues}
 use Rattle.site_plan.proofs.PlanByteLaws.{plan-fits}
 use Rattle.book_members.specs.Members.{Row, emptyRow, kept, current}
 use Rattle.book_members.proofs.RowLaws.{length-current}
-use Rattle.book.specs.Books.{Stated, withRow, noBook, freshBook, freshOf}
+use Rattle.book.specs.Books.{Contents, withRow, noBook, freshBook, freshOf}
 use Rattle.site_plan.specs.PlanBytes.{planWidths, planSize, planAt}
 use Rattle.book_bytes.specs.BookBytes.{rowWidths, rowValues, rowsAt, rowAt, bookIn}
 use Rattle.book_bytes.specs.Trips.{RowsFit, Sized}
@@ -79,7 +79,7 @@ book-sized s b =
 
 -- ---- what a call gives
 -- the book as it was, or another
-pub either-sized : (n : ℕ) (b new : Stated) → Sized b → Sized new → Sized (after n b new)
+pub either-sized : (n : ℕ) (b new : Contents) → Sized b → Sized new → Sized (after n b new)
 either-sized n b new z y = go (eqb n 0)
   where
     go : (t : Bool) → Sized (cond t new b)
@@ -87,7 +87,7 @@ either-sized n b new z y = go (eqb n 0)
     go false = z
 
 -- one row written
-pub sized-written : (b : Stated) (time at : ℕ) (r : Row) → Sized b → time < 0x100000000 → Fit rowWidths (rowValues r) → Sized (withRow b time at r)
+pub sized-written : (b : Contents) (time at : ℕ) (r : Row) → Sized b → time < 0x100000000 → Fit rowWidths (rowValues r) → Sized (withRow b time at r)
 sized-written b time at r z t h =
     record {
       places = length-set (current time (b .places)) at r ∙ (length-current time (b .places) ∙ z .places);

@@ -17,7 +17,7 @@ use Rattle.site_plan.specs.declared.plan.Plan.{Plan}
 use Rattle.site_plan.specs.Plans.{planValues}
 use Rattle.site_plan.proofs.PlanByteLaws.{length-plan, plan-read}
 use Rattle.book_members.specs.Members.{Row}
-use Rattle.book.specs.Books.{Stated}
+use Rattle.book.specs.Books.{Contents}
 use Rattle.site_plan.specs.PlanBytes.{planWidths, planFrom, planAt, planBytes}
 use Rattle.book_bytes.specs.BookBytes.{rowWidths, rowValues, rowFrom, rowAt, rowsBytes, bookIn, bookBytes}
 use Rattle.book_bytes.specs.Trips.{RowsFit, Sized, ReadsBack, WritesBack}
@@ -32,7 +32,7 @@ rows-back : (rs : List Row) → map (λ r. rowFrom (rowValues r)) rs ≡ rs
 rows-back [] = refl
 rows-back (r ∷ rs) = ap₂ {C = List Row} (λ x xs. x ∷ xs) (row-back r) (rows-back rs)
 
-module _ (b : Stated) (z : Sized b) where
+module _ (b : Contents) (z : Sized b) where
   time-read : num 4 (bookBytes b) 9 ≡ b .time
   unfolding bookBytes
   time-read =

@@ -8,7 +8,7 @@ use Rattle.octets.specs.Lists.{tab}
 use Rattle.octets.specs.Numbers.{num, digits}
 use Rattle.slot_sets.specs.Sets.{slotsOf, maskOf}
 use Rattle.book_members.specs.Members.{Row}
-use Rattle.book.specs.Books.{Stated}
+use Rattle.book.specs.Books.{Contents}
 use Rattle.site_plan.specs.PlanBytes.{planSize, planAt, planBytes}
 
 -- ---- a row
@@ -40,8 +40,8 @@ abbrev pub bookSize : ℕ
 bookSize = rowsAt + total rowWidths * 21
 
 -- the book that bytes say; a byte past the end is 0
-unfoldable pub bookIn : List ℕ → Stated
+unfoldable pub bookIn : List ℕ → Contents
 bookIn s = record { plan = planAt s 0; time = num 4 s planSize; places = tab 21 (rowAt s) }
 
-unfoldable pub bookBytes : Stated → List ℕ
+unfoldable pub bookBytes : Contents → List ℕ
 bookBytes b = planBytes (b .plan) ++ digits 4 (b .time) ++ rowsBytes (b .places)

@@ -7,7 +7,7 @@ use lib.ListN.{length}
 use Rattle.octets.specs.Layouts.{Fit, Bytes}
 use Rattle.site_plan.specs.Plans.{planValues}
 use Rattle.book_members.specs.Members.{Row}
-use Rattle.book.specs.Books.{Stated}
+use Rattle.book.specs.Books.{Contents}
 use Rattle.site_plan.specs.PlanBytes.{planWidths}
 use Rattle.book_bytes.specs.BookBytes.{rowWidths, rowValues, bookSize, bookIn, bookBytes}
 
@@ -17,7 +17,7 @@ RowsFit [] = Unit
 RowsFit (r ∷ rs) = Fit rowWidths (rowValues r) × RowsFit rs
 
 -- a book as the code can have it: 21 places, and every number fits its bytes
-pub record Sized (b : Stated) : Type 0 where
+pub record Sized (b : Contents) : Type 0 where
   pub places : length (b .places) ≡ 21
   pub plan : Fit planWidths (planValues (b .plan))
   pub time : b .time < 256 ^ 4
@@ -25,7 +25,7 @@ pub record Sized (b : Stated) : Type 0 where
 
 -- reading what was written gives the book, and as many bytes as a book has
 abbrev pub ReadsBack : Type 0
-ReadsBack = (b : Stated) → Sized b → (bookIn (bookBytes b) ≡ b) × (length (bookBytes b) ≡ bookSize)
+ReadsBack = (b : Contents) → Sized b → (bookIn (bookBytes b) ≡ b) × (length (bookBytes b) ≡ bookSize)
 
 -- writing what was read gives the same bytes
 abbrev pub WritesBack : Type 0

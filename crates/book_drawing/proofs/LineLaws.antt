@@ -21,7 +21,7 @@ use Rattle.site_plan.specs.Schedules.{kindOf}
 use Rattle.book_members.specs.declared.member.Member.{Member}
 use Rattle.book_members.specs.Members.{Row, rowOf, rowsOf, vacantRow}
 use Rattle.book_members.proofs.RowLoopLaws.{nobody, row-and-rest, none-left}
-use Rattle.book.specs.Books.{Stated, rowsIn}
+use Rattle.book.specs.Books.{Contents, rowsIn}
 use Rattle.book.proofs.ScheduleLaws.{few-slots}
 use Rattle.book_drawing.specs.Views.{slotsWord, activeWord, newline, letter, decimal, headLine, drawn, memberLine, memberLines, bookText}
 use Rattle.book_drawing.proofs.TextLaws.{Wrote, then-put}
@@ -91,7 +91,7 @@ module _ (l : List ℕ) (at : ℕ) (p : Plan) (ms : List Member) (long : length 
       (e, omega (arith, n))
 
 -- ---- the whole
-pub book-told : (l : List ℕ) (b : Stated) {mid held : List ℕ} {place next : ℕ} → mid ≡ sets l 0 (headLine (b .plan)) → place ≡ length (headLine (b .plan))
+pub book-told : (l : List ℕ) (b : Contents) {mid held : List ℕ} {place next : ℕ} → mid ≡ sets l 0 (headLine (b .plan)) → place ≡ length (headLine (b .plan))
     → Wrote mid place (memberLines (b .plan) 0 (rowsIn b)) held next → (held ≡ sets l 0 (bookText b)) × (next ≡ length (bookText b))
 unfolding bookText
 book-told l b e p w =

@@ -12,12 +12,12 @@ use Rattle.moments.specs.Moments.{inOrder}
 use Rattle.moments.proofs.ElapsedLaws as elapsed
 use Rattle.frame_kinds.specs.Rules.{address}
 use Rattle.slot_sets.specs.Sets.{Slots, count, noSlots}
-use Rattle.book_members.specs.Members.{Row, vacantRow, rowFor, free}
+use Rattle.book_members.specs.Members.{Row, vacantRow, placeFor, free}
 use Rattle.book_members.proofs.RowLaws.{row}
 use Rattle.book_members.proofs.LookupLaws.{found-unit}
 use Rattle.book_members.proofs.RowSums.{weigh, one, tally}
 use Rattle.book_members.proofs.RowRuleLaws.{address-some, no-count, ruled-current}
-use Rattle.book.specs.Books.{Stated, rowsAt, liveAt}
+use Rattle.book.specs.Books.{Contents, rowsAt, liveAt}
 use Rattle.book.proofs.WithinLaws.{RowsRuled, within}
 use Rattle.book_joins.specs.Responses.{slotsTold}
 use Rattle.book_joins.proofs.ResponseLaws.{slots-told}
@@ -47,13 +47,13 @@ one-sender start es time unit unit′ hop hop′ out out′ z e e′ n s =
 
 -- ---- counting
 -- the row of a unit at a time
-abbrev ownRow : Stated → ℕ → ℕ → Row
-ownRow b unit time = row (rowsAt b time) (rowFor unit (rowsAt b time))
+abbrev ownRow : Contents → ℕ → ℕ → Row
+ownRow b unit time = row (rowsAt b time) (placeFor unit (rowsAt b time))
 
 -- what a unit's slots count for, by a weight of its row, sums up over all units to what the rows weigh, if a free row weighs nothing
 module _ (start : Start) (es : List Event) (time : ℕ) (z : begun start .refused ≡ 0) (o : inOrder (bookAfter start es .time) time ≡ true)
     (value : List ℕ → ℕ) (weight : Row → ℕ) (free-row : (r : Row) → vacantRow r ≡ true → r .slots ≡ noSlots → weight r ≡ 0) where
-  abbrev b : Stated
+  abbrev b : Contents
   b = bookAfter start es
 
   abbrev rows : List Row
@@ -79,14 +79,14 @@ module _ (start : Start) (es : List Event) (time : ℕ) (z : begun start .refuse
             sym (ap value (answers-tell start es u time z a o)) ∙ (of-row u some ∙ sym (held-by weight u rows (ruled .units u some)))
 
 -- the data slots that a book has for a unit are those of its row
-data-slots : (b : Stated) (unit time : ℕ) → length (drop 1 (slotsAt b unit time)) ≡ cond (liveAt b unit time) (count (holding b unit time)) 0
+data-slots : (b : Contents) (unit time : ℕ) → length (drop 1 (slotsAt b unit time)) ≡ cond (liveAt b unit time) (count (holding b unit time)) 0
 data-slots b unit time = go (liveAt b unit time)
   where
     told : Slots 64 → List ℕ
-    told = slotsTold (b .plan) (rowFor unit (rowsAt b time))
+    told = slotsTold (b .plan) (placeFor unit (rowsAt b time))
 
     go : (t : Bool) → length (drop 1 (cond t (told (holding b unit time)) [])) ≡ cond t (count (holding b unit time)) 0
-    go true = slots-told (b .plan) (rowFor unit (rowsAt b time)) (holding b unit time)
+    go true = slots-told (b .plan) (placeFor unit (rowsAt b time)) (holding b unit time)
     go false = refl
 
 pub always-d : AlwaysD
@@ -102,7 +102,7 @@ abbrev used : Row → Bool
 used r = not (vacantRow r)
 
 -- a book has something for a unit exactly if the unit has a row, which is in use
-some-slots : (b : Stated) (unit time : ℕ) → (unit ≡ 0 → ⊥) → min 1 (length (slotsAt b unit time)) ≡ cond (liveAt b unit time) (one used (ownRow b unit time)) 0
+some-slots : (b : Contents) (unit time : ℕ) → (unit ≡ 0 → ⊥) → min 1 (length (slotsAt b unit time)) ≡ cond (liveAt b unit time) (one used (ownRow b unit time)) 0
 some-slots b unit time some = go (liveAt b unit time) refl
   where
     many : (x : ℕ) (l slots : List ℕ) → x ∷ l ≡ slots → min 1 (length slots) ≡ 1
@@ -110,7 +110,7 @@ some-slots b unit time some = go (liveAt b unit time) refl
 
     in-use : liveAt b unit time ≡ true → one used (ownRow b unit time) ≡ 1
     in-use e =
-        let own = found-unit unit (rowsAt b time) (ltb-true (rowFor unit (rowsAt b time)) (length (rowsAt b time)) e) in
+        let own = found-unit unit (rowsAt b time) (ltb-true (placeFor unit (rowsAt b time)) (length (rowsAt b time)) e) in
         rw (own, ne-eqb unit 0 some)
 
     go : (t : Bool) → liveAt b unit time ≡ t → min 1 (length (slotsAt b unit time)) ≡ cond t (one used (ownRow b unit time)) 0

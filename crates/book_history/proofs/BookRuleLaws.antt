@@ -18,7 +18,7 @@ use Rattle.site_plan.specs.declared.plan.Plan.{Plan}
 use Rattle.site_plan.proofs.PlanLaws.{rule-bounds}
 use Rattle.book_members.specs.Members.{Row, vacantRow}
 use Rattle.book_members.proofs.RowLaws.{length-current}
-use Rattle.book.specs.Books.{Stated, withinRule, rowsIn, rowsAt, liveAt, noBook, freshBook, freshOf, memberReasons, heardOf, leaveOf}
+use Rattle.book.specs.Books.{Contents, withinRule, rowsIn, rowsAt, liveAt, noBook, freshBook, freshOf, memberReasons, heardOf, leaveOf}
 use Rattle.book.proofs.WithinLaws.{within}
 use Rattle.book.specs.Schedules.{hopRule, scheduleReasons, scheduleRefusal, scheduleOf}
 use Rattle.book_joins.specs.Joins.{joinIn, noRowFor, joinReasons, joinOf, askIn, askReasons, askOf}
@@ -29,9 +29,9 @@ use Rattle.book_history.proofs.RuleLaws.{keeps-rule, keeps-plan}
 use Rattle.book_history.proofs.FreshLaws.{every-empty}
 use Rattle.book_history.proofs.HoldingLaws.{by-refusal}
 use Rattle.book_image.specs.Forms.{fits}
-use Rattle.book_image.specs.Images.{sections, planIn, rowIn, bookIn, acceptedImage, restoreOf, imageReasons, imageWritten}
+use Rattle.book_image.specs.Images.{sections, planIn, rowIn, imageBook, acceptedImage, restoreOf, imageReasons, imageWritten}
 use Rattle.book_image.proofs.AcceptedLaws.{rows-used, good}
-use Rattle.book_history.specs.BookEvents.{Start, fresh, restored, begun, Event, call, image, next, after, answer}
+use Rattle.book_history.specs.BookEvents.{Start, fresh, restored, begun, Event, call, image, next, afterEvents, answer}
 use Rattle.book_history.specs.BookLaws.{StaysWithinRule, wrongHop, OnlyForHops, bookAfter}
 use Rattle.frame_kinds.proofs.FourteenLaws.{some-number, in-rule, read-never, only-so}
 
@@ -40,7 +40,7 @@ restored-within : (s : List ℕ) (time : ℕ) → restoreOf s time .refused ≡ 
 unfolding restoreOf acceptedImage
 restored-within s time z =
     let good = not-false (acceptedImage s time) (none-holds (reason (not (acceptedImage s time)) 14 ∷ []) (numbered _ 14 (λ e. omega arith), tt) z .0) in
-    ap withinRule (after-accepted _ noBook (bookIn s time) z) ∙ and-eq-true-iff (fits (sections (planIn s .rows)) s) (withinRule (bookIn s time)) .0 good .1
+    ap withinRule (after-accepted _ noBook (imageBook s time) z) ∙ and-eq-true-iff (fits (sections (planIn s .rows)) s) (withinRule (imageBook s time)) .0 good .1
 
 pub begun-within : (start : Start) → begun start .refused ≡ 0 → withinRule (begun start .book) ≡ true
 begun-within (fresh p time) z = keeps-rule .0 p time z
@@ -61,18 +61,18 @@ fresh-new p time zero = refl
 fresh-new p time (suc n) = rw (eq-eqb time time refl, or-true) (every-empty (λ r. vacantRow r || eqb (r .time) time) refl 20 n .0)
 
 pub begun-new : (start : Start) → begun start .refused ≡ 0 → every (λ r. vacantRow r || eqb (r .time) (begun start .book .time)) (rowsIn (begun start .book)) ≡ true
-unfolding freshOf restoreOf bookIn
+unfolding freshOf restoreOf imageBook
 begun-new (fresh p time) z = rw (after-accepted _ noBook (freshBook p time) z) (fresh-new p time (p .rows))
 begun-new (restored s time) z =
     let good-image = good s time (not-false (acceptedImage s time) (none-holds (reason (not (acceptedImage s time)) 14 ∷ []) (numbered _ 14 (λ e. omega arith), tt) z .0)) in
     let test : Row → Bool = λ r. vacantRow r || eqb (r .time) time in
-    rw (after-accepted _ noBook (bookIn s time) z, rows-used s time (good-image .plan)) (every-tab test (planIn s .rows) (rowIn s time) (λ i h. new-in s time i))
+    rw (after-accepted _ noBook (imageBook s time) z, rows-used s time (good-image .plan)) (every-tab test (planIn s .rows) (rowIn s time) (λ i h. new-in s time i))
 
-pub rule-next : (b : Stated) (e : Event) → withinRule b ≡ true → withinRule (next b e) ≡ true
+pub rule-next : (b : Contents) (e : Event) → withinRule b ≡ true → withinRule (next b e) ≡ true
 rule-next b (call c) w = by-refusal (λ new. withinRule new ≡ true) b c w (keeps-rule .1 b c)
 rule-next b (image time out) w = w
 
-pub rule-after : (b : Stated) (es : List Event) → withinRule b ≡ true → withinRule (after b es) ≡ true
+pub rule-after : (b : Contents) (es : List Event) → withinRule b ≡ true → withinRule (afterEvents b es) ≡ true
 rule-after b [] w = w
 rule-after b (e ∷ es) w = rule-after (next b e) es (rule-next b e w)
 
@@ -80,23 +80,23 @@ pub stays-within-rule : StaysWithinRule
 stays-within-rule start es z = rule-after (begun start .book) es (begun-within start z)
 
 -- ---- the plan, the places, and a history that goes on
-pub plan-next : (b : Stated) (e : Event) → next b e .plan ≡ b .plan
+pub plan-next : (b : Contents) (e : Event) → next b e .plan ≡ b .plan
 plan-next b (call c) = keeps-plan b c .0
 plan-next b (image time out) = refl
 
-pub plan-after : (b : Stated) (es : List Event) → after b es .plan ≡ b .plan
+pub plan-after : (b : Contents) (es : List Event) → afterEvents b es .plan ≡ b .plan
 plan-after b [] = refl
 plan-after b (e ∷ es) = plan-after (next b e) es ∙ plan-next b e
 
-places-after : (b : Stated) (es : List Event) → length (after b es .places) ≡ length (b .places)
+places-after : (b : Contents) (es : List Event) → length (afterEvents b es .places) ≡ length (b .places)
 places-after b [] = refl
 places-after b (call c ∷ es) = places-after (keeping.next b c) es ∙ keeps-plan b c .1
 places-after b (image time out ∷ es) = places-after b es
 
 begun-places : (start : Start) → begun start .refused ≡ 0 → length (begun start .book .places) ≡ 21
-unfolding freshOf restoreOf bookIn
-begun-places (fresh p time) z = ap (λ (b : Stated). length (b .places)) (after-accepted _ noBook (freshBook p time) z)
-begun-places (restored s time) z = ap (λ (b : Stated). length (b .places)) (after-accepted _ noBook (bookIn s time) z) ∙ length-tab 21 _
+unfolding freshOf restoreOf imageBook
+begun-places (fresh p time) z = ap (λ (b : Contents). length (b .places)) (after-accepted _ noBook (freshBook p time) z)
+begun-places (restored s time) z = ap (λ (b : Contents). length (b .places)) (after-accepted _ noBook (imageBook s time) z) ∙ length-tab 21 _
 
 -- there are always as many rows as the plan says
 pub rows-many : (start : Start) (es : List Event) (time : ℕ) → begun start .refused ≡ 0 → length (rowsAt (bookAfter start es) time) ≡ bookAfter start es .plan .rows
@@ -105,12 +105,12 @@ rows-many start es time z =
     let few = rule-bounds (b .plan) (within b (stays-within-rule start es z) .plan) .few-rows in
     omega (arith, few, length-current time (rowsIn b), length-take (b .plan .rows) (b .places), places-after (begun start .book) es, begun-places start z)
 
-pub after-more : (b : Stated) (es more : List Event) → after b (es ++ more) ≡ after (after b es) more
+pub after-more : (b : Contents) (es more : List Event) → afterEvents b (es ++ more) ≡ afterEvents (afterEvents b es) more
 after-more b [] more = refl
 after-more b (e ∷ es) more = after-more (next b e) es more
 
 -- ---- 14
-module _ (b : Stated) (w : withinRule b ≡ true) where
+module _ (b : Contents) (w : withinRule b ≡ true) where
   within-reason : reason (not (withinRule b)) 14 .number ≡ 14 → reason (not (withinRule b)) 14 .holds ≡ false
   within-reason = in-rule (withinRule b) w
 

@@ -16,8 +16,8 @@ use Rattle.frame_kinds.specs.Rules.{address}
 use Rattle.frame_kinds.proofs.ReadingLaws.{passed}
 use Rattle.frame_requests.specs.Requests.{joinRequest, slotRequest}
 use Rattle.slot_sets.specs.Sets.{Slots}
-use Rattle.book_members.specs.Members.{rowFor}
-use Rattle.book.specs.Books.{Stated, withinRule, memberReasons, rowsAt, liveAt}
+use Rattle.book_members.specs.Members.{placeFor}
+use Rattle.book.specs.Books.{Contents, withinRule, memberReasons, rowsAt, liveAt}
 use Rattle.book.specs.Schedules.{scheduleRefusal, scheduleOf}
 use Rattle.book.proofs.ScheduleLaws.{Schedulable, schedulable}
 use Rattle.book_joins.specs.Joins.{joinIn, seat, seated, noRowFor, joinReasons, joinOf, askIn, asks, askReasons, askOf}
@@ -25,12 +25,12 @@ use Rattle.book_joins.specs.Responses.{responses}
 use Rattle.book_history.specs.Laws.{holding}
 
 -- what all calls that write a row rest on
-pub record Allowed (b : Stated) (unit time : ℕ) : Type 0 where
+pub record Allowed (b : Contents) (unit time : ℕ) : Type 0 where
   pub book : withinRule b ≡ true
   pub of-unit : address unit ≡ true
   pub order : inOrder (b .time) time ≡ true
 
-pub member-allowed : (b : Stated) (unit time : ℕ) (found : Bool) → first (memberReasons b unit time found) ≡ 0 → Allowed b unit time × (found ≡ true)
+pub member-allowed : (b : Contents) (unit time : ℕ) (found : Bool) → first (memberReasons b unit time found) ≡ 0 → Allowed b unit time × (found ≡ true)
 member-allowed b unit time found e =
     let n =
     none-holds (memberReasons b unit time found)
@@ -38,23 +38,23 @@ member-allowed b unit time found e =
     (record { book = not-false _ (n .0); of-unit = not-false _ (n .1 .0); order = not-false _ (n .1 .1 .0) }, not-false found (n .1 .1 .1 .0))
 
 -- what a unit that joins, and a member that asks, then holds
-abbrev pub joinedSlots : Stated → List ℕ → ℕ → Slots 64
+abbrev pub joinedSlots : Contents → List ℕ → ℕ → Slots 64
 joinedSlots b s time = seated b (joinIn s .node) time (joinIn s .slots)
 
-abbrev pub askedSlots : Stated → List ℕ → ℕ → Slots 64
+abbrev pub askedSlots : Contents → List ℕ → ℕ → Slots 64
 askedSlots b s time = asks (b .plan .«data_slots») (rowsAt b time) (holding b (askIn s .node) time) (askIn s .slots)
 
 -- the responses do not fit
-abbrev short : Stated → ℕ → ℕ → ℕ → Slots 64 → List ℕ → Bool
+abbrev short : Contents → ℕ → ℕ → ℕ → Slots 64 → List ℕ → Bool
 short b unit time at own out = ltb (length out) (length (responses (b .plan) unit time at own))
 
-abbrev pub joinShort : Stated → List ℕ → ℕ → List ℕ → Bool
+abbrev pub joinShort : Contents → List ℕ → ℕ → List ℕ → Bool
 joinShort b s time out = short b (joinIn s .node) time (seat b (joinIn s .node) time) (joinedSlots b s time) out
 
-abbrev pub askShort : Stated → List ℕ → ℕ → List ℕ → Bool
-askShort b s time out = short b (askIn s .node) time (rowFor (askIn s .node) (rowsAt b time)) (askedSlots b s time) out
+abbrev pub askShort : Contents → List ℕ → ℕ → List ℕ → Bool
+askShort b s time out = short b (askIn s .node) time (placeFor (askIn s .node) (rowsAt b time)) (askedSlots b s time) out
 
-pub join-allowed : (b : Stated) (s : List ℕ) (time : ℕ) (out : List ℕ) → joinOf b s time out .refused ≡ 0
+pub join-allowed : (b : Contents) (s : List ℕ) (time : ℕ) (out : List ℕ) → joinOf b s time out .refused ≡ 0
     → Allowed b (joinIn s .node) time × (noRowFor b (joinIn s .node) time ≡ false) × (joinShort b s time out ≡ false)
 unfolding joinOf
 join-allowed b s time out e =
@@ -76,7 +76,7 @@ join-allowed b s time out e =
       n .1 .1 .1 .1 .1 .1 .0,
     )
 
-pub ask-allowed : (b : Stated) (s : List ℕ) (time : ℕ) (out : List ℕ) → askOf b s time out .refused ≡ 0
+pub ask-allowed : (b : Contents) (s : List ℕ) (time : ℕ) (out : List ℕ) → askOf b s time out .refused ≡ 0
     → Allowed b (askIn s .node) time × (liveAt b (askIn s .node) time ≡ true) × (askShort b s time out ≡ false)
 unfolding askOf
 ask-allowed b s time out e =
@@ -98,7 +98,7 @@ ask-allowed b s time out e =
       n .1 .1 .1 .1 .1 .0,
     )
 
-module _ (b : Stated) (unit hop time : ℕ) (out : List ℕ) (e : scheduleOf b unit hop time out .said .refusal ≡ 0) where
+module _ (b : Contents) (unit hop time : ℕ) (out : List ℕ) (e : scheduleOf b unit hop time out .said .refusal ≡ 0) where
   pub schedule-unrefused : scheduleRefusal b unit hop time (liveAt b unit time) (length out) ≡ 0
   unfolding scheduleOf
   schedule-unrefused = sym (unless-number _ _) ∙ e

@@ -17,13 +17,13 @@ use Rattle.moments.proofs.MomentLaws.{in-order-self, not-in-order, ages-add}
 use Rattle.frame_kinds.specs.Rules.{address}
 use Rattle.slot_sets.specs.Sets.{Slots}
 use Rattle.site_plan.specs.declared.plan.Plan.{Plan}
-use Rattle.book_members.specs.Members.{Row, emptyRow, vacantRow, rowFor}
+use Rattle.book_members.specs.Members.{Row, emptyRow, vacantRow, placeFor}
 use Rattle.book_members.proofs.RowLaws.{row}
 use Rattle.book_members.proofs.RowSums.{weigh-set, one, tally, ofUnit}
 use Rattle.book_members.proofs.LookupLaws.{found-none, found-unit, found-there}
 use Rattle.book_members.proofs.PairLaws.{led-first}
 use Rattle.book_members.proofs.RowRuleLaws.{address-some, units-least}
-use Rattle.book.specs.Books.{Stated, withinRule, rowsIn, rowsAt, liveAt, heardOf, leaveOf}
+use Rattle.book.specs.Books.{Contents, withinRule, rowsIn, rowsAt, liveAt, heardOf, leaveOf}
 use Rattle.book.proofs.WithinLaws.{within}
 use Rattle.book_joins.specs.Responses.{slotsTold, toldIn}
 use Rattle.book_history.specs.Calls.{Call, join, ask, heard, leave, schedule, refusalOf}
@@ -34,7 +34,7 @@ use Rattle.book_history.proofs.TakingLaws.{ruled-rows, some-unit, Taken
 use Rattle.book_history.proofs.RuleLaws.{keeps-rule, refused-keeps, keeps-plan}
 use Rattle.book_history.proofs.HoldingLaws.{others-stay}
 use Rattle.book_history.proofs.SilenceLaws.{row-written, stays-while-live}
-use Rattle.book_history.specs.BookEvents.{begun, Event, call, image, timeOf, next, after, answer, recorded, stepOf, clockOf, Grant, grant, changedBy, granted, granting, counts}
+use Rattle.book_history.specs.BookEvents.{begun, Event, call, image, timeOf, next, afterEvents, answer, recorded, stepOf, clockOf, Grant, grant, changedBy, granted, granting, counts}
 use Rattle.book_history.specs.BookLaws.{slotsAt, AnswersTell}
 use Rattle.book_history.proofs.BookRuleLaws.{begun-within, begun-new, plan-after}
 use Rattle.book_history.proofs.SettledLaws.{Settled, taken-settled, left-settled}
@@ -43,7 +43,7 @@ use Rattle.book_history.proofs.SlotsAtLaws.{same-slots, no-slots, row-s
 
 -- ---- what is known of a unit
 -- where so many ms had elapsed at the book's last accepted time: its grant is of the past, and at every time that may come what the book has for it is what then counts
-pub record Knows (b : Stated) (elapsed unit : ℕ) (g : Grant) : Type 0 where
+pub record Knows (b : Contents) (elapsed unit : ℕ) (g : Grant) : Type 0 where
   pub past : g .at ≤ elapsed
   pub slots : (later : ℕ) → inOrder (b .time) later ≡ true → slotsAt b unit later ≡ counts (b .plan) unit (elapsed + ageAt later (b .time)) g
 
@@ -55,12 +55,12 @@ nothing-counts p unit now at = go (eqb unit (p .manager) || leb now _)
     go false = refl
 
 -- at the start, what its row says, if that is of the start's time
-pub known-start : (b : Stated) → withinRule b ≡ true → every (λ r. vacantRow r || eqb (r .time) (b .time)) (rowsIn b) ≡ true → (unit : ℕ) → (unit ≡ 0 → ⊥)
+pub known-start : (b : Contents) → withinRule b ≡ true → every (λ r. vacantRow r || eqb (r .time) (b .time)) (rowsIn b) ≡ true → (unit : ℕ) → (unit ≡ 0 → ⊥)
     → Knows b 0 unit (granting b unit)
 known-start b w new unit some = record { past = omega arith; slots = λ later o. go later (ℕ-discrete (row (rowsIn b) at .unit) unit) }
   where
     at : ℕ
-    at = rowFor unit (rowsIn b)
+    at = placeFor unit (rowsIn b)
 
     told : Bool → List ℕ
     told t = cond t (slotsTold (b .plan) at (row (rowsIn b) at .slots)) []
@@ -83,14 +83,14 @@ known-start b w new unit some = record { past = omega arith; slots = λ later o.
 
 -- ---- a unit's own call
 -- one that writes its row
-module _ {b : Stated} {c : Call} {at : ℕ} {own : Slots 64} (t : Taken b c at own) where
+module _ {b : Contents} {c : Call} {at : ℕ} {own : Slots 64} (t : Taken b c at own) where
   taken-known : (now : ℕ) (told : List ℕ) → told ≡ slotsTold (b .plan) at own → Knows (keeping.next b c) now (keeping.unitOf c) (grant told now)
   taken-known now told e =
       let new = keeping.next b c in
       let unit = keeping.unitOf c in
       let plan = keeps-plan b c .0 in
       let written = row-written t in
-      let time : row (rowsIn new) at .time ≡ new .time = ap (λ (r : Row). r .time) written ∙ sym (ap (λ (x : Stated). x .time) (t .book)) in
+      let time : row (rowsIn new) at .time ≡ new .time = ap (λ (r : Row). r .time) written ∙ sym (ap (λ (x : Contents). x .time) (t .book)) in
       record {
         past = omega arith;
         slots =
@@ -108,22 +108,22 @@ told-of false x l told e =
     absurd (omega (arith, n))
 
 -- what a member that is heard was told last
-heard-told : (b : Stated) (elapsed unit time : ℕ) (g : Grant) → heardOf b unit time .refused ≡ 0 → Knows b elapsed unit g
-    → g .told ≡ slotsTold (b .plan) (rowFor unit (rowsAt b time)) (holding b unit time)
+heard-told : (b : Contents) (elapsed unit time : ℕ) (g : Grant) → heardOf b unit time .refused ≡ 0 → Knows b elapsed unit g
+    → g .told ≡ slotsTold (b .plan) (placeFor unit (rowsAt b time)) (holding b unit time)
 heard-told b elapsed unit time g z k =
     let t = heard-taken b unit time z in
-    let live = lt-ltb (rowFor unit (rowsAt b time)) (length (rowsAt b time)) (t .place .there) in
-    let slots = slotsTold (b .plan) (rowFor unit (rowsAt b time)) (holding b unit time) in
+    let live = lt-ltb (placeFor unit (rowsAt b time)) (length (rowsAt b time)) (t .place .there) in
+    let slots = slotsTold (b .plan) (placeFor unit (rowsAt b time)) (holding b unit time) in
     told-of (eqb unit (b .plan .manager) || leb (elapsed + ageAt time (b .time)) _) _ _ (g .told)
     (sym (ap (λ (l : Bool). cond l slots []) live) ∙ k .slots time (t .allowed .order))
 
 -- who left has nothing
-left-known : (b : Stated) (now unit time : ℕ) → leaveOf b unit time .refused ≡ 0 → Knows (leaveOf b unit time .book) now unit (grant [] now)
+left-known : (b : Contents) (now unit time : ℕ) → leaveOf b unit time .refused ≡ 0 → Knows (leaveOf b unit time .book) now unit (grant [] now)
 left-known b now unit time z =
     let f = leave-freed b unit time z in
     let some = some-unit (f .allowed) in
     let rs = rowsAt b time in
-    let at = rowFor unit rs in
+    let at = placeFor unit rs in
     let rows = ap rowsIn (f .book) ∙ rows-written b time at emptyRow (f .place .there) in
     let own : one (ofUnit unit) (row rs at) ≡ 1 = rw (eq-eqb (row rs at .unit) unit (found-unit unit rs (f .place .there))) in
     let none : tally (ofUnit unit) (set rs at emptyRow) ≡ 0 =
@@ -154,12 +154,12 @@ soon-counts p unit now g x l other e = go (leb now (g .at + 300000)) refl (rw (n
     go false q f = let n : suc (length l) ≡ 0 = ap length f in absurd (omega (arith, n))
 
 -- what a book has for a live unit begins with its control slot
-pub live-slots : (b : Stated) (unit time : ℕ) → liveAt b unit time ≡ true → (x : ℕ) × ((l : List ℕ) × (x ∷ l ≡ slotsAt b unit time))
-live-slots b unit time e = (_, (_, sym (ap (λ (t : Bool). cond t (slotsTold (b .plan) (rowFor unit (rowsAt b time)) (holding b unit time)) []) e)))
+pub live-slots : (b : Contents) (unit time : ℕ) → liveAt b unit time ≡ true → (x : ℕ) × ((l : List ℕ) × (x ∷ l ≡ slotsAt b unit time))
+live-slots b unit time e = (_, (_, sym (ap (λ (t : Bool). cond t (slotsTold (b .plan) (placeFor unit (rowsAt b time)) (holding b unit time)) []) e)))
 
 module _ (unit : ℕ) (a : address unit ≡ true) where
   -- the manager's row stays
-  manager-stays : (b : Stated) → withinRule b ≡ true → unit ≡ b .plan .manager → (time later : ℕ) → slotsAt b unit later ≡ slotsAt b unit time
+  manager-stays : (b : Contents) → withinRule b ≡ true → unit ≡ b .plan .manager → (time later : ℕ) → slotsAt b unit later ≡ slotsAt b unit time
   manager-stays b w e time later =
       let some = address-some unit a in
       let own = led-first (b .plan .manager) (rowsIn b) (within b w .rows .led) ∙ sym e in
@@ -168,9 +168,9 @@ module _ (unit : ℕ) (a : address unit ≡ true) where
       λ t. row-slots b w unit some 0 own t ∙ ap (λ (m : Bool). cond (m || leb (ageAt t (row (rowsIn b) 0 .time)) 300000) told []) (eq-eqb unit (b .plan .manager) e) in
       always later ∙ sym (always time)
 
-  module _ (b : Stated) (c : Call) (z : refusalOf b c ≡ 0) (s : Settled b c) (n : keeping.unitOf c ≡ unit → ⊥) (elapsed : ℕ) (g : Grant)
+  module _ (b : Contents) (c : Call) (z : refusalOf b c ≡ 0) (s : Settled b c) (n : keeping.unitOf c ≡ unit → ⊥) (elapsed : ℕ) (g : Grant)
       (k : Knows b elapsed unit g) where
-    abbrev new : Stated
+    abbrev new : Contents
     new = keeping.next b c
 
     abbrev time : ℕ
@@ -262,13 +262,13 @@ chosen P n u unit changing on k x g own other refused = go (ℕ-discrete n 0) (�
     go (no z) d = rw (ne-eqb n 0 z) (refused z)
 
 -- by a clock that is the book's
-pub record Known (b : Stated) (unit : ℕ) (k : Clock) (g : Grant) : Type 0 where
+pub record Known (b : Contents) (unit : ℕ) (k : Clock) (g : Grant) : Type 0 where
   pub clock : k .last ≡ b .time
   pub knows : Knows b (k .elapsed) unit g
 
 module _ (unit : ℕ) (a : address unit ≡ true) where
   -- a call that changes the book where it is accepted, and makes a grant of its own unit
-  call-known : (b : Stated) (c : Call) (k : Clock) (x : ℕ → Grant) (g : Grant) → Known b unit k g → (refusalOf b c ≡ 0 → Settled b c)
+  call-known : (b : Contents) (c : Call) (k : Clock) (x : ℕ → Grant) (g : Grant) → Known b unit k g → (refusalOf b c ≡ 0 → Settled b c)
       → (refusalOf b c ≡ 0 → (now : ℕ) → Knows b (k .elapsed) (keeping.unitOf c) g → Knows (keeping.next b c) now (keeping.unitOf c) (x now))
       → let now = nowAt k (keeping.timeOf c) in
       Known (keeping.next b c) unit (cond (eqb (refusalOf b c) 0 && true) (record { last = keeping.timeOf c; elapsed = now }) k)
@@ -280,15 +280,15 @@ module _ (unit : ℕ) (a : address unit ≡ true) where
         knows = subst (λ (v : ℕ). Knows new now v (x now)) u (own z now (subst (λ (v : ℕ). Knows b (k .elapsed) v g) (sym u) (h .knows)));
       })
       (λ z n. record { clock = sym (settled z .time); knows = rw (h .clock) (other-known unit a b c z (settled z) n (k .elapsed) g (h .knows)) })
-      (λ z. subst (λ (b′ : Stated). Known b′ unit k g) (sym (refused-keeps b c z)) h)
+      (λ z. subst (λ (b′ : Contents). Known b′ unit k g) (sym (refused-keeps b c z)) h)
     where
-      new : Stated
+      new : Contents
       new = keeping.next b c
 
       now : ℕ
       now = nowAt k (keeping.timeOf c)
 
-  known-next : (b : Stated) (k : Clock) (g : Grant) (e : Event) → Known b unit k g
+  known-next : (b : Contents) (k : Clock) (g : Grant) (e : Event) → Known b unit k g
       → Known (next b e) unit (moved k (stepOf (record { event = e; answer = answer b e }))) (changedBy toldIn unit e (answer b e) (nowAt k (timeOf e)) g)
   known-next b k g (call (join s time out)) h =
       call-known b (join s time out) k _ g h (λ z. taken-settled (join-taken b s time out z))
@@ -304,8 +304,8 @@ module _ (unit : ℕ) (a : address unit ≡ true) where
       chosen (Known b unit) (answer b (call (schedule v hop time out)) .refused) v unit _ _ k g g (λ z u. h) (λ z n. h) (λ z. h)
   known-next b k g (image time out) h = chosen (Known b unit) (answer b (image time out) .refused) 0 unit _ _ k g g (λ z u. h) (λ z n. h) (λ z. h)
 
-  pub known-after : (b : Stated) (k : Clock) (g : Grant) (es : List Event) → Known b unit k g
-      → Known (after b es) unit (clockAfter k (map stepOf (recorded b es))) (granted unit k g (recorded b es))
+  pub known-after : (b : Contents) (k : Clock) (g : Grant) (es : List Event) → Known b unit k g
+      → Known (afterEvents b es) unit (clockAfter k (map stepOf (recorded b es))) (granted unit k g (recorded b es))
   known-after b k g [] h = h
   known-after b k g (e ∷ es) h = known-after (next b e) _ _ es (known-next b k g e h)
 

@@ -7,10 +7,10 @@ use lib.Dec.{eqb}
 use lib.ListN.{length, length-set}
 use Rattle.octets.specs.Calls.{after}
 use Rattle.octets.proofs.CallLaws.{after-refused}
-use Rattle.book_members.specs.Members.{Row, emptyRow, rowFor}
+use Rattle.book_members.specs.Members.{Row, emptyRow, placeFor}
 use Rattle.book_members.proofs.RowLaws.{length-current}
 use Rattle.book_members.proofs.RowRuleLaws.{ruled-emptied}
-use Rattle.book.specs.Books.{Stated, withinRule, rowsAt, placesAt, withRow, heardOf, leaveOf}
+use Rattle.book.specs.Books.{Contents, withinRule, rowsAt, placesAt, withRow, heardOf, leaveOf}
 use Rattle.book_joins.specs.Joins.{joinOf, askOf}
 use Rattle.book_history.specs.Calls.{Call, join, ask, heard, leave, schedule, refusalOf, next}
 use Rattle.book_history.specs.Laws.{KeepsRule, RefusedKeeps, KeepsPlan}
@@ -23,13 +23,13 @@ use Rattle.book_history.proofs.FreshLaws.{fresh-within}
 pub keeps-rule : KeepsRule
 keeps-rule = (fresh-within, every-call)
   where
-    every-call : (b : Stated) (c : Call) → refusalOf b c ≡ 0 → withinRule (next b c) ≡ true
+    every-call : (b : Contents) (c : Call) → refusalOf b c ≡ 0 → withinRule (next b c) ≡ true
     every-call b (join s time out) e = taken-within (join-taken b s time out e)
     every-call b (ask s time out) e = taken-within (ask-taken b s time out e)
     every-call b (heard unit time) e = taken-within (heard-taken b unit time e)
     every-call b (leave unit time) e =
         let f = leave-freed b unit time e in
-        let at = rowFor unit (rowsAt b time) in
+        let at = placeFor unit (rowsAt b time) in
         ap withinRule (f .book)
         ∙ within-written b time at emptyRow (f .place .there) (whole (f .allowed))
         (ruled-emptied (ruled-rows (f .allowed)) at (f .place .there) (λ z. f .other (f .place .leads z)))
@@ -45,10 +45,10 @@ refused-keeps b (leave unit time) z = after-refused _ b _ z
 refused-keeps b (schedule unit hop time out) z = refl
 
 -- ---- the plan
-abbrev SamePlan : Stated → Stated → Type 0
+abbrev SamePlan : Contents → Contents → Type 0
 SamePlan b new = (new .plan ≡ b .plan) × (length (new .places) ≡ length (b .places))
 
-written-plan : (b : Stated) (n time at : ℕ) (r : Row) → SamePlan b (after n b (withRow b time at r))
+written-plan : (b : Contents) (n time at : ℕ) (r : Row) → SamePlan b (after n b (withRow b time at r))
 written-plan b n time at r = go (eqb n 0)
   where
     go : (t : Bool) → SamePlan b (cond t (withRow b time at r) b)

@@ -13,13 +13,13 @@ use lib.Seq.{getD-set-same}
 use Rattle.moments.specs.Moments.{ageAt}
 use Rattle.slot_sets.specs.Sets.{Slots}
 use Rattle.site_plan.specs.declared.plan.Plan.{Plan}
-use Rattle.book_members.specs.Members.{Row, emptyRow, current, rowFor}
+use Rattle.book_members.specs.Members.{Row, emptyRow, current, placeFor}
 use Rattle.book_members.proofs.RowLaws.{row, length-current, first-stays, others-kept, still, live-before}
 use Rattle.book_members.proofs.PairLaws.{led-first}
 use Rattle.book_members.proofs.LookupLaws.{found-unit, found-there, found-is}
 use Rattle.book_members.proofs.RowRuleLaws.{address-some, ruled-current}
 use Rattle.book_members.proofs.TimedLaws.{timed-rows}
-use Rattle.book.specs.Books.{Stated, withinRule, rowsIn, rowsAt, liveAt}
+use Rattle.book.specs.Books.{Contents, withinRule, rowsIn, rowsAt, liveAt}
 use Rattle.book_history.specs.Calls.{Call, join, ask, heard, leave, schedule, timeOf, unitOf, next}
 use Rattle.book_history.specs.Laws.{StaysWhileLive, LiveFor, holding}
 use Rattle.book.proofs.WithinLaws.{within}
@@ -33,7 +33,7 @@ pub stays-while-live : StaysWhileLive
 stays-while-live b unit time later w a p o l e =
     let rs = rowsIn b in
     let some = address-some unit a in
-    let i = rowFor unit (current later rs) in
+    let i = placeFor unit (current later rs) in
     let own = found-unit unit (current later rs) (ltb-true _ _ e) in
     let same = live-before (b .time) time later (record { one = p; two = o; both = l }) rs (timed-rows (within b w .rows)) i (λ z. some (sym own ∙ z)) in
     let place = found-is unit some (current time rs) i (ap (λ (r : Row). r .unit) same ∙ own) (ruled-current time (within b w .rows) .units unit some) in
@@ -41,7 +41,7 @@ stays-while-live b unit time later w a p o l e =
 
 -- ---- how long
 -- a unit that has a row, at any time: it is live as the manager, or up to 300,000 ms after the row's time
-module _ (b : Stated) (w : withinRule b ≡ true) (unit : ℕ) (some : unit ≡ 0 → ⊥) (at : ℕ) (own : row (rowsIn b) at .unit ≡ unit) (later : ℕ) where
+module _ (b : Contents) (w : withinRule b ≡ true) (unit : ℕ) (some : unit ≡ 0 → ⊥) (at : ℕ) (own : row (rowsIn b) at .unit ≡ unit) (later : ℕ) where
   abbrev rows : List Row
   rows = rowsIn b
 
@@ -83,29 +83,29 @@ module _ (b : Stated) (w : withinRule b ≡ true) (unit : ℕ) (some : unit ≡ 
   pub live-lasts : liveAt b unit later ≡ lasts
   live-lasts = go lasts refl
     where
-      go : (live : Bool) → lasts ≡ live → ltb (rowFor unit then) (length then) ≡ live
-      go true e = lt-ltb (rowFor unit then) (length then) (found-there unit some then at (ap (λ (r : Row). r .unit) (stays e) ∙ own))
-      go false e = le-ltb (rowFor unit then) (length then) (omega (arith, silent))
+      go : (live : Bool) → lasts ≡ live → ltb (placeFor unit then) (length then) ≡ live
+      go true e = lt-ltb (placeFor unit then) (length then) (found-there unit some then at (ap (λ (r : Row). r .unit) (stays e) ∙ own))
+      go false e = le-ltb (placeFor unit then) (length then) (omega (arith, silent))
         where
-          silent : rowFor unit then < length then → ⊥
+          silent : placeFor unit then < length then → ⊥
           silent h =
-              let i = rowFor unit then in
+              let i = placeFor unit then in
               let mine = found-unit unit then h in
               let before = ap (λ (r : Row). r .unit) (sym (still later rows i (λ z. some (sym mine ∙ z)))) ∙ mine in
               some (sym mine ∙ (ap (λ (k : ℕ). row then k .unit) (alone i before) ∙ ap (λ (r : Row). r .unit) (goes e)))
 
   module _ (e : lasts ≡ true) where
-    pub row-lasts : rowFor unit then ≡ at
+    pub row-lasts : placeFor unit then ≡ at
     row-lasts = found-is unit some then at (ap (λ (r : Row). r .unit) (stays e) ∙ own) (ruled-current later (within b w .rows) .units unit some)
 
     pub slots-last : holding b unit later ≡ row rows at .slots
     slots-last = ap (λ (i : ℕ). row then i .slots) row-lasts ∙ ap (λ (r : Row). r .slots) (stays e)
 
 -- the row that a call writes
-module _ {b : Stated} {c : Call} {at : ℕ} {slots : Slots 64} (t : Taken b c at slots) where
+module _ {b : Contents} {c : Call} {at : ℕ} {slots : Slots 64} (t : Taken b c at slots) where
   pub row-written : row (rowsIn (next b c)) at ≡ rowNow (unitOf c) (timeOf c) slots
   row-written =
-      ap (λ (new : Stated). row (rowsIn new) at) (t .book)
+      ap (λ (new : Contents). row (rowsIn new) at) (t .book)
       ∙ (ap (λ (rs : List Row). row rs at) (rows-written b (timeOf c) at (rowNow (unitOf c) (timeOf c) slots) (t .place .there))
       ∙ getD-set-same (rowsAt b (timeOf c)) at (rowNow (unitOf c) (timeOf c) slots) emptyRow (t .place .there))
 

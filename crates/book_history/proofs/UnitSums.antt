@@ -13,7 +13,7 @@ use lib.ListN.{length}
 use Rattle.octets.specs.Lists.{every}
 use Rattle.frame_kinds.specs.Rules.{address}
 use Rattle.slot_sets.specs.Sets.{noSlots}
-use Rattle.book_members.specs.Members.{Row, vacantRow, rowFor}
+use Rattle.book_members.specs.Members.{Row, vacantRow, placeFor}
 use Rattle.book_members.specs.Rules.{rowRule}
 use Rattle.book_members.proofs.RowLaws.{row}
 use Rattle.book_members.proofs.RowSums.{weigh, tally, tally-pass, tally-skip, ofUnit, alone-here, alone-behind}
@@ -125,15 +125,15 @@ module _ (weight : Row → ℕ) where
       go ih false q = omega (arith, ih (sym (tally-skip (ofUnit unit) r rs q) ∙ e))
 
   -- else what the one weighs that it has
-  pub held-by : (unit : ℕ) (rs : List Row) → tally (ofUnit unit) rs ≤ 1 → weigh (mine unit) rs ≡ cond (ltb (rowFor unit rs) (length rs)) (weight (row rs (rowFor unit rs))) 0
-  unfolding weigh rowFor
+  pub held-by : (unit : ℕ) (rs : List Row) → tally (ofUnit unit) rs ≤ 1 → weigh (mine unit) rs ≡ cond (ltb (placeFor unit rs) (length rs)) (weight (row rs (placeFor unit rs))) 0
+  unfolding weigh placeFor
   held-by unit [] h = refl
   held-by unit (r ∷ rs) h = go (ofUnit unit r) refl (held-by unit rs (alone-behind (ofUnit unit) r rs h))
     where
-      go : (b : Bool) → ofUnit unit r ≡ b → weigh (mine unit) rs ≡ cond (ltb (rowFor unit rs) (length rs)) (weight (row rs (rowFor unit rs))) 0
+      go : (b : Bool) → ofUnit unit r ≡ b → weigh (mine unit) rs ≡ cond (ltb (placeFor unit rs) (length rs)) (weight (row rs (placeFor unit rs))) 0
           → cond b (weight r) 0 + weigh (mine unit) rs
-          ≡ cond (ltb (cond b 0 (1 + rowFor unit rs)) (length (r ∷ rs))) (weight (row (r ∷ rs) (cond b 0 (1 + rowFor unit rs)))) 0
+          ≡ cond (ltb (cond b 0 (1 + placeFor unit rs)) (length (r ∷ rs))) (weight (row (r ∷ rs) (cond b 0 (1 + placeFor unit rs)))) 0
       go true q ih =
           let there : ltb 0 (suc (length rs)) ≡ true = lt-ltb 0 (suc (length rs)) (omega arith) in
           rw there (omega (arith, none-mine unit rs (alone-here (ofUnit unit) r rs h q)))
-      go false q ih = rw (one-add, leb·suc-suc (suc (rowFor unit rs)) (length rs)) (omega (arith, ih))
+      go false q ih = rw (one-add, leb·suc-suc (suc (placeFor unit rs)) (length rs)) (omega (arith, ih))

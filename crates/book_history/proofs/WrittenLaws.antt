@@ -13,11 +13,11 @@ use Rattle.book_members.specs.Members.{Row, kept, current}
 use Rattle.book_members.specs.Rules.{emptyIs}
 use Rattle.book_members.proofs.RowLaws.{row, DroppedOn, kept-again, length-current, every-behind, keptAt, current-set}
 use Rattle.book_members.proofs.RowRuleLaws.{empty-is}
-use Rattle.book.specs.Books.{Stated, withinRule, rowsIn, rowsAt, placesAt, withRow}
+use Rattle.book.specs.Books.{Contents, withinRule, rowsIn, rowsAt, placesAt, withRow}
 use Rattle.book.proofs.VisitLaws.{take-current}
 use Rattle.book.proofs.WithinLaws.{RowsRuled, Within, by-parts}
 
-module _ (b : Stated) (time at : ℕ) (r : Row) (there : at < length (rowsAt b time)) where
+module _ (b : Contents) (time at : ℕ) (r : Row) (there : at < length (rowsAt b time)) where
   among-rows : at < b .plan .rows
   among-rows = omega (arith, there, length-current time (rowsIn b), length-take (b .plan .rows) (b .places))
 

@@ -8,8 +8,8 @@ use lib.Dec.{eqb, leb}
 use lib.ListN.{length, getD, drop}
 use Rattle.moments.specs.Elapsed.{Clock, started, nowAt, Step, moved, clockAfter}
 use Rattle.site_plan.specs.declared.plan.Plan.{Plan}
-use Rattle.book_members.specs.Members.{emptyRow, rowFor}
-use Rattle.book.specs.Books.{Stated, Left, rowsIn, heardOf, leaveOf, freshOf}
+use Rattle.book_members.specs.Members.{emptyRow, placeFor}
+use Rattle.book.specs.Books.{Contents, BookChange, rowsIn, heardOf, leaveOf, freshOf}
 use Rattle.book.specs.Schedules.{scheduleOf}
 use Rattle.book_joins.specs.Joins.{joinOf, askOf}
 use Rattle.book_joins.specs.Responses.{slotsTold, toldIn}
@@ -25,7 +25,7 @@ pub data Start : Type 0 where
   -- an image's bytes, the time
   restored : List ℕ → ℕ → Start
 
-abbrev pub begun : Start → Left
+abbrev pub begun : Start → BookChange
 begun (fresh p time) = freshOf p time
 begun (restored s time) = restoreOf s time
 
@@ -44,13 +44,13 @@ unitOf (call c) = keeping.unitOf c
 unitOf (image time out) = 0
 
 -- the book after it; an image only reads it
-abbrev pub next : Stated → Event → Stated
+abbrev pub next : Contents → Event → Contents
 next b (call c) = keeping.next b c
 next b (image time out) = b
 
-abbrev pub after : Stated → List Event → Stated
-after b [] = b
-after b (e ∷ es) = after (next b e) es
+abbrev pub afterEvents : Contents → List Event → Contents
+afterEvents b [] = b
+afterEvents b (e ∷ es) = afterEvents (next b e) es
 
 -- ---- answers
 -- what the caller sees: the number, how many bytes were written, and what the buffer then holds
@@ -62,7 +62,7 @@ pub record Answer : Type 0 where
 abbrev pub answers : ℕ → ℕ → List ℕ → Answer
 answers refused written held = record { refused = refused; written = written; held = held }
 
-abbrev pub answer : Stated → Event → Answer
+abbrev pub answer : Contents → Event → Answer
 answer b (call (join s time out)) = let a = joinOf b s time out in answers (a .refused) (a .written) (a .held)
 answer b (call (ask s time out)) = let a = askOf b s time out in answers (a .refused) (a .written) (a .held)
 answer b (call (heard unit time)) = answers (heardOf b unit time .refused) 0 []
@@ -77,7 +77,7 @@ pub record Happened : Type 0 where
   pub event : Event
   pub answer : Answer
 
-abbrev pub recorded : Stated → List Event → List Happened
+abbrev pub recorded : Contents → List Event → List Happened
 recorded b [] = []
 recorded b (e ∷ es) = record { event = e; answer = answer b e } ∷ recorded (next b e) es
 
@@ -96,7 +96,7 @@ abbrev pub stepOf : Happened → Step
 stepOf h = record { time = timeOf (h .event); changes = eqb (h .answer .refused) 0 && changes (h .event) }
 
 -- the clock of a history that began with a book
-abbrev pub clockOf : Stated → List Happened → Clock
+abbrev pub clockOf : Contents → List Happened → Clock
 clockOf b hs = clockAfter (started (b .time)) (map stepOf hs)
 
 -- ---- grants: what a unit was told, from the record alone
@@ -139,9 +139,9 @@ abbrev pub granted : ℕ → Clock → Grant → List Happened → Grant
 granted = grantedBy toldIn
 
 -- what a unit has at the start: what its row says, in the fresh book or in the image
-abbrev pub granting : Stated → ℕ → Grant
+abbrev pub granting : Contents → ℕ → Grant
 granting b unit =
-    let at = rowFor unit (rowsIn b) in
+    let at = placeFor unit (rowsIn b) in
     let r = getD (rowsIn b) at emptyRow in
     grant (cond (eqb (r .unit) unit) (slotsTold (b .plan) at (r .slots)) []) 0
 
@@ -150,7 +150,7 @@ abbrev pub counts : Plan → ℕ → ℕ → Grant → List ℕ
 counts p unit now g = cond (eqb unit (p .manager) || leb now (g .at + 300000)) (g .told) []
 
 -- the slots that what happened since a book, its answers read so, grants to a unit at a time
-abbrev pub grantedSince : Telling → Stated → List Happened → ℕ → ℕ → List ℕ
+abbrev pub grantedSince : Telling → Contents → List Happened → ℕ → ℕ → List ℕ
 grantedSince told b hs unit time = counts (b .plan) unit (nowAt (clockOf b hs) time) (grantedBy told unit (started (b .time)) (granting b unit) hs)
 
 -- the slots that a history grants to a unit at a time

@@ -13,18 +13,18 @@ use Rattle.moments.specs.Moments.{inOrder}
 use Rattle.frame_kinds.specs.Rules.{address}
 use Rattle.slot_sets.specs.Sets.{count}
 use Rattle.site_plan.specs.Schedules.{sends, inBeacons, inControls, inData}
-use Rattle.book_members.specs.Members.{rowFor, free}
-use Rattle.book.specs.Books.{Stated, withinRule, rowsAt, liveAt}
+use Rattle.book_members.specs.Members.{placeFor, free}
+use Rattle.book.specs.Books.{Contents, withinRule, rowsAt, liveAt}
 use Rattle.book.specs.Schedules.{hopRule, scheduleOf}
 use Rattle.book_joins.specs.Joins.{joinOf}
 use Rattle.book_joins.specs.Responses.{slotsTold}
 use Rattle.book_history.specs.Calls.{join, ask, heard, leave, schedule}
 use Rattle.book_history.specs.Laws.{full, Newcomer, due, Admitted, holding, kindIn}
-use Rattle.book_history.specs.BookEvents.{Start, begun, Event, call, image, unitOf, after, answer, Happened, recorded, stepOf, clockOf, grantedAt, lastAddress, grantedTo, unitsGranted}
+use Rattle.book_history.specs.BookEvents.{Start, begun, Event, call, image, unitOf, afterEvents, answer, Happened, recorded, stepOf, clockOf, grantedAt, lastAddress, grantedTo, unitsGranted}
 
 -- the book after a history
-abbrev pub bookAfter : Start → List Event → Stated
-bookAfter start es = after (begun start .book) es
+abbrev pub bookAfter : Start → List Event → Contents
+bookAfter start es = afterEvents (begun start .book) es
 
 -- ---- the rule
 -- every book of a history is within rule
@@ -32,7 +32,7 @@ abbrev pub StaysWithinRule : Type 0
 StaysWithinRule = (start : Start) (es : List Event) → begun start .refused ≡ 0 → withinRule (bookAfter start es) ≡ true
 
 -- so that 14 is never for the book: it is only for a hop that the caller names
-abbrev pub wrongHop : Stated → Event → Bool
+abbrev pub wrongHop : Contents → Event → Bool
 wrongHop b (call (join s time out)) = false
 wrongHop b (call (ask s time out)) = false
 wrongHop b (call (heard unit time)) = false
@@ -64,8 +64,8 @@ FullByAnswers =
 
 -- ---- holding
 -- the slots that a book has for a unit at a time, its control slot first; none where it is no live member
-abbrev pub slotsAt : Stated → ℕ → ℕ → List ℕ
-slotsAt b unit time = cond (liveAt b unit time) (slotsTold (b .plan) (rowFor unit (rowsAt b time)) (holding b unit time)) []
+abbrev pub slotsAt : Contents → ℕ → ℕ → List ℕ
+slotsAt b unit time = cond (liveAt b unit time) (slotsTold (b .plan) (placeFor unit (rowsAt b time)) (holding b unit time)) []
 
 -- what the book has for a unit is what the start and the answers to the unit's own calls say, whatever others do
 abbrev pub AnswersTell : Type 0

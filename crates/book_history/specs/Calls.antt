@@ -2,7 +2,7 @@
 -- Assumes nothing.
 use Prim.Native.Nat.{ℕ}
 use mathlib.Core.List.{List}
-use Rattle.book.specs.Books.{Stated, heardOf, leaveOf}
+use Rattle.book.specs.Books.{Contents, heardOf, leaveOf}
 use Rattle.book.specs.Schedules.{scheduleOf}
 use Rattle.book_joins.specs.Joins.{joinIn, joinOf, askIn, askOf}
 
@@ -36,7 +36,7 @@ unitOf (leave unit time) = unit
 unitOf (schedule unit hop time out) = unit
 
 -- the number that refuses a call, 0 where it is accepted
-abbrev pub refusalOf : Stated → Call → ℕ
+abbrev pub refusalOf : Contents → Call → ℕ
 refusalOf b (join s time out) = joinOf b s time out .refused
 refusalOf b (ask s time out) = askOf b s time out .refused
 refusalOf b (heard unit time) = heardOf b unit time .refused
@@ -44,7 +44,7 @@ refusalOf b (leave unit time) = leaveOf b unit time .refused
 refusalOf b (schedule unit hop time out) = scheduleOf b unit hop time out .said .refusal
 
 -- the book after a call: a schedule only reads it
-abbrev pub next : Stated → Call → Stated
+abbrev pub next : Contents → Call → Contents
 next b (join s time out) = joinOf b s time out .book
 next b (ask s time out) = askOf b s time out .book
 next b (heard unit time) = heardOf b unit time .book

@@ -24,7 +24,7 @@ use Rattle.book_members.proofs.PairLaws.{led-first, first-led, distinct-pairs, 
 use Rattle.book.specs.Books.{rowsIn, withinRule}
 use Rattle.book.proofs.WithinLaws.{within, by-parts}
 use Rattle.book_image.specs.Forms.{headWidths, headValues, formSize, same, fits}
-use Rattle.book_image.specs.Images.{sections, planIn, rowIn, bookIn, acceptedImage}
+use Rattle.book_image.specs.Images.{sections, planIn, rowIn, imageBook, acceptedImage}
 use Rattle.book_image.specs.Laws.{renewed, Used, Acceptable, AcceptedExactly}
 use Rattle.book_image.proofs.RestoringLaws.{placeIn}
 use Rattle.book_image.proofs.RenewedLaws.{ruled-renewed}
@@ -71,30 +71,30 @@ pub record Good (s : List ℕ) (time : ℕ) : Type 0 where
   pub rows : RowsRuled s time
 
 module _ (s : List ℕ) (time : ℕ) where
-  pub rows-used : planRule (planIn s) ≡ true → rowsIn (bookIn s time) ≡ rowsFrom s time
-  unfolding bookIn
+  pub rows-used : planRule (planIn s) ≡ true → rowsIn (imageBook s time) ≡ rowsFrom s time
+  unfolding imageBook
   rows-used h =
       let count = planIn s .rows in
       take-tab count 21 (placeIn s time count) (omega (arith, rule-bounds (planIn s) h .few-rows)) ∙
       tab-same count (placeIn s time count) (rowIn s time) (λ k l. rw (lt-ltb k count l))
 
-  zeros-behind : every emptyIs (drop (planIn s .rows) (bookIn s time .places)) ≡ true
-  unfolding bookIn
+  zeros-behind : every emptyIs (drop (planIn s .rows) (imageBook s time .places)) ≡ true
+  unfolding imageBook
   zeros-behind =
       let count = planIn s .rows in
       every-behind-tab emptyIs count 21 (placeIn s time count) (λ k l. rw (le-ltb k count l) empty-is)
 
   pub good : acceptedImage s time ≡ true → Good s time
-  unfolding acceptedImage bookIn
+  unfolding acceptedImage imageBook
   good e =
-      let (fit, ok) = and-eq-true-iff (fits (sections (planIn s .rows)) s) (withinRule (bookIn s time)) .0 e in
-      let w = within (bookIn s time) ok in
+      let (fit, ok) = and-eq-true-iff (fits (sections (planIn s .rows)) s) (withinRule (imageBook s time)) .0 e in
+      let w = within (imageBook s time) ok in
       record { fit = fit; plan = w .plan; rows = rw (rows-used (w .plan)) at (w .rows) }
 
   pub accepted : Good s time → acceptedImage s time ≡ true
-  unfolding acceptedImage bookIn
+  unfolding acceptedImage imageBook
   accepted g =
-      rw (g .fit) (by-parts (bookIn s time) (record {
+      rw (g .fit) (by-parts (imageBook s time) (record {
         plan = g .plan;
         few = omega (arith, rule-bounds (planIn s) (g .plan) .few-data-slots);
         rows = rw (rows-used (g .plan)) (g .rows);

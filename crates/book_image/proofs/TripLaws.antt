@@ -27,11 +27,11 @@ use Rattle.book_members.specs.Members.{Row, emptyRow, vacantRow, kept, current}
 use Rattle.book_members.specs.Rules.{rowRule}
 use Rattle.book_members.proofs.RowLaws.{length-current, kept-empty}
 use Rattle.book_members.proofs.RowRuleLaws.{rule-zeros, rule-either}
-use Rattle.book.specs.Books.{Stated, rowsIn, rowsAt}
+use Rattle.book.specs.Books.{Contents, rowsIn, rowsAt}
 use Rattle.book.proofs.WithinLaws.{RowsRuled, Within, within, rows-then}
 use Rattle.site_plan.specs.PlanBytes.{planWidths, planFrom, planAt, planBytes}
 use Rattle.book_image.specs.Forms.{headWidths, headValues, headBytes, formSize}
-use Rattle.book_image.specs.Images.{rowWidths, sections, rowsBytes, imageOf, planIn, rowIn, bookIn}
+use Rattle.book_image.specs.Images.{rowWidths, sections, rowsBytes, imageOf, planIn, rowIn, imageBook}
 use Rattle.book_image.specs.Laws.{WrittenAgain, renewed, Sized, RestoredAs, Restored}
 use Rattle.book_image.proofs.ImageLaws.{rowValues, rows-run, length-head, length-front}
 use Rattle.book_image.proofs.RenewedLaws.{ruled-renewed}
@@ -67,7 +67,7 @@ module _ (s : List ℕ) (time : ℕ) (g : Good s time) where
       go true t = rw (rule-zeros (planIn s .manager) (planIn s .«data_slots») time (rowIn s time i) (row-rule i h) t) (kept-empty time)
       go false t = kept-now time (rowIn s time i) (time-in s time i t)
 
-  rows-stay : rowsAt (bookIn s time) time ≡ rowsFrom s time
+  rows-stay : rowsAt (imageBook s time) time ≡ rowsFrom s time
   rows-stay = ap (current time) (rows-used s time (g .plan)) ∙ current-tab time (planIn s .rows) (rowIn s time) row-stays
 
 module _ (s : List ℕ) (b : Bytes s) where
@@ -90,7 +90,7 @@ module _ (s : List ℕ) (b : Bytes s) where
     all-kept = rw (← take-add 11 9 s, ← take-add 20 (10 * rows) s) (take-all (20 + 10 * rows) s (omega (arith, long)))
 
 pub written-again : WrittenAgain
-unfolding imageOf bookIn
+unfolding imageOf imageBook
 written-again s time b e =
     let g = good s time e in
     let rows = planIn s .rows in
@@ -120,7 +120,7 @@ rows-back : (time : ℕ) (rs : List Row) → map (λ r. rowFrom time (rowValues 
 rows-back time [] = refl
 rows-back time (r ∷ rs) = rw (set-back (r .slots), rows-back time rs)
 
-module _ (b : Stated) (time : ℕ) (z : Sized b) (w : Within b) (h : inOrder (b .time) time ≡ true) where
+module _ (b : Contents) (time : ℕ) (z : Sized b) (w : Within b) (h : inOrder (b .time) time ≡ true) where
   abbrev count : ℕ
   count = b .plan .rows
 
@@ -171,7 +171,7 @@ module _ (b : Stated) (time : ℕ) (z : Sized b) (w : Within b) (h : inOrder (b 
   }
 
   restored-as : RestoredAs b time
-  unfolding bookIn
+  unfolding imageBook
   restored-as = record {
     accepted = accepted image time good-read;
     plan = plan-read;

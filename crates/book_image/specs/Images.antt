@@ -15,7 +15,7 @@ use Rattle.moments.specs.Moments.{inOrder}
 use Rattle.slot_sets.specs.Sets.{slotsOf, maskOf}
 use Rattle.site_plan.specs.declared.plan.Plan.{Plan}
 use Rattle.book_members.specs.Members.{Row, emptyRow}
-use Rattle.book.specs.Books.{Stated, withinRule, rowsAt, Left, left, noBook}
+use Rattle.book.specs.Books.{Contents, withinRule, rowsAt, BookChange, changeTo, noBook}
 use Rattle.site_plan.specs.PlanBytes.{planSize, planAt, planBytes}
 use Rattle.book_image.specs.Forms.{Section, section, headSize, headBytes, formSize, fits}
 
@@ -41,18 +41,18 @@ rowsBytes [] = []
 rowsBytes (r ∷ rs) = bytes rowWidths (r .unit ∷ maskOf (r .slots) ∷ []) ++ rowsBytes rs
 
 -- the image of a book at a time: only live members are written, an empty row is zeros
-unfoldable pub imageOf : Stated → ℕ → List ℕ
+unfoldable pub imageOf : Contents → ℕ → List ℕ
 imageOf b time = headBytes (sections (b .plan .rows)) ++ planBytes (b .plan) ++ rowsBytes (rowsAt b time)
 
 -- 14 8 5, in a buffer with this room
-abbrev pub imageReasons : Stated → ℕ → ℕ → List Reason
+abbrev pub imageReasons : Contents → ℕ → ℕ → List Reason
 imageReasons b time room =
     reason (not (withinRule b)) 14 ∷
     reason (not (inOrder (b .time) time)) 8 ∷
     reason (ltb room (formSize (sections (b .plan .rows)))) 5 ∷
     []
 
-unfoldable pub imageWritten : Stated → ℕ → List ℕ → Wrote
+unfoldable pub imageWritten : Contents → ℕ → List ℕ → Wrote
 imageWritten b time out =
     let refusal = first (imageReasons b time (length out)) in
     record { said = unless refusal (accepted (formSize (sections (b .plan .rows)) ∷ [])); held = after refusal out (sets out 0 (imageOf b time)) }
@@ -69,8 +69,8 @@ rowIn s time i =
     record { unit = getD vs 0 0; slots = slotsOf (getD vs 1 0); time = cond (eqb (getD vs 0 0) 0) 0 time }
 
 -- the book that an image says, restored at a time: as many rows as its plan has, then zeros
-unfoldable pub bookIn : List ℕ → ℕ → Stated
-bookIn s time =
+unfoldable pub imageBook : List ℕ → ℕ → Contents
+imageBook s time =
     record {
       plan = planIn s;
       time = time;
@@ -79,8 +79,8 @@ bookIn s time =
 
 -- an image is accepted exactly if contents and length fit and the book that it says is within rule
 unfoldable pub acceptedImage : List ℕ → ℕ → Bool
-acceptedImage s time = fits (sections (planIn s .rows)) s && withinRule (bookIn s time)
+acceptedImage s time = fits (sections (planIn s .rows)) s && withinRule (imageBook s time)
 
 -- else it is 14, and all is zeros
-unfoldable pub restoreOf : List ℕ → ℕ → Left
-restoreOf s time = left (first (reason (not (acceptedImage s time)) 14 ∷ [])) noBook (bookIn s time)
+unfoldable pub restoreOf : List ℕ → ℕ → BookChange
+restoreOf s time = changeTo (first (reason (not (acceptedImage s time)) 14 ∷ [])) noBook (imageBook s time)

@@ -14,32 +14,32 @@ use Rattle.frame_kinds.specs.Rules.{address}
 use Rattle.slot_sets.specs.Sets.{Slots, Subset, Apart, count, noSlots, firsts}
 use Rattle.site_plan.specs.Plans.{planRule, planValues}
 use Rattle.book_members.specs.Members.{Row, emptyRow, vacantRow, free, vacant}
-use Rattle.book.specs.Books.{Stated, withinRule, rowsAt, rowsIn}
+use Rattle.book.specs.Books.{Contents, withinRule, rowsAt, rowsIn}
 use Rattle.site_plan.specs.PlanBytes.{planWidths}
-use Rattle.book_image.specs.Images.{planIn, rowIn, bookIn, imageOf, acceptedImage}
+use Rattle.book_image.specs.Images.{planIn, rowIn, imageBook, imageOf, acceptedImage}
 
 -- an image that is accepted and written again at once gives the same bytes
 abbrev pub WrittenAgain : Type 0
-WrittenAgain = (s : List ℕ) (time : ℕ) → Bytes s → acceptedImage s time ≡ true → imageOf (bookIn s time) time ≡ s
+WrittenAgain = (s : List ℕ) (time : ℕ) → Bytes s → acceptedImage s time ≡ true → imageOf (imageBook s time) time ≡ s
 
 -- a row whose time is another's; an empty one stays
 abbrev pub renewed : ℕ → Row → Row
 renewed time r = record { unit = r .unit; slots = r .slots; time = cond (vacantRow r) 0 time }
 
 -- a book as the code can have it: 21 places, and the plan's numbers fit their bytes
-pub record Sized (b : Stated) : Type 0 where
+pub record Sized (b : Contents) : Type 0 where
   pub places : length (b .places) ≡ 21
   pub plan : Fit planWidths (planValues (b .plan))
 
 -- a book written and restored at one time is accepted: it is the book with its silent members dropped and every time the restore's
-pub record RestoredAs (b : Stated) (time : ℕ) : Type 0 where
+pub record RestoredAs (b : Contents) (time : ℕ) : Type 0 where
   pub accepted : acceptedImage (imageOf b time) time ≡ true
-  pub plan : bookIn (imageOf b time) time .plan ≡ b .plan
-  pub began : bookIn (imageOf b time) time .time ≡ time
-  pub rows : rowsIn (bookIn (imageOf b time) time) ≡ map (renewed time) (rowsAt b time)
+  pub plan : imageBook (imageOf b time) time .plan ≡ b .plan
+  pub began : imageBook (imageOf b time) time .time ≡ time
+  pub rows : rowsIn (imageBook (imageOf b time) time) ≡ map (renewed time) (rowsAt b time)
 
 abbrev pub Restored : Type 0
-Restored = (b : Stated) (time : ℕ) → Sized b → withinRule b ≡ true → inOrder (b .time) time ≡ true → RestoredAs b time
+Restored = (b : Contents) (time : ℕ) → Sized b → withinRule b ≡ true → inOrder (b .time) time ≡ true → RestoredAs b time
 
 -- a row that is in use: an address, with 1 to 4 of the data slots
 pub record Used (dataSlots : ℕ) (r : Row) : Type 0 where

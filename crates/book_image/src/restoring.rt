@@ -6,7 +6,7 @@ ghost use lib.Dec.{ltb};
 ghost use Rattle.octets.specs.Lists.{tab};
 ghost use Rattle.octets.specs.Numbers.{num};
 ghost use Rattle.book_members.specs.Members.{rowOf, rowsOf, emptyRow};
-ghost use Rattle.book.specs.Books.{leftBy};
+ghost use Rattle.book.specs.Books.{changeOf};
 ghost use Rattle.book_image.specs.Forms.{fits};
 ghost use Rattle.book_image.specs.Images.{sections, rowIn, restoreOf};
 use crate::writing::size_for;
@@ -102,7 +102,7 @@ fn members_in(s: &[u8], time: u32, count: u8) -> [Member; 21]
 
 // The book of an accepted image, at a time; any other bytes are refused, with zeros.
 pub fn restore(image: &[u8], time: u32) -> Changed
-    ensures { λ r. ⌜ leftBy r ≡ restoreOf (now (image .entry)) time ⌝ }
+    ensures { λ r. ⌜ changeOf r ≡ restoreOf (now (image .entry)) time ⌝ }
 {
     let plan = plan_of(image, 11);
     let rows = members_in(image, time, plan.rows);

@@ -8,7 +8,7 @@ ghost use Rattle.octets.specs.Layouts.{bytes};
 ghost use Rattle.octets.specs.Told.{wrote};
 ghost use Rattle.slot_sets.specs.Sets.{slotsOf, maskOf};
 ghost use Rattle.book_members.specs.Members.{rowsOf};
-ghost use Rattle.book.specs.Books.{stated};
+ghost use Rattle.book.specs.Books.{contents};
 ghost use Rattle.book_image.specs.Forms.{headBytes, formSize};
 ghost use Rattle.book_image.specs.Images.{rowWidths, sections, rowsBytes, imageReasons, imageWritten};
 use book::book::Book;
@@ -75,7 +75,7 @@ fn put_rows(out: &mut [u8], rows: [Member; 21], count: u8)
 
 // Why no image is written in a buffer with this room; 0 where one is.
 fn refusal(book: Book, time: u32, room: usize) -> u8
-    ensures { λ r. ⌜ r ≡ first (imageReasons (stated book) time room) ⌝ }
+    ensures { λ r. ⌜ r ≡ first (imageReasons (contents book) time room) ⌝ }
 {
     let plan = book.plan;
     let refused = refuse_if(room < size_for(plan.rows), 5, 0);
@@ -85,7 +85,7 @@ fn refusal(book: Book, time: u32, room: usize) -> u8
 
 // Writes the image of a book at a time.
 pub fn write_image(book: Book, time: u32, out: &mut [u8]) -> Written
-    ensures { λ r. ⌜ wrote r (now (out .exit)) ≡ imageWritten (stated book) time (now (out .entry)) ⌝ }
+    ensures { λ r. ⌜ wrote r (now (out .exit)) ≡ imageWritten (contents book) time (now (out .entry)) ⌝ }
 {
     let refused = refusal(book, time, out.len());
     if refused != 0 {

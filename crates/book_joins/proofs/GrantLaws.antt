@@ -12,9 +12,9 @@ use lib.Seq.{sets}
 use Rattle.octets.specs.Calls.{after}
 use Rattle.slot_sets.specs.Sets.{Slots, union, count, lowest, withoutHighest, slotsOf}
 use Rattle.slot_sets.proofs.MaskLaws.{mask-nothing}
-use Rattle.book_members.specs.Members.{Row, emptyRow, rowFor, free, vacant}
-use Rattle.book.specs.Books.{Stated, placesAt, withRow}
-use Rattle.book_joins.specs.Joins.{wish, granted, brought, asks, Answered, grants}
+use Rattle.book_members.specs.Members.{Row, emptyRow, placeFor, free, vacant}
+use Rattle.book.specs.Books.{Contents, placesAt, withRow}
+use Rattle.book_joins.specs.Joins.{wish, grantFor, brought, asks, Answered, grants}
 use Rattle.book_joins.specs.Responses.{responses}
 use Rattle.book_joins.proofs.ResponseLaws.{length-responses}
 
@@ -24,12 +24,12 @@ none-behind n rs at h =
     mask-nothing ∙ ap (λ (r : Row). r .slots) (sym (List·getD-eq-default (take n rs) emptyRow (omega (arith, length-take n rs))))
 
 -- a unit's row is one of the rows, or just past them
-pub row-within : (unit : ℕ) (rs : List Row) → rowFor unit rs ≤ length rs
-unfolding rowFor
+pub row-within : (unit : ℕ) (rs : List Row) → placeFor unit rs ≤ length rs
+unfolding placeFor
 row-within unit [] = omega arith
 row-within unit (r ∷ rs) = go (eqb (r .unit) unit) (row-within unit rs)
   where
-    go : (b : Bool) → rowFor unit rs ≤ length rs → cond b 0 (1 + rowFor unit rs) ≤ suc (length rs)
+    go : (b : Bool) → placeFor unit rs ≤ length rs → cond b 0 (1 + placeFor unit rs) ≤ suc (length rs)
     go true h = omega arith
     go false h = omega arith
 
@@ -49,13 +49,13 @@ module _ (to held : ℕ) (own spaces : Slots 64) (e : held ≡ count own) where
 -- what is granted of the slots that the rows leave free
 module _ (dataSlots : ℕ) (rs : List Row) (spaces held got : Slots 64) (empty asked : ℕ) (s : spaces ≡ free dataSlots rs) (e : empty ≡ vacant rs) where
   pub is-seated : (live : Bool) (own : Slots 64) → held ≡ own → got ≡ cond live held (lowest (min (wish asked) (count spaces - empty + 1)) spaces)
-      → got ≡ cond live own (granted dataSlots rs asked)
+      → got ≡ cond live own (grantFor dataSlots rs asked)
   is-seated live own h g = rw (g, h, s, e)
 
   pub is-asked : got ≡ brought (min (wish asked) (count held + (count spaces - empty))) held spaces → got ≡ asks dataSlots rs held asked
   is-asked g = rw (g, s, e)
 
-module _ (n : ℕ) (b : Stated) (unit time at : ℕ) (own : Slots 64) (out : List ℕ) where
+module _ (n : ℕ) (b : Contents) (unit time at : ℕ) (own : Slots 64) (out : List ℕ) where
   pub unsettled : (n ≡ 0 → ⊥) → record { refused = n; written = 0; book = b; held = out } ≡ grants n b unit time at own out
   unsettled z = rw (ne-eqb n 0 z)
 

@@ -15,8 +15,8 @@ use Rattle.frame_requests.specs.declared.join_request.JoinRequest.{JoinRequest}
 use Rattle.frame_requests.specs.declared.slot_request.SlotRequest.{SlotRequest}
 use Rattle.frame_requests.specs.Requests.{joinRequest, joinRequestFrom, slotRequest, slotRequestFrom}
 use Rattle.slot_sets.specs.Sets.{Slots, union, count, lowest, withoutHighest}
-use Rattle.book_members.specs.Members.{Row, emptyRow, rowFor, free, vacant, spare}
-use Rattle.book.specs.Books.{Stated, stated, withinRule, rowsAt, liveAt, withRow}
+use Rattle.book_members.specs.Members.{Row, emptyRow, placeFor, free, vacant, spare}
+use Rattle.book.specs.Books.{Contents, contents, withinRule, rowsAt, liveAt, withRow}
 use Rattle.book_joins.specs.declared.grants.Granted.{Granted}
 use Rattle.book_joins.specs.Responses.{responses}
 
@@ -26,8 +26,8 @@ abbrev pub wish : ℕ → ℕ
 wish asked = min (max 1 asked) 4
 
 -- a newcomer's slots: the lowest min(max(1, asked), 4, spare+1) free ones
-abbrev pub granted : ℕ → List Row → ℕ → Slots 64
-granted dataSlots rs asked = lowest (min (wish asked) (spare dataSlots rs + 1)) (free dataSlots rs)
+abbrev pub grantFor : ℕ → List Row → ℕ → Slots 64
+grantFor dataSlots rs asked = lowest (min (wish asked) (spare dataSlots rs + 1)) (free dataSlots rs)
 
 -- a holding brought to so many slots: the lowest free ones are added, or its own highest released
 abbrev pub brought : ℕ → Slots 64 → Slots 64 → Slots 64
@@ -42,15 +42,15 @@ asks dataSlots rs own asked = brought (min (wish asked) (count own + spare dataS
 pub record Answered : Type 0 where
   pub refused : ℕ
   pub written : ℕ
-  pub book : Stated
+  pub book : Contents
   pub held : List ℕ
 
 -- what an answer of the code and its buffer stand for
 abbrev pub answeredBy : Granted → List ℕ → Answered
-answeredBy g held = record { refused = g .refused; written = g .written; book = stated (g .book); held = held }
+answeredBy g held = record { refused = g .refused; written = g .written; book = contents (g .book); held = held }
 
 -- where nothing refuses it, the unit's row is written, and its responses
-abbrev pub grants : ℕ → Stated → ℕ → ℕ → ℕ → Slots 64 → List ℕ → Answered
+abbrev pub grants : ℕ → Contents → ℕ → ℕ → ℕ → Slots 64 → List ℕ → Answered
 grants refused b unit time at own out =
     let bytes = responses (b .plan) unit time at own in
     record {
@@ -65,22 +65,22 @@ abbrev pub joinIn : List ℕ → JoinRequest
 joinIn s = joinRequestFrom (valuesIn joinRequest s)
 
 -- the row that a unit joins into: its own where it is a live member, else the lowest free one
-abbrev pub seat : Stated → ℕ → ℕ → ℕ
-seat b unit time = cond (liveAt b unit time) (rowFor unit (rowsAt b time)) (rowFor 0 (rowsAt b time))
+abbrev pub seat : Contents → ℕ → ℕ → ℕ
+seat b unit time = cond (liveAt b unit time) (placeFor unit (rowsAt b time)) (placeFor 0 (rowsAt b time))
 
 -- what it then holds: a live member what it held, a newcomer what it is granted
-abbrev pub seated : Stated → ℕ → ℕ → ℕ → Slots 64
+abbrev pub seated : Contents → ℕ → ℕ → ℕ → Slots 64
 seated b unit time asked =
     cond (liveAt b unit time)
-    (getD (rowsAt b time) (rowFor unit (rowsAt b time)) emptyRow .slots)
-    (granted (b .plan .«data_slots») (rowsAt b time) asked)
+    (getD (rowsAt b time) (placeFor unit (rowsAt b time)) emptyRow .slots)
+    (grantFor (b .plan .«data_slots») (rowsAt b time) asked)
 
 -- no row is free, and the unit has none
-abbrev pub noRowFor : Stated → ℕ → ℕ → Bool
+abbrev pub noRowFor : Contents → ℕ → ℕ → Bool
 noRowFor b unit time = not (liveAt b unit time) && eqb (vacant (rowsAt b time)) 0
 
 -- 14 1 2 1 3 4 6 15 8 12 5, where there is no row or is one, and the responses do not fit or do; a request for network 0 is for any
-abbrev pub joinReasons : Stated → List ℕ → ℕ → Bool → Bool → List Reason
+abbrev pub joinReasons : Contents → List ℕ → ℕ → Bool → Bool → List Reason
 joinReasons b s time noRow short =
     reason (not (withinRule b)) 14 ∷
     refusing (refusalAs joinRequest s) ∷
@@ -91,7 +91,7 @@ joinReasons b s time noRow short =
     reason short 5 ∷
     []
 
-unfoldable pub joinOf : Stated → List ℕ → ℕ → List ℕ → Answered
+unfoldable pub joinOf : Contents → List ℕ → ℕ → List ℕ → Answered
 joinOf b s time out =
     let unit = joinIn s .node in
     let at = seat b unit time in
@@ -104,7 +104,7 @@ abbrev pub askIn : List ℕ → SlotRequest
 askIn s = slotRequestFrom (valuesIn slotRequest s)
 
 -- 14 1 2 1 3 4 6 8 13 5, where the unit is a live member or not, and the responses do not fit or do
-abbrev pub askReasons : Stated → List ℕ → ℕ → Bool → Bool → List Reason
+abbrev pub askReasons : Contents → List ℕ → ℕ → Bool → Bool → List Reason
 askReasons b s time live short =
     reason (not (withinRule b)) 14 ∷
     refusing (refusalAs slotRequest s) ∷
@@ -114,10 +114,10 @@ askReasons b s time live short =
     reason short 5 ∷
     []
 
-unfoldable pub askOf : Stated → List ℕ → ℕ → List ℕ → Answered
+unfoldable pub askOf : Contents → List ℕ → ℕ → List ℕ → Answered
 askOf b s time out =
     let unit = askIn s .node in
-    let at = rowFor unit (rowsAt b time) in
+    let at = placeFor unit (rowsAt b time) in
     let own = asks (b .plan .«data_slots») (rowsAt b time) (getD (rowsAt b time) at emptyRow .slots) (askIn s .slots) in
     let short = ltb (length out) (length (responses (b .plan) unit time at own)) in
     grants (first (askReasons b s time (liveAt b unit time) short)) b unit time at own out

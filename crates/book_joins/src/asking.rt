@@ -3,7 +3,7 @@ ghost use mathlib.Core.Path.{_≡_};
 ghost use Prim.Native.Nat.{_+_, _-_, min};
 ghost use Rattle.octets.specs.Answers.{first};
 ghost use Rattle.slot_sets.specs.Sets.{slotsOf, count};
-ghost use Rattle.book.specs.Books.{stated};
+ghost use Rattle.book.specs.Books.{contents};
 ghost use Rattle.book_joins.specs.Joins.{wish, brought, answeredBy, askReasons, askOf};
 use crate::grants::Granted;
 use crate::grants::fewer;
@@ -46,7 +46,7 @@ fn asks(own: u64, spaces: u64, empty: u8, asked: u8) -> u64
 
 // Why a slot request is refused, by a unit that is a live member or not, whose responses do not fit or do; 0 where it is not.
 fn refusal(book: Book, frame: &[u8], time: u32, live: bool, short: bool) -> u8
-    ensures { λ r. ⌜ r ≡ first (askReasons (stated book) (now (frame .entry)) time live short) ⌝ }
+    ensures { λ r. ⌜ r ≡ first (askReasons (contents book) (now (frame .entry)) time live short) ⌝ }
 {
     let unread = slot_request(frame);
     let unit = SlotRequest::of(frame).node;
@@ -61,7 +61,7 @@ fn refusal(book: Book, frame: &[u8], time: u32, live: bool, short: bool) -> u8
 
 // A live member asks for slots: it is told all that it then holds.
 pub fn ask(book: Book, frame: &[u8], time: u32, out: &mut [u8]) -> Granted
-    ensures { λ r. ⌜ answeredBy r (now (out .exit)) ≡ askOf (stated book) (now (frame .entry)) time (now (out .entry)) ⌝ }
+    ensures { λ r. ⌜ answeredBy r (now (out .exit)) ≡ askOf (contents book) (now (frame .entry)) time (now (out .entry)) ⌝ }
 {
     let request = SlotRequest::of(frame);
     let unit = request.node;

@@ -4,7 +4,7 @@ ghost use mathlib.Core.Bool.{cond};
 ghost use Prim.Native.Nat.{_+_, _-_, min};
 ghost use Rattle.octets.specs.Answers.{first};
 ghost use Rattle.slot_sets.specs.Sets.{slotsOf, count, lowest};
-ghost use Rattle.book.specs.Books.{stated};
+ghost use Rattle.book.specs.Books.{contents};
 ghost use Rattle.book_joins.specs.Joins.{wish, answeredBy, joinReasons, joinOf};
 use crate::grants::Granted;
 use crate::grants::fewer;
@@ -44,7 +44,7 @@ fn seated(live: bool, held: u64, spaces: u64, empty: u8, asked: u8) -> u64
 
 // Why a join request is refused, where there is no row for the unit or is one, and its responses do not fit or do; 0 where it is not.
 fn refusal(book: Book, frame: &[u8], time: u32, no_row: bool, short: bool) -> u8
-    ensures { λ r. ⌜ r ≡ first (joinReasons (stated book) (now (frame .entry)) time «no_row» short) ⌝ }
+    ensures { λ r. ⌜ r ≡ first (joinReasons (contents book) (now (frame .entry)) time «no_row» short) ⌝ }
 {
     let unread = join_request(frame);
     let request = JoinRequest::of(frame);
@@ -62,7 +62,7 @@ fn refusal(book: Book, frame: &[u8], time: u32, no_row: bool, short: bool) -> u8
 
 // A unit asks to be a member: it is told its row and its slots.
 pub fn join(book: Book, frame: &[u8], time: u32, out: &mut [u8]) -> Granted
-    ensures { λ r. ⌜ answeredBy r (now (out .exit)) ≡ joinOf (stated book) (now (frame .entry)) time (now (out .entry)) ⌝ }
+    ensures { λ r. ⌜ answeredBy r (now (out .exit)) ≡ joinOf (contents book) (now (frame .entry)) time (now (out .entry)) ⌝ }
 {
     let request = JoinRequest::of(frame);
     let unit = request.node;

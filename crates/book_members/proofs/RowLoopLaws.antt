@@ -15,7 +15,7 @@ use Rattle.octets.specs.Lists.{every}
 use Rattle.moments.specs.Moments.{ageAt}
 use Rattle.slot_sets.specs.Sets.{slotsOf, disjoint, count}
 use Rattle.slot_sets.proofs.MaskLaws.{mask-nothing}
-use Rattle.book_members.specs.Members.{Row, rowOf, rowsOf, emptyRow, kept, current, rowFor, held, free, vacant}
+use Rattle.book_members.specs.Members.{Row, rowOf, rowsOf, emptyRow, kept, current, placeFor, heldSlots, free, vacant}
 use Rattle.book_members.specs.Rules.{emptyIs, rowRule, distinct, apart, judged, ledBy, rowsRule}
 
 -- what an array reads as past its end
@@ -47,23 +47,23 @@ module _ (ms : List Member) (n : ℕ) (l : length ms ≡ 21) where
       row-and-rest (i - 1) (omega (arith, h)) ∙ ap (λ (k : ℕ). rowOf (getD ms (i - 1) nobody) ∷ drop k rows) e
 
   -- upward: looking for a unit
-  module _ (unit i : ℕ) (e : rowFor unit rows ≡ i + rowFor unit (drop i rows)) where
-    pub row-found : i < min n 21 → getD ms i nobody .unit ≡ unit → i ≡ rowFor unit rows
-    unfolding rowFor
+  module _ (unit i : ℕ) (e : placeFor unit rows ≡ i + placeFor unit (drop i rows)) where
+    pub row-found : i < min n 21 → getD ms i nobody .unit ≡ unit → i ≡ placeFor unit rows
+    unfolding placeFor
     row-found h q =
-        let z : rowFor unit (drop i rows) ≡ 0 = ap (rowFor unit) (row-and-rest i h) ∙ rw (eq-eqb (getD ms i nobody .unit) unit q) in
+        let z : placeFor unit (drop i rows) ≡ 0 = ap (placeFor unit) (row-and-rest i h) ∙ rw (eq-eqb (getD ms i nobody .unit) unit q) in
         omega (arith, e, z)
 
-    pub row-on : i < min n 21 → (getD ms i nobody .unit ≡ unit → ⊥) → rowFor unit rows ≡ (i + 1) + rowFor unit (drop (i + 1) rows)
-    unfolding rowFor
+    pub row-on : i < min n 21 → (getD ms i nobody .unit ≡ unit → ⊥) → placeFor unit rows ≡ (i + 1) + placeFor unit (drop (i + 1) rows)
+    unfolding placeFor
     row-on h q =
-        let z : rowFor unit (drop i rows) ≡ 1 + rowFor unit (drop (suc i) rows) = ap (rowFor unit) (row-and-rest i h) ∙ rw (ne-eqb (getD ms i nobody .unit) unit q) in
+        let z : placeFor unit (drop i rows) ≡ 1 + placeFor unit (drop (suc i) rows) = ap (placeFor unit) (row-and-rest i h) ∙ rw (ne-eqb (getD ms i nobody .unit) unit q) in
         rw add-one (omega (arith, e, z))
 
-    pub row-none : i ≡ min n 21 → i ≡ rowFor unit rows
-    unfolding rowFor
+    pub row-none : i ≡ min n 21 → i ≡ placeFor unit rows
+    unfolding placeFor
     row-none h =
-        let z : rowFor unit (drop i rows) ≡ 0 = ap (rowFor unit) (none-left i (omega (arith, h))) in
+        let z : placeFor unit (drop i rows) ≡ 0 = ap (placeFor unit) (none-left i (omega (arith, h))) in
         omega (arith, e, z)
 
 -- ---- live or silent
@@ -108,7 +108,7 @@ pub judged-all : (manager dataSlots last : ℕ) (rs : List Row) → judged manag
 unfolding every
 judged-all manager dataSlots last [] = refl
 judged-all manager dataSlots last (r ∷ rs) =
-    rw (judged-all manager dataSlots last rs) (regroup (rowRule manager dataSlots last r) (disjoint (r .slots) (held rs)) (every (rowRule manager dataSlots last) rs) (apart rs))
+    rw (judged-all manager dataSlots last rs) (regroup (rowRule manager dataSlots last r) (disjoint (r .slots) (heldSlots rs)) (every (rowRule manager dataSlots last) rs) (apart rs))
   where
     regroup : (r d e a : Bool) → (r && d && (e && a)) ≡ ((r && e) && (d && a))
     regroup true true e a = refl

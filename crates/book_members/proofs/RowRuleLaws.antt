@@ -17,7 +17,7 @@ use Rattle.slot_sets.specs.Sets.{Slots, has, count, isEmpty, Subset, noSlots, u
 use Rattle.slot_sets.proofs.SetLaws.{nothing-has, empty-is-nothing, subset-by-minus, union-either, in-union, minus-both, meet-subset}
 use Rattle.slot_sets.proofs.CountLaws.{empty-by-count, count-of-union, count-of-minus}
 use Rattle.slot_sets.proofs.LowestLaws.{count-of-firsts}
-use Rattle.book_members.specs.Members.{Row, emptyRow, vacantRow, kept, current, rowFor, held, free, vacant, spare}
+use Rattle.book_members.specs.Members.{Row, emptyRow, vacantRow, kept, current, placeFor, heldSlots, free, vacant, spare}
 use Rattle.book_members.specs.Rules.{emptyIs, rowRule, distinct, apart, ledBy, rowsRule}
 use Rattle.book_members.proofs.RowLaws.{row, every-map, every-current, every-set, kept-either}
 use Rattle.book_members.proofs.RowSums.{weigh, weigh-set, weigh-current, one, tally, ofUnit, owns, distinct-tally, tally-distinct, held-none, apart-tally, tally-apart}
@@ -123,26 +123,26 @@ unfolding weigh vacant
 all-needs [] = refl
 all-needs (r ∷ rs) = omega (arith, all-needs rs)
 
-pub count-held : (rs : List Row) → apart rs ≡ true → count (held rs) ≡ holdings rs
-unfolding weigh held
+pub count-held : (rs : List Row) → apart rs ≡ true → count (heldSlots rs) ≡ holdings rs
+unfolding weigh heldSlots
 count-held [] e = no-count
 count-held (r ∷ rs) e =
-    let (here, later) = and-eq-true-iff (disjoint (r .slots) (held rs)) (apart rs) .0 e in
-    omega (arith, count-of-union 64 (r .slots) (held rs) here, count-held rs later)
+    let (here, later) = and-eq-true-iff (disjoint (r .slots) (heldSlots rs)) (apart rs) .0 e in
+    omega (arith, count-of-union 64 (r .slots) (heldSlots rs) here, count-held rs later)
 
-held-inside : (manager dataSlots last : ℕ) (rs : List Row) → every (rowRule manager dataSlots last) rs ≡ true → Subset (held rs) (firsts dataSlots)
-unfolding held every
+held-inside : (manager dataSlots last : ℕ) (rs : List Row) → every (rowRule manager dataSlots last) rs ≡ true → Subset (heldSlots rs) (firsts dataSlots)
+unfolding heldSlots every
 held-inside manager dataSlots last [] e = λ i h. absurd (false≢true (sym (nothing-has 64 i) ∙ h))
 held-inside manager dataSlots last (r ∷ rs) e =
     let (here, later) = and-eq-true-iff (rowRule manager dataSlots last r) (every (rowRule manager dataSlots last) rs) .0 e in
-    in-union (r .slots) (held rs) (firsts dataSlots) (rule-inside manager dataSlots last r here) (held-inside manager dataSlots last rs later)
+    in-union (r .slots) (heldSlots rs) (firsts dataSlots) (rule-inside manager dataSlots last r here) (held-inside manager dataSlots last rs later)
 
 -- free slots and those held are all the data slots
 pub accounted : (manager dataSlots last : ℕ) (rs : List Row) → dataSlots ≤ 64 → every (rowRule manager dataSlots last) rs ≡ true → apart rs ≡ true
     → count (free dataSlots rs) + holdings rs ≡ dataSlots
 accounted manager dataSlots last rs h each e =
-    let all = ap count (meet-subset (firsts dataSlots) (held rs) (held-inside manager dataSlots last rs each)) in
-    omega (arith, count-of-minus 64 (firsts dataSlots) (held rs), all, count-held rs e, count-of-firsts dataSlots)
+    let all = ap count (meet-subset (firsts dataSlots) (heldSlots rs) (held-inside manager dataSlots last rs each)) in
+    omega (arith, count-of-minus 64 (firsts dataSlots) (heldSlots rs), all, count-held rs e, count-of-firsts dataSlots)
 
 -- ---- all rows
 -- the rule as sums: at most one row of a unit, at most one owner of a slot, and no more needed than there is
@@ -282,7 +282,7 @@ module _ {manager dataSlots last : ℕ} {rs : List Row} (g : Ruled manager dataS
   pub record Seat (unit : ℕ) : Type 0 where
     pub there : at < length rs
     pub own : (old .unit ≡ 0 → ⊥) → old .unit ≡ unit
-    pub first : at ≤ rowFor unit rs
+    pub first : at ≤ placeFor unit rs
     pub leads : at ≡ 0 → unit ≡ manager
     pub alone : tally (ofUnit unit) rs ≤ one (ofUnit unit) old
 
@@ -295,10 +295,10 @@ module _ {manager dataSlots last : ℕ} {rs : List Row} (g : Ruled manager dataS
 
   module _ (small : dataSlots ≤ 64) (r : Row) (seat : Seat (r .unit)) (share : Share (r .slots)) (is-address : address (r .unit) ≡ true) (past : inOrder (r .time) last ≡ true) where
     -- a slot of it was the row's, or no one's
-    taken : {P : Type 0} (i : ℕ) → has (r .slots) i ≡ true → (has (old .slots) i ≡ true → P) → (has (firsts dataSlots) i ≡ true → has (held rs) i ≡ false → P) → P
+    taken : {P : Type 0} (i : ℕ) → has (r .slots) i ≡ true → (has (old .slots) i ≡ true → P) → (has (firsts dataSlots) i ≡ true → has (heldSlots rs) i ≡ false → P) → P
     taken i h f g =
         union-either (old .slots) (free dataSlots rs) i (share .from i h) f
-        (λ e. let (in-firsts, unheld) = minus-both (firsts dataSlots) (held rs) i e in g in-firsts unheld)
+        (λ e. let (in-firsts, unheld) = minus-both (firsts dataSlots) (heldSlots rs) i e in g in-firsts unheld)
 
     units-taken : (unit : ℕ) → (unit ≡ 0 → ⊥) → tally (ofUnit unit) rs + one (ofUnit unit) r ≤ 1 + one (ofUnit unit) old
     units-taken unit z = go (ofUnit unit r) refl

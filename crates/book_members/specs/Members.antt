@@ -40,19 +40,19 @@ current time [] = []
 current time (r ∷ rs) = r ∷ map (kept time) rs
 
 -- the first row of a unit, or how many rows there are; of unit 0 the lowest free row
-unfoldable pub rowFor : ℕ → List Row → ℕ
-rowFor unit [] = 0
-rowFor unit (r ∷ rs) = cond (eqb (r .unit) unit) 0 (1 + rowFor unit rs)
+unfoldable pub placeFor : ℕ → List Row → ℕ
+placeFor unit [] = 0
+placeFor unit (r ∷ rs) = cond (eqb (r .unit) unit) 0 (1 + placeFor unit rs)
 
 -- ---- slots
 -- those that some row holds
-unfoldable pub held : List Row → Slots 64
-held [] = noSlots
-held (r ∷ rs) = union (r .slots) (held rs)
+unfoldable pub heldSlots : List Row → Slots 64
+heldSlots [] = noSlots
+heldSlots (r ∷ rs) = union (r .slots) (heldSlots rs)
 
 -- the data slots, of so many, that none holds
 abbrev pub free : ℕ → List Row → Slots 64
-free dataSlots rs = minus (firsts dataSlots) (held rs)
+free dataSlots rs = minus (firsts dataSlots) (heldSlots rs)
 
 -- how many rows are free
 unfoldable pub vacant : List Row → ℕ

@@ -8,7 +8,7 @@ use Rattle.octets.specs.Lists.{every}
 use Rattle.moments.specs.Moments.{inOrder}
 use Rattle.frame_kinds.specs.Rules.{address}
 use Rattle.slot_sets.specs.Sets.{minus, count, isEmpty, disjoint, firsts}
-use Rattle.book_members.specs.Members.{Row, vacantRow, held, free, vacant}
+use Rattle.book_members.specs.Members.{Row, vacantRow, heldSlots, free, vacant}
 
 -- a row is zeros
 abbrev pub emptyIs : Row → Bool
@@ -33,12 +33,12 @@ distinct (r ∷ rs) = (vacantRow r || unknownIn (r .unit) rs) && distinct rs
 -- sets are disjoint
 abbrev pub apart : List Row → Bool
 apart [] = true
-apart (r ∷ rs) = disjoint (r .slots) (held rs) && apart rs
+apart (r ∷ rs) = disjoint (r .slots) (heldSlots rs) && apart rs
 
 -- each row by itself, and its slots against those of the rows behind it, as one loop sees them
 abbrev pub judged : ℕ → ℕ → ℕ → List Row → Bool
 judged manager dataSlots last [] = true
-judged manager dataSlots last (r ∷ rs) = rowRule manager dataSlots last r && disjoint (r .slots) (held rs) && judged manager dataSlots last rs
+judged manager dataSlots last (r ∷ rs) = rowRule manager dataSlots last r && disjoint (r .slots) (heldSlots rs) && judged manager dataSlots last rs
 
 -- the first row is the manager's
 abbrev pub ledBy : ℕ → List Row → Bool

@@ -4,7 +4,7 @@ ghost use mathlib.Core.Bool.{cond};
 ghost use Prim.Native.Nat.{min, _≤_};
 ghost use lib.ListN.{length, take};
 ghost use Rattle.slot_sets.specs.Sets.{slotsOf};
-ghost use Rattle.book_members.specs.Members.{rowsOf, rowFor, free, vacant};
+ghost use Rattle.book_members.specs.Members.{rowsOf, placeFor, free, vacant};
 use crate::member::Member;
 use crate::rows::in_use;
 use slot_sets::masks::below;
@@ -28,7 +28,7 @@ pub fn either(test: bool, first: usize, second: usize) -> usize
 
 // One loop for all four, since each call with the rows copies them.
 pub fn counted(rows: [Member; 21], count: u8, data_slots: u8, unit: u16) -> Census
-    ensures { λ r. ⌜ (r .own ≡ rowFor unit (take count (rowsOf rows))) × (r .place ≡ rowFor 0 (take count (rowsOf rows))) × (slotsOf (r .slots) ≡ free «data_slots» (take count (rowsOf rows))) × (r .vacant ≡ vacant (take count (rowsOf rows))) × (r .vacant ≤ 21) × (length (take count (rowsOf rows)) ≡ min count 21) ⌝ }
+    ensures { λ r. ⌜ (r .own ≡ placeFor unit (take count (rowsOf rows))) × (r .place ≡ placeFor 0 (take count (rowsOf rows))) × (slotsOf (r .slots) ≡ free «data_slots» (take count (rowsOf rows))) × (r .vacant ≡ vacant (take count (rowsOf rows))) × (r .vacant ≤ 21) × (length (take count (rowsOf rows)) ≡ min count 21) ⌝ }
 {
     let used = in_use(count);
     let mut own = used;

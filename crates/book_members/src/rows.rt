@@ -4,7 +4,7 @@ ghost use mathlib.Core.Bool.{cond};
 ghost use Prim.Native.Nat.{min, _≤_};
 ghost use lib.ListN.{length, getD, take, set};
 ghost use Rattle.slot_sets.specs.Sets.{slotsOf};
-ghost use Rattle.book_members.specs.Members.{rowOf, rowsOf, emptyRow, kept, current, rowFor};
+ghost use Rattle.book_members.specs.Members.{rowOf, rowsOf, emptyRow, kept, current, placeFor};
 use crate::member::Member;
 use moments::age;
 
@@ -17,7 +17,7 @@ pub fn in_use(count: u8) -> usize
 
 // The first row of a unit, or how many rows there are; of unit 0 the lowest free row.
 pub fn row_for(rows: [Member; 21], count: u8, unit: u16) -> usize
-    ensures { λ r. ⌜ (r ≡ rowFor unit (take count (rowsOf rows))) × (length (take count (rowsOf rows)) ≡ min count 21) ⌝ }
+    ensures { λ r. ⌜ (r ≡ placeFor unit (take count (rowsOf rows))) × (length (take count (rowsOf rows)) ≡ min count 21) ⌝ }
 {
     let used = in_use(count);
     let mut i = 0;

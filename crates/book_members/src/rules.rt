@@ -3,7 +3,7 @@ ghost use mathlib.Core.Path.{_≡_};
 ghost use lib.ListN.{take, drop};
 ghost use Rattle.octets.specs.Lists.{every};
 ghost use Rattle.slot_sets.specs.Sets.{slotsOf};
-ghost use Rattle.book_members.specs.Members.{rowOf, rowsOf, held, vacant};
+ghost use Rattle.book_members.specs.Members.{rowOf, rowsOf, heldSlots, vacant};
 ghost use Rattle.book_members.specs.Rules.{emptyIs, rowRule, distinct, judged, rowsRule};
 use crate::member::Member;
 use crate::rows::in_use;
@@ -70,7 +70,7 @@ struct Together {
 
 // Each row by itself and against those behind it.
 fn judged(rows: [Member; 21], count: u8, manager: u16, data_slots: u8, last: u32) -> Together
-    ensures { λ r. ⌜ (r .good ≡ judged manager «data_slots» last (take count (rowsOf rows))) × (slotsOf (r .held) ≡ held (take count (rowsOf rows))) × (r .vacant ≡ vacant (take count (rowsOf rows))) ⌝ }
+    ensures { λ r. ⌜ (r .good ≡ judged manager «data_slots» last (take count (rowsOf rows))) × (slotsOf (r .held) ≡ heldSlots (take count (rowsOf rows))) × (r .vacant ≡ vacant (take count (rowsOf rows))) ⌝ }
 {
     let mut good = true;
     let mut held: u64 = 0;

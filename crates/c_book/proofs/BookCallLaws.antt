@@ -18,7 +18,7 @@ use Rattle.octets.proofs.CallLaws.{WrittenBack, written-back}
 use Rattle.frame_kinds.proofs.AnsweredLaws.{Answered, valued, said-value, answered, told-other, told-done, told-undone}
 use Rattle.site_plan.specs.Plans.{slots}
 use Rattle.book.specs.declared.book.Changed.{Changed}
-use Rattle.book.specs.Books.{Stated, stated, withinRule, Left, leftBy, liveAt}
+use Rattle.book.specs.Books.{Contents, contents, withinRule, BookChange, changeOf, liveAt}
 use Rattle.book.specs.Schedules.{scheduleRefusal, scheduleOf}
 use Rattle.site_plan.proofs.PlanLaws.{rule-bounds}
 use Rattle.book.proofs.ScheduleLaws.{few-slots}
@@ -32,34 +32,34 @@ use Rattle.c_book.proofs.PlanCallLaws.{stored-number}
 
 -- ---- calls that change a book
 -- the facts are, in order, what `write_back` and `refuse_if` ensure
-pub kept : (s last : List ℕ) (status number : ℕ) (a : Changed) → WrittenBack bookSize s last status number (bookBytes (stated (a .book)))
-    → number ≡ cond (not (eqb (length s) bookSize)) 14 (a .refused) → bookLeft status last ≡ leaves s (leftBy a)
+pub kept : (s last : List ℕ) (status number : ℕ) (a : Changed) → WrittenBack bookSize s last status number (bookBytes (contents (a .book)))
+    → number ≡ cond (not (eqb (length s) bookSize)) 14 (a .refused) → bookLeft status last ≡ leaves s (changeOf a)
 kept s last status number a w n =
-    let (x, y) = written-back bookSize s last status number (bookBytes (stated (a .book))) w (eqb (length s) bookSize) (a .refused) (eqb-true (length s) bookSize) n in
+    let (x, y) = written-back bookSize s last status number (bookBytes (contents (a .book))) w (eqb (length s) bookSize) (a .refused) (eqb-true (length s) bookSize) n in
     ap₂ bookLeft x y
 
 -- a fresh book under the number that its plan's length gives
-pub opened : (plan : List ℕ) (a new : Left) (said : ℕ) → a ≡ new → said ≡ cond (not (eqb (length plan) planSize)) 14 (a .refused)
-    → _≡_ {A = Left} (record { refused = said; book = a .book }) (record { refused = stored planSize plan (new .refused); book = new .book })
+pub opened : (plan : List ℕ) (a new : BookChange) (said : ℕ) → a ≡ new → said ≡ cond (not (eqb (length plan) planSize)) 14 (a .refused)
+    → _≡_ {A = BookChange} (record { refused = said; book = a .book }) (record { refused = stored planSize plan (new .refused); book = new .book })
 opened plan a new said e m = rw (m, e, stored-number planSize plan (new .refused))
 
 -- ---- calls that fill a buffer
-pub schedule-answered : (b : Stated) (unit hop time : ℕ) (out : List ℕ) → Answered out (scheduleOf b unit hop time out)
+pub schedule-answered : (b : Contents) (unit hop time : ℕ) (out : List ℕ) → Answered out (scheduleOf b unit hop time out)
 unfolding scheduleOf
 schedule-answered b unit hop time out =
     answered (scheduleRefusal b unit hop time (liveAt b unit time) (length out)) _ out _ refl (valued (slots (b .plan)) [])
 
-pub image-answered : (b : Stated) (time : ℕ) (out : List ℕ) → Answered out (imageWritten b time out)
+pub image-answered : (b : Contents) (time : ℕ) (out : List ℕ) → Answered out (imageWritten b time out)
 unfolding imageWritten
 image-answered b time out = answered (first (imageReasons b time (length out))) _ out _ refl (valued (formSize (sections (b .plan .rows))) [])
 
-pub schedule-size : (b : Stated) (unit hop time : ℕ) (out : List ℕ) (size : ℕ) (held : List ℕ) → wrote (Written.Done size) held ≡ scheduleOf b unit hop time out → size ≤ 100
+pub schedule-size : (b : Contents) (unit hop time : ℕ) (out : List ℕ) (size : ℕ) (held : List ℕ) → wrote (Written.Done size) held ≡ scheduleOf b unit hop time out → size ≤ 100
 unfolding scheduleOf
 schedule-size b unit hop time out size held e =
     let same = said-value (scheduleRefusal b unit hop time (liveAt b unit time) (length out)) (slots (b .plan)) size (ap (λ (x : Wrote). x .said) e) in
     omega (arith, same, few-slots (b .plan))
 
-pub image-size : (b : Stated) (time : ℕ) (out : List ℕ) (size : ℕ) (held : List ℕ) → wrote (Written.Done size) held ≡ imageWritten b time out → size ≤ 230
+pub image-size : (b : Contents) (time : ℕ) (out : List ℕ) (size : ℕ) (held : List ℕ) → wrote (Written.Done size) held ≡ imageWritten b time out → size ≤ 230
 unfolding imageWritten
 image-size b time out size held e =
     let reasons = imageReasons b time (length out) in

@@ -5,7 +5,7 @@ use mathlib.Core.List.{List}
 use lib.ListN.{getD}
 use Rattle.octets.specs.Calls.{after, stored, WriteLeft, writeLeft}
 use Rattle.octets.specs.Told.{Wrote}
-use Rattle.book.specs.Books.{Left, freshOf, heardOf, leaveOf}
+use Rattle.book.specs.Books.{BookChange, freshOf, heardOf, leaveOf}
 use Rattle.book.specs.Schedules.{scheduleOf}
 use Rattle.book_image.specs.Images.{imageWritten, restoreOf}
 use Rattle.site_plan.specs.PlanBytes.{planSize, planAt}
@@ -20,7 +20,7 @@ abbrev pub bookLeft : ℕ → List ℕ → BookLeft
 bookLeft status book = record { status = status; book = book }
 
 -- a call over a buffer that answers so: 14 where the buffer has not a book's size, else the answer's number, and the new book where that is 0
-abbrev pub leaves : List ℕ → Left → BookLeft
+abbrev pub leaves : List ℕ → BookChange → BookLeft
 leaves s new =
     let status = stored bookSize s (new .refused) in
     bookLeft status (after status s (bookBytes (new .book)))

@@ -1,7 +1,7 @@
 // A member book of 307 bytes, kept by the caller: made of a plan, a member heard or gone, and its schedule.
 ghost use mathlib.Core.Path.{_≡_};
 ghost use Rattle.octets.specs.Calls.{writeLeft};
-ghost use Rattle.book.specs.Books.{leftBy};
+ghost use Rattle.book.specs.Books.{changeOf};
 ghost use Rattle.c_book.specs.BookCalls.{bookLeft, leaves, freshCall, heardCall, leaveCall, scheduleCall};
 use crate::plan_calls::PLAN_SIZE;
 use book::book::Book;
@@ -15,7 +15,7 @@ use site_plan::plan_bytes::plan_of;
 
 // The end of every call that changes a book: the new one goes to the buffer, unless that is no book's or the call was refused.
 pub(crate) fn keep(book: &mut [u8], changed: Changed) -> u8
-    ensures { λ r. ⌜ bookLeft r (now (book .exit)) ≡ leaves (now (book .entry)) (leftBy changed) ⌝ }
+    ensures { λ r. ⌜ bookLeft r (now (book .exit)) ≡ leaves (now (book .entry)) (changeOf changed) ⌝ }
 {
     let next = changed.book;
     let refused = refuse_if(book.len() != BOOK_SIZE, 14, changed.refused);

@@ -13,7 +13,7 @@ use Rattle.moments.specs.Moments.{inOrder}
 use Rattle.moments.proofs.ElapsedLaws.{true-time}
 use Rattle.slot_sets.specs.Sets.{count}
 use Rattle.book_members.specs.Members.{free}
-use Rattle.book.specs.Books.{Stated, rowsAt}
+use Rattle.book.specs.Books.{Contents, rowsAt}
 use Rattle.book_joins.specs.Responses.{toldIn}
 use Rattle.book_history.specs.Calls.{join, ask, heard, leave, schedule}
 use Rattle.book_history.specs.Laws.{full}
@@ -32,7 +32,7 @@ use Rattle.c_history.proofs.BookSizes.{begun-sized, sized-next}
 use Rattle.c_history.proofs.BookStored.{leaves-same, refused-same, answer-same, begun-same, right, book-same}
 
 -- ---- one call
-module _ (b : Stated) (z : Sized b) where
+module _ (b : Contents) (z : Sized b) where
   -- where it is accepted, a grant read as the reader of frames reads it is the one that is cut out of its bytes
   read-as-told : (e : Event) → Machine e → answer b e .refused ≡ 0 → (now : ℕ) (g : Grant) → renewedBy slotsRead e (answer b e) now g ≡ renewed e (answer b e) now g
   read-as-told (call (join frame time out)) (f, t, o) q now g = ap (λ (told : List ℕ). grant told now) (told-as-read b frame time out (z .plan .0) t .0 q)
@@ -57,14 +57,14 @@ module _ (b : Stated) (z : Sized b) where
   step-same e filled = ap (λ (n : ℕ). record { time = timeOf e; changes = eqb n 0 && changes e }) (refused-same b z e filled)
 
 -- ---- calls one after the other
-steps-same : (b : Stated) (cs : List InC) → AllMachine cs → Sized b → map stepOf (recordedInC (bookBytes b) cs) ≡ map stepOf (recorded b (eventsOf cs))
+steps-same : (b : Contents) (cs : List InC) → AllMachine cs → Sized b → map stepOf (recordedInC (bookBytes b) cs) ≡ map stepOf (recorded b (eventsOf cs))
 steps-same b [] m z = refl
 steps-same b (c ∷ cs) m z =
     ap₂ (λ (step : Step) (s : List ℕ). step ∷ map stepOf (recordedInC s cs)) (step-same b z (c .event) (c .filled)) (leaves-same b z (c .event) (c .filled))
     ∙ ap (λ (steps : List Step). stepOf (record { event = c .event; answer = answer b (c .event) }) ∷ steps)
     (steps-same (next b (c .event)) cs (m .1) (sized-next b (c .event) (m .0) z))
 
-granted-same : (b : Stated) (cs : List InC) → AllMachine cs → Sized b → (unit : ℕ) (k : Clock) (g : Grant)
+granted-same : (b : Contents) (cs : List InC) → AllMachine cs → Sized b → (unit : ℕ) (k : Clock) (g : Grant)
     → grantedBy slotsRead unit k g (recordedInC (bookBytes b) cs) ≡ granted unit k g (recorded b (eventsOf cs))
 granted-same b [] m z unit k g = refl
 granted-same b (c ∷ cs) m z unit k g =
@@ -92,7 +92,7 @@ module _ (s : List ℕ) (start : StartInC) (cs : List InC) (m : MachineStart sta
       let steps = steps-same b cs n z in
       let grants = granted-same b cs n z unit (started (b .time)) (granting b unit) in
       ap (λ (x : List ℕ). grantedInC x cs unit time) (begun-same s start e)
-      ∙ (ap (λ (x : Stated). grantedSince slotsRead x (recordedInC (bookBytes b) cs) unit time) (reads-back b z .0)
+      ∙ (ap (λ (x : Contents). grantedSince slotsRead x (recordedInC (bookBytes b) cs) unit time) (reads-back b z .0)
       ∙ (λ i. counts (b .plan) unit (nowAt (clockAfter (started (b .time)) (steps i)) time) (grants i)))
 
   grants-to-same : (time k : ℕ) → grantedToInC began cs time k ≡ grantedTo from es time k
@@ -105,13 +105,13 @@ module _ (s : List ℕ) (start : StartInC) (cs : List InC) (m : MachineStart sta
 
 pub answers-tell-in-c : AnswersTellInC
 answers-tell-in-c s start cs m n e unit time a =
-    subst (λ (x : Stated). inOrder (x .time) time ≡ true → slotsAt x unit time ≡ grantedInC (beginsIn s start .book) cs unit time) (sym (book-same s start cs m n e))
+    subst (λ (x : Contents). inOrder (x .time) time ≡ true → slotsAt x unit time ≡ grantedInC (beginsIn s start .book) cs unit time) (sym (book-same s start cs m n e))
     (λ o. answers-tell (startOf start) (eventsOf cs) unit time (right s start cs m n e) a o ∙ sym (grants-same s start cs m n e unit time))
 
 pub always-d-in-c : AlwaysDInC
 always-d-in-c s start cs m n e time =
     subst
-    (λ (x : Stated).
+    (λ (x : Contents).
     inOrder (x .time) time ≡ true → count (free (x .plan .«data_slots») (rowsAt x time)) + grantedToInC (beginsIn s start .book) cs time lastAddress ≡ x .plan .«data_slots»)
     (sym (book-same s start cs m n e))
     (λ o.
@@ -122,7 +122,7 @@ always-d-in-c s start cs m n e time =
 pub full-by-answers-in-c : FullByAnswersInC
 full-by-answers-in-c s start cs m n e time =
     subst
-    (λ (x : Stated). inOrder (x .time) time ≡ true → full x time ≡ eqb (unitsGrantedInC (beginsIn s start .book) cs time lastAddress) (x .plan .rows))
+    (λ (x : Contents). inOrder (x .time) time ≡ true → full x time ≡ eqb (unitsGrantedInC (beginsIn s start .book) cs time lastAddress) (x .plan .rows))
     (sym (book-same s start cs m n e))
     (λ o.
     full-by-answers (startOf start) (eventsOf cs) time (right s start cs m n e) o

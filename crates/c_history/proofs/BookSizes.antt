@@ -10,7 +10,7 @@ use Rattle.octets.specs.Layouts.{total, Fit, Bytes}
 use Rattle.octets.proofs.ListLaws.{length-tab}
 use Rattle.octets.proofs.NumberLaws.{num-lt}
 use Rattle.book_members.specs.Members.{emptyRow}
-use Rattle.book.specs.Books.{Stated, noBook}
+use Rattle.book.specs.Books.{Contents, noBook}
 use Rattle.book_history.specs.Calls.{join, ask, heard, leave, schedule}
 use Rattle.book_history.proofs.SizeLaws.{keeps-size}
 use Rattle.site_plan.specs.PlanBytes.{planAt}
@@ -34,9 +34,9 @@ row-restored s time i b t = row-fits _ (rowIn s time i .slots) _ (num-lt s b 2 (
     go false = t
 
 restored-sized : (s : List ℕ) (time : ℕ) → Bytes s → time < 0x100000000 → Sized (restoreOf s time .book)
-unfolding restoreOf images.bookIn
+unfolding restoreOf images.imageBook
 restored-sized s time b t =
-    either-sized (restoreOf s time .refused) noBook (images.bookIn s time) none-sized (
+    either-sized (restoreOf s time .refused) noBook (images.imageBook s time) none-sized (
     record {
       places = length-tab 21 _;
       plan = plan-fits s planPlace b;
@@ -62,7 +62,7 @@ machine-time (call (leave unit time)) (u, t) = t
 machine-time (call (schedule unit hop time out)) (u, h, t, o) = t
 machine-time (image time out) (t, o) = t
 
-pub sized-next : (b : Stated) (e : Event) → Machine e → Sized b → Sized (next b e)
+pub sized-next : (b : Contents) (e : Event) → Machine e → Sized b → Sized (next b e)
 sized-next b (call c) m z = keeps-size b c (machine-time (call c) m) z
 sized-next b (image time out) m z = z
 

@@ -9,7 +9,7 @@ use lib.ListN.{length}
 use Rattle.octets.specs.Calls as calls
 use Rattle.octets.specs.Calls.{stored}
 use Rattle.octets.proofs.CallLaws.{after-refused, left-as, stored-none}
-use Rattle.book.specs.Books.{Stated, freshOf, heardOf, leaveOf}
+use Rattle.book.specs.Books.{Contents, freshOf, heardOf, leaveOf}
 use Rattle.book_joins.specs.Joins.{joinOf, askOf}
 use Rattle.book_history.specs.Calls.{join, ask, heard, leave, schedule}
 use Rattle.book_history.proofs.RuleLaws.{refused-keeps}
@@ -19,7 +19,7 @@ use Rattle.book_bytes.specs.Trips.{Sized}
 use Rattle.book_bytes.proofs.SizeLaws.{book-sized}
 use Rattle.book_bytes.proofs.TripLaws.{reads-back, writes-back}
 use Rattle.book_image.specs.Images.{restoreOf}
-use Rattle.book_history.specs.BookEvents.{Start, begun, Event, call, image, next, after, answer}
+use Rattle.book_history.specs.BookEvents.{Start, begun, Event, call, image, next, afterEvents, answer}
 use Rattle.book_history.specs.BookLaws.{bookAfter}
 use Rattle.book_history.proofs.BookRuleLaws.{stays-within-rule, only-for-hops}
 use Rattle.c_book.specs.BookCalls.{freshCall, heardCall, leaveCall, restoreCall, scheduleCall, imageCall}
@@ -29,7 +29,7 @@ use Rattle.c_history.specs.BookLaws.{StaysStored, StoredFrom, RefusedLea
 use Rattle.c_history.proofs.BookSizes.{begun-sized, sized-next}
 
 -- ---- one call
-module _ (b : Stated) (z : Sized b) where
+module _ (b : Contents) (z : Sized b) where
   read : bookIn (bookBytes b) ≡ b
   read = reads-back b z .0
 
@@ -37,7 +37,7 @@ module _ (b : Stated) (z : Sized b) where
   long = reads-back b z .1
 
   -- a call that is refused leaves the book, and so do its bytes
-  left : (n : ℕ) (new : Stated) → ((n ≡ 0 → ⊥) → new ≡ b) → calls.after (stored bookSize (bookBytes b) n) (bookBytes b) (bookBytes new) ≡ bookBytes new
+  left : (n : ℕ) (new : Contents) → ((n ≡ 0 → ⊥) → new ≡ b) → calls.after (stored bookSize (bookBytes b) n) (bookBytes b) (bookBytes new) ≡ bookBytes new
   left n new kept = rw long (left-as bookBytes n b new kept)
 
   pub leaves-same : (e : Event) (filled : ℕ) → leaves (bookBytes b) e filled ≡ bookBytes (next b e)
@@ -69,11 +69,11 @@ module _ (b : Stated) (z : Sized b) where
   answer-same (image time out) filled q = rw (read, long, q)
 
 -- ---- calls one after the other
-pub sized-after : (b : Stated) (cs : List InC) → AllMachine cs → Sized b → Sized (after b (eventsOf cs))
+pub sized-after : (b : Contents) (cs : List InC) → AllMachine cs → Sized b → Sized (afterEvents b (eventsOf cs))
 sized-after b [] m z = z
 sized-after b (c ∷ cs) m z = sized-after (next b (c .event)) cs (m .1) (sized-next b (c .event) (m .0) z)
 
-pub buffer-same : (b : Stated) (cs : List InC) → AllMachine cs → Sized b → bufferAfter (bookBytes b) cs ≡ bookBytes (after b (eventsOf cs))
+pub buffer-same : (b : Contents) (cs : List InC) → AllMachine cs → Sized b → bufferAfter (bookBytes b) cs ≡ bookBytes (afterEvents b (eventsOf cs))
 buffer-same b [] m z = refl
 buffer-same b (c ∷ cs) m z =
     ap (λ (s : List ℕ). bufferAfter s cs) (leaves-same b z (c .event) (c .filled)) ∙ buffer-same (next b (c .event)) cs (m .1) (sized-next b (c .event) (m .0) z)

@@ -8,9 +8,9 @@ use lib.Dec.{eqb}
 use Rattle.octets.specs.Lists.{every}
 use Rattle.moments.specs.Moments.{inOrder}
 use Rattle.slot_sets.specs.Sets.{count}
-use Rattle.book.specs.Books.{Stated, rowsAt, liveAt}
+use Rattle.book.specs.Books.{Contents, rowsAt, liveAt}
 use Rattle.book.specs.Schedules.{scheduleOf}
-use Rattle.book_joins.specs.Joins.{wish, granted, joinIn, joinOf}
+use Rattle.book_joins.specs.Joins.{wish, grantFor, joinIn, joinOf}
 use Rattle.book_history.specs.Calls.{join, ask, schedule}
 use Rattle.book_history.specs.Laws.{due, Admitted, holding}
 use Rattle.book_history.proofs.JoinLaws.{asked-for}
@@ -18,7 +18,7 @@ use Rattle.book_history.proofs.TakingLaws.{ask-taken, taken-live}
 use Rattle.book_bytes.specs.BookBytes.{bookIn, bookBytes}
 use Rattle.book_bytes.specs.Trips.{Sized}
 use Rattle.book_bytes.proofs.TripLaws.{reads-back}
-use Rattle.book_history.specs.BookEvents.{begun, Event, call, next, after, Answer, unitOf, recorded}
+use Rattle.book_history.specs.BookEvents.{begun, Event, call, next, afterEvents, Answer, unitOf, recorded}
 use Rattle.book_history.specs.BookLaws.{bookAfter, slotsAt, its, moves}
 use Rattle.book_history.proofs.BookHistoryLaws.{joins-exactly, one-sender}
 use Rattle.book_history.proofs.BookRuleLaws.{after-more}
@@ -31,11 +31,11 @@ use Rattle.c_history.proofs.BookSizes.{sized-next}
 use Rattle.c_history.proofs.BookStored.{leaves-same, refused-same, answer-same, sized-after, buffer-same, right, sized, book-same, stays-stored}
 
 -- the book in the buffer after a call is the one that the call gives
-left-read : (b : Stated) → Sized b → (e : Event) (filled : ℕ) → Machine e → bookIn (leaves (bookBytes b) e filled) ≡ next b e
+left-read : (b : Contents) → Sized b → (e : Event) (filled : ℕ) → Machine e → bookIn (leaves (bookBytes b) e filled) ≡ next b e
 left-read b z e filled m = ap bookIn (leaves-same b z e filled) ∙ reads-back (next b e) (sized-next b e m z) .0
 
 -- ---- joining
-module _ (b : Stated) (z : Sized b) (frame : List ℕ) (time : ℕ) (out : List ℕ) (written : ℕ) (m : Machine (call (join frame time out))) where
+module _ (b : Contents) (z : Sized b) (frame : List ℕ) (time : ℕ) (out : List ℕ) (written : ℕ) (m : Machine (call (join frame time out))) where
   join-status : joinCall (bookBytes b) frame time out written .status ≡ joinOf b frame time out .refused
   join-status = refused-same b z (call (join frame time out)) written
 
@@ -48,13 +48,13 @@ module _ (b : Stated) (z : Sized b) (frame : List ℕ) (time : ℕ) (out : List 
       let before = sym (reads-back b z .0) in
       record {
         accepted = join-status ∙ a .accepted;
-        member = ap (λ (new : Stated). liveAt new unit time) join-book ∙ a .member;
+        member = ap (λ (new : Contents). liveAt new unit time) join-book ∙ a .member;
         slots =
-            ap (λ (new : Stated). holding new unit time) join-book
-            ∙ (a .slots ∙ ap (λ (old : Stated). granted (old .plan .«data_slots») (rowsAt old time) (joinIn frame .slots)) before);
-        exact = ap (λ (new : Stated). count (holding new unit time)) join-book ∙ (a .exact ∙ ap (λ (old : Stated). due old frame time) before);
-        least = subst (λ (old : Stated). 1 ≤ due old frame time) before (a .least);
-        most = subst (λ (old : Stated). due old frame time ≤ wish (joinIn frame .slots)) before (a .most);
+            ap (λ (new : Contents). holding new unit time) join-book
+            ∙ (a .slots ∙ ap (λ (old : Contents). grantFor (old .plan .«data_slots») (rowsAt old time) (joinIn frame .slots)) before);
+        exact = ap (λ (new : Contents). count (holding new unit time)) join-book ∙ (a .exact ∙ ap (λ (old : Contents). due old frame time) before);
+        least = subst (λ (old : Contents). 1 ≤ due old frame time) before (a .least);
+        most = subst (λ (old : Contents). due old frame time ≤ wish (joinIn frame .slots)) before (a .most);
       }
 
 pub joins-exactly-in-c : JoinsExactlyInC
@@ -81,7 +81,7 @@ asks-exactly-in-c s start cs m n e =
     rw (left-read b z asked written k) (taken-live (ask-taken b frame time out accepted), asked-for b frame time out accepted))
 
 -- ---- sending
-module _ (b : Stated) (z : Sized b) (unit hop time : ℕ) (out : List ℕ) (written : ℕ) (e : scheduleCall (bookBytes b) unit hop time out written .status ≡ 0) where
+module _ (b : Contents) (z : Sized b) (unit hop time : ℕ) (out : List ℕ) (written : ℕ) (e : scheduleCall (bookBytes b) unit hop time out written .status ≡ 0) where
   made : scheduleOf b unit hop time out .said .refusal ≡ 0
   made = sym (refused-same b z (call (schedule unit hop time out)) written) ∙ e
 
@@ -99,7 +99,7 @@ one-sender-in-c s start cs m n e =
 
 -- ---- holding
 -- whether a call moves a unit's slots is seen by its status
-its-same : (b : Stated) (cs : List InC) → AllMachine cs → Sized b → (unit : ℕ)
+its-same : (b : Contents) (cs : List InC) → AllMachine cs → Sized b → (unit : ℕ)
     → every (λ h. not (its unit h)) (recordedInC (bookBytes b) cs) ≡ every (λ h. not (its unit h)) (recorded b (eventsOf cs))
 unfolding every
 its-same b [] m z unit = refl
@@ -111,18 +111,18 @@ its-same b (c ∷ cs) m z unit =
     ap₂ _&&_ here rest
 
 -- of equal books; a goal that shows the slots is never rewritten, since they would be computed
-abbrev Own : ℕ → ℕ → Stated → Stated → Type 0
+abbrev Own : ℕ → ℕ → Contents → Contents → Type 0
 Own unit time b later = inOrder (later .time) time ≡ true → liveAt later unit time ≡ true → slotsAt later unit time ≡ slotsAt b unit (b .time)
 
-own-same : (unit time : ℕ) (b b′ later later′ : Stated) → b ≡ b′ → later ≡ later′ → Own unit time b′ later′ → Own unit time b later
-own-same unit time b b′ later later′ p q h = subst (λ (x : Stated). Own unit time x later) (sym p) (subst (λ (y : Stated). Own unit time b′ y) (sym q) h)
+own-same : (unit time : ℕ) (b b′ later later′ : Contents) → b ≡ b′ → later ≡ later′ → Own unit time b′ later′ → Own unit time b later
+own-same unit time b b′ later later′ p q h = subst (λ (x : Contents). Own unit time x later) (sym p) (subst (λ (y : Contents). Own unit time b′ y) (sym q) h)
 
 pub stays-its-own-in-c : StaysItsOwnInC
 stays-its-own-in-c s start cs more m n k e unit time a h =
     let b = bookAfter (startOf start) (eventsOf cs) in
     let z = sized s start cs m n e in
     let held = stays-stored s start cs m n e in
-    let lasts = reads-back (after b (eventsOf more)) (sized-after b more k z) .0 in
+    let lasts = reads-back (afterEvents b (eventsOf more)) (sized-after b more k z) .0 in
     let later = ap (λ (x : List ℕ). bookIn (bufferAfter x more)) held ∙ (ap bookIn (buffer-same b more k z) ∙ (lasts ∙ sym (after-more (begun (startOf start) .book) (eventsOf cs) (eventsOf more)))) in
     let none = sym (ap (λ (x : List ℕ). every (λ h. not (its unit h)) (recordedInC x more)) held ∙ its-same b more k z unit) ∙ h in
     own-same unit time _ b _ (bookAfter (startOf start) (eventsOf cs ++ eventsOf more)) (book-same s start cs m n e) later

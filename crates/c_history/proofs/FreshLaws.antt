@@ -14,7 +14,7 @@ use Rattle.route_bytes.specs.TableBytes.{tableIn, tableBytes}
 use Rattle.route_bytes.specs.TableTrips.{Sized}
 use Rattle.route_bytes.proofs.SizeLaws.{sized-read}
 use Rattle.route_bytes.proofs.TableTripLaws.{reads-back, writes-tables}
-use Rattle.route_history.specs.TableCalls.{lookup, relay, Past, after, fresh}
+use Rattle.route_history.specs.TableCalls.{lookup, relay, Past, afterCalls, fresh}
 use Rattle.route_history.specs.TableLaws.{Heard, AnswersHeard}
 use Rattle.route_history.proofs.LookupLaws.{found}
 use Rattle.route_history.proofs.TableHistoryLaws.{freshness, freshness-from, relay-number}
@@ -84,9 +84,9 @@ module _ (p : Past) (z : Sized (p .table)) (answers : AnswersHeard p) where
 pub fresh-in-c : FreshInC
 fresh-in-c s own began cs a b m e =
     let z = sized-after (fresh own began) cs m (sized-kept .0 own began a b) in
-    answers-in-c (after (fresh own began) (callsOf cs)) z (freshness own began (callsOf cs) (fresh-accepted s own began e)) _ (stays-stored s own began cs a b m e)
+    answers-in-c (afterCalls (fresh own began) (callsOf cs)) z (freshness own began (callsOf cs) (fresh-accepted s own began e)) _ (stays-stored s own began cs a b m e)
 
 pub fresh-from-in-c : FreshFromInC
 fresh-from-in-c s k log cs b e m w account =
     let start : Past = record { table = tableIn s; clock = k; log = log } in
-    answers-in-c (after start (callsOf cs)) (sized-after start cs m (sized-read s b)) (freshness-from .1 start (callsOf cs) w account) _ (stored-from s k log cs b e m)
+    answers-in-c (afterCalls start (callsOf cs)) (sized-after start cs m (sized-read s b)) (freshness-from .1 start (callsOf cs) w account) _ (stored-from s k log cs b e m)

@@ -21,7 +21,7 @@ use Rattle.route_bytes.specs.TableBytes.{tableIn, tableBytes}
 use Rattle.route_bytes.specs.TableTrips.{Sized}
 use Rattle.route_bytes.proofs.SizeLaws.{sized-read}
 use Rattle.route_bytes.proofs.TableTripLaws.{reads-back, writes-tables, writes-back}
-use Rattle.route_history.specs.TableCalls.{Call, merge, forget, forward, lookup, relay, page, timeOf, next, answer, changes, stepOf, Update, logged, Past, followed, after, fresh}
+use Rattle.route_history.specs.TableCalls.{Call, merge, forget, forward, lookup, relay, page, timeOf, next, answer, changes, stepOf, Update, logged, Past, followed, afterCalls, fresh}
 use Rattle.route_history.proofs.StepLaws.{merge-kept, forget-kept, forward-kept}
 use Rattle.route_history.proofs.TableHistoryLaws.{stays-within-rule}
 use Rattle.route_history.proofs.TableRuleLaws.{only-for-pages}
@@ -31,7 +31,7 @@ use Rattle.route_merges.specs.StoredMerges.{mergeCall}
 use Rattle.c_routes.specs.UpdateCalls.{pageCall}
 use Rattle.route_forwards.specs.Forwards.{forwardCall}
 use Rattle.c_routes.specs.RelayCalls.{relayCall}
-use Rattle.c_history.specs.HeldTables.{InC, left, status, stepInC, logs, Held, follows, heldAfter, stepsInC, freshIn, AllMachine, callsOf, inBytes}
+use Rattle.c_history.specs.HeldTables.{InC, returned, status, stepInC, logs, Held, follows, heldAfter, stepsInC, freshIn, AllMachine, callsOf, inBytes}
 use Rattle.c_history.specs.TableLaws.{StaysStored, StoredFrom, TrueTimeInC, RefusedLeaves, OnlyForPagesInC}
 use Rattle.c_history.proofs.KeptLaws.{sized-kept, sized-next}
 
@@ -41,7 +41,7 @@ module _ (t : Table) (z : Sized t) where
   changed : (n : ℕ) (new : Table) → ((n ≡ 0 → ⊥) → new ≡ t) → calls.after (storedTable (tableBytes t) n) (tableBytes t) (tableBytes new) ≡ tableBytes new
   changed n new kept = rw (writes-tables t z) (left-as tableBytes n t new kept)
 
-  table-same : (c : Call) (filled : ℕ → ℕ) → left (tableBytes t) c filled .memory .table ≡ tableBytes (next t c)
+  table-same : (c : Call) (filled : ℕ → ℕ) → returned (tableBytes t) c filled .memory .table ≡ tableBytes (next t c)
   unfolding mergeCall forgetCall changedBy forwardCall
   table-same (merge s quality time) filled = rw (reads-back t z) (changed (mergeOf t s quality time .refused) (mergeOf t s quality time .table) (merge-kept t s quality time))
   table-same (forget unit time) filled = rw (reads-back t z) (changed (forgetOf t unit time .refused) (forgetOf t unit time .table) (forget-kept t unit time))
@@ -76,12 +76,12 @@ module _ (t : Table) (z : Sized t) where
   logs-same (page p time out) filled k log = refl
 
 -- ---- calls one after the other
-pub sized-after : (p : Past) (cs : List InC) → AllMachine cs → Sized (p .table) → Sized (after p (callsOf cs) .table)
+pub sized-after : (p : Past) (cs : List InC) → AllMachine cs → Sized (p .table) → Sized (afterCalls p (callsOf cs) .table)
 sized-after p [] m z = z
 sized-after p (c ∷ cs) m z =
     sized-after (followed p (c .call)) cs (m .1) (sized-next (p .table) (c .call) (m .0) z)
 
-pub held-same : (p : Past) (cs : List InC) → AllMachine cs → Sized (p .table) → heldAfter (inBytes p) cs ≡ inBytes (after p (callsOf cs))
+pub held-same : (p : Past) (cs : List InC) → AllMachine cs → Sized (p .table) → heldAfter (inBytes p) cs ≡ inBytes (afterCalls p (callsOf cs))
 held-same p [] m z = refl
 held-same p (c ∷ cs) m z =
     let buffer = table-same (p .table) z (c .call) (c .filled) in
@@ -131,7 +131,7 @@ refused-leaves s (page p time out) filled z = rw (ne-eqb _ 0 z)
 
 pub only-for-pages-in-c : OnlyForPagesInC
 only-for-pages-in-c s own began cs a b m e =
-    let t = after (fresh own began) (callsOf cs) .table in
+    let t = afterCalls (fresh own began) (callsOf cs) .table in
     let z = sized-after (fresh own began) cs m (sized-kept .0 own began a b) in
     let right = fresh-accepted s own began e in
     rw (stays-stored s own began cs a b m e, reads-back t z) (

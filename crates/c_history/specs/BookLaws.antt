@@ -14,13 +14,13 @@ use Rattle.frame_kinds.specs.Rules.{address}
 use Rattle.slot_sets.specs.Sets.{count}
 use Rattle.site_plan.specs.Schedules.{sends, inBeacons, inControls, inData}
 use Rattle.book_members.specs.Members.{free, spare}
-use Rattle.book.specs.Books.{Stated, withinRule, rowsAt, liveAt}
-use Rattle.book_joins.specs.Joins.{wish, granted, joinIn, askIn}
+use Rattle.book.specs.Books.{Contents, withinRule, rowsAt, liveAt}
+use Rattle.book_joins.specs.Joins.{wish, grantFor, joinIn, askIn}
 use Rattle.book_history.specs.Calls.{join, ask}
 use Rattle.book_history.specs.Laws.{full, Newcomer, due, holding, kindIn}
 use Rattle.book_bytes.specs.BookBytes.{bookSize, bookIn, bookBytes}
 use Rattle.book_bytes.specs.Trips.{Sized}
-use Rattle.book_history.specs.BookEvents.{begun, Event, call, next, after, stepOf, clockOf, lastAddress}
+use Rattle.book_history.specs.BookEvents.{begun, Event, call, next, afterEvents, stepOf, clockOf, lastAddress}
 use Rattle.book_history.specs.BookLaws.{wrongHop, slotsAt, its}
 use Rattle.c_book.specs.BookCalls.{scheduleCall}
 use Rattle.c_requests.specs.RequestCalls.{joinCall, slotRequestCall}
@@ -30,19 +30,19 @@ use Rattle.c_history.specs.HeldBooks.{StartInC, beginsIn, MachineStart, 
 abbrev pub SizedKept : Type 0
 SizedKept =
     ((start : StartInC) → MachineStart start → Sized (begun (startOf start) .book))
-    × ((b : Stated) (e : Event) → Machine e → Sized b → Sized (next b e))
+    × ((b : Contents) (e : Event) → Machine e → Sized b → Sized (next b e))
 
 -- From an accepted fresh book or an accepted restore on, over any list of calls from C, accepted or refused: the buffer holds exactly the bytes of the
 -- book that the same calls give on values
 abbrev pub StaysStored : Type 0
 StaysStored =
     (s : List ℕ) (start : StartInC) (cs : List InC) → MachineStart start → AllMachine cs → beginsIn s start .status ≡ 0
-    → bufferAfter (beginsIn s start .book) cs ≡ bookBytes (after (begun (startOf start) .book) (eventsOf cs))
+    → bufferAfter (beginsIn s start .book) cs ≡ bookBytes (afterEvents (begun (startOf start) .book) (eventsOf cs))
 
 -- the same from any 307 bytes on, as from flash
 abbrev pub StoredFrom : Type 0
 StoredFrom =
-    (s : List ℕ) (cs : List InC) → Bytes s → length s ≡ bookSize → AllMachine cs → bufferAfter s cs ≡ bookBytes (after (bookIn s) (eventsOf cs))
+    (s : List ℕ) (cs : List InC) → Bytes s → length s ≡ bookSize → AllMachine cs → bufferAfter s cs ≡ bookBytes (afterEvents (bookIn s) (eventsOf cs))
 
 -- a call that is refused leaves the buffer as it was, whatever the buffer holds
 abbrev pub RefusedLeaves : Type 0
@@ -79,7 +79,7 @@ pub record AdmittedInC (held frame : List ℕ) (time : ℕ) (out : List ℕ) (wr
   pub member : liveAt (bookIn (joinCall held frame time out written .book)) (joinIn frame .node) time ≡ true
   pub slots :
       holding (bookIn (joinCall held frame time out written .book)) (joinIn frame .node) time
-      ≡ granted (bookIn held .plan .«data_slots») (rowsAt (bookIn held) time) (joinIn frame .slots)
+      ≡ grantFor (bookIn held .plan .«data_slots») (rowsAt (bookIn held) time) (joinIn frame .slots)
   pub exact : count (holding (bookIn (joinCall held frame time out written .book)) (joinIn frame .node) time) ≡ due (bookIn held) frame time
   pub least : 1 ≤ due (bookIn held) frame time
   pub most : due (bookIn held) frame time ≤ wish (joinIn frame .slots)

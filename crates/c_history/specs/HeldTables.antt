@@ -51,33 +51,33 @@ handedIn s (relay frame time out) filled = holds s out (filled 0 ∷ filled 1 �
 handedIn s (page p time out) filled = holds s out (filled 0 ∷ [])
 
 -- the status of the call, and what that memory holds when it returns. Merge, forget and forward may write the table's buffer; the others only read it
-pub record Left : Type 0 where
+pub record Returned : Type 0 where
   pub status : ℕ
   pub memory : Memory
 
-abbrev pub left : List ℕ → Call → (ℕ → ℕ) → Left
-left s (merge frame quality time) filled =
+abbrev pub returned : List ℕ → Call → (ℕ → ℕ) → Returned
+returned s (merge frame quality time) filled =
     let call = mergeCall s frame quality time (filled 0) in
     record { status = call .status; memory = holds (call .table) [] (call .skipped ∷ []) }
-left s (forget unit time) filled =
+returned s (forget unit time) filled =
     let call = forgetCall s unit time in
     record { status = call .status; memory = holds (call .table) [] [] }
-left s (forward network frame delay time out) filled =
+returned s (forward network frame delay time out) filled =
     let call = forwardCall s network frame delay time out (filled 0) in
     record { status = call .status; memory = holds (call .table) (call .out) (call .written ∷ []) }
-left s (lookup d time) filled =
+returned s (lookup d time) filled =
     let call = lookupCall s d time (filled 0) (filled 1) in
     record { status = call .status; memory = holds s [] (call .nextHop ∷ call .hops ∷ []) }
-left s (relay frame time out) filled =
+returned s (relay frame time out) filled =
     let call = relayCall s frame time out (filled 0) (filled 1) (filled 2) in
     record { status = call .status; memory = holds s (call .out) (call .nextHop ∷ call .place ∷ call .extent ∷ []) }
-left s (page p time out) filled =
+returned s (page p time out) filled =
     let call = pageCall s p time out (filled 0) in
     record { status = call .status; memory = holds s (call .out) (call .written ∷ []) }
 
 -- the status alone
 abbrev pub status : List ℕ → Call → (ℕ → ℕ) → ℕ
-status s c filled = left s c filled .status
+status s c filled = returned s c filled .status
 
 -- a call as a step of elapsed time, by its status
 abbrev pub stepInC : List ℕ → InC → Step
@@ -103,7 +103,7 @@ pub record Held : Type 0 where
 abbrev pub follows : Held → InC → Held
 follows h c =
     record {
-      buffer = left (h .buffer) (c .call) (c .filled) .memory .table;
+      buffer = returned (h .buffer) (c .call) (c .filled) .memory .table;
       clock = moved (h .clock) (stepInC (h .buffer) c);
       log = logs (h .buffer) (c .call) (c .filled) (h .clock) (h .log);
     }
@@ -114,7 +114,7 @@ heldAfter h (c ∷ cs) = heldAfter (follows h c) cs
 
 abbrev pub stepsInC : List ℕ → List InC → List Step
 stepsInC s [] = []
-stepsInC s (c ∷ cs) = stepInC s c ∷ stepsInC (left s (c .call) (c .filled) .memory .table) cs
+stepsInC s (c ∷ cs) = stepInC s c ∷ stepsInC (returned s (c .call) (c .filled) .memory .table) cs
 
 -- a buffer in which a fresh table was made, with no update yet
 abbrev pub freshIn : List ℕ → ℕ → ℕ → Held

@@ -13,12 +13,12 @@ use Rattle.route_table.specs.Tables.{rowsOf, withinRule, freshOf}
 use Rattle.route_merges.specs.Laws.{Unnamed}
 use Rattle.route_bytes.specs.TableBytes.{tableIn, isTable}
 use Rattle.route_bytes.specs.TableTrips.{Sized}
-use Rattle.route_history.specs.TableCalls.{Call, merge, next, Update, after, fresh}
+use Rattle.route_history.specs.TableCalls.{Call, merge, next, Update, afterCalls, fresh}
 use Rattle.route_history.specs.TableLaws.{Heard, Accounts, wrongPage}
 use Rattle.c_routes.specs.TableCalls.{freshCall, lookupCall}
 use Rattle.route_merges.specs.StoredMerges.{mergeCall}
 use Rattle.c_routes.specs.RelayCalls.{relayCall}
-use Rattle.c_history.specs.HeldTables.{InC, Machine, handedIn, left, status, Held, heldAfter, stepsInC, freshIn, AllMachine, callsOf, inBytes}
+use Rattle.c_history.specs.HeldTables.{InC, Machine, handedIn, returned, status, Held, heldAfter, stepsInC, freshIn, AllMachine, callsOf, inBytes}
 
 -- ---- what is stored
 -- a fresh table has 48 places and numbers that fit their bytes, and a call that is given such a table leaves such a table, accepted or refused
@@ -32,19 +32,19 @@ SizedKept =
 abbrev pub StaysStored : Type 0
 StaysStored =
     (s : List ℕ) (own began : ℕ) (cs : List InC) → own < 0x10000 → began < 0x100000000 → AllMachine cs → freshCall s own began .status ≡ 0
-    → heldAfter (freshIn s own began) cs ≡ inBytes (after (fresh own began) (callsOf cs))
+    → heldAfter (freshIn s own began) cs ≡ inBytes (afterCalls (fresh own began) (callsOf cs))
 
 -- the same from any 539 bytes on that are a table, as from flash
 abbrev pub StoredFrom : Type 0
 StoredFrom =
     (s : List ℕ) (k : Clock) (log : List Update) (cs : List InC) → Bytes s → isTable s ≡ true → AllMachine cs
-    → heldAfter (record { buffer = s; clock = k; log = log }) cs ≡ inBytes (after (record { table = tableIn s; clock = k; log = log }) (callsOf cs))
+    → heldAfter (record { buffer = s; clock = k; log = log }) cs ≡ inBytes (afterCalls (record { table = tableIn s; clock = k; log = log }) (callsOf cs))
 
 -- ---- refusals
 -- a call that is refused leaves all that it might have written as it was, whatever the table's buffer holds: that buffer, the buffer for a frame, and every
 -- number
 abbrev pub RefusedLeaves : Type 0
-RefusedLeaves = (s : List ℕ) (c : Call) (filled : ℕ → ℕ) → (status s c filled ≡ 0 → ⊥) → left s c filled .memory ≡ handedIn s c filled
+RefusedLeaves = (s : List ℕ) (c : Call) (filled : ℕ → ℕ) → (status s c filled ≡ 0 → ⊥) → returned s c filled .memory ≡ handedIn s c filled
 
 -- along calls from an accepted `braidlark_table_fresh` on the buffer is a table within rule, and 14 is only for a page that is not there
 abbrev pub OnlyForPagesInC : Type 0

@@ -20,9 +20,9 @@ use Rattle.frames.proofs.WholeLaws.{frame-read}
 use Rattle.slot_sets.specs.Sets.{Slots}
 use Rattle.site_plan.specs.declared.plan.Plan.{Plan}
 use Rattle.site_plan.proofs.PlanLaws.{Kept, kept}
-use Rattle.book_members.specs.Members.{rowFor}
+use Rattle.book_members.specs.Members.{placeFor}
 use Rattle.book_members.proofs.RowLaws.{length-current}
-use Rattle.book.specs.Books.{Stated, rowsIn, rowsAt, liveAt}
+use Rattle.book.specs.Books.{Contents, rowsIn, rowsAt, liveAt}
 use Rattle.book.proofs.WithinLaws.{within}
 use Rattle.book_joins.specs.Joins.{Answered, seat, joinIn, joinOf, askIn, askOf}
 use Rattle.book_joins.specs.Responses.{slotsTold, response, responsesFor}
@@ -62,10 +62,10 @@ module _ (p : Plan) (unit time : ℕ) (a : address unit ≡ true) (n : network (
 
 -- ---- a request that was granted
 -- the slots that it is told of are those that the book then has for it
-slots-now : {b : Stated} {c : Call} {at : ℕ} {own : Slots 64} (t : Taken b c at own) → slotsTold (b .plan) at own ≡ slotsAt (next b c) (unitOf c) (timeOf c)
+slots-now : {b : Contents} {c : Call} {at : ℕ} {own : Slots 64} (t : Taken b c at own) → slotsTold (b .plan) at own ≡ slotsAt (next b c) (unitOf c) (timeOf c)
 slots-now {b} {c} t = sym (λ i. cond (taken-live t i) (slotsTold (keeps-plan b c .0 i) (taken-row t i) (taken-holding t i)) [])
 
-module _ {b : Stated} {c : Call} {at : ℕ} {own : Slots 64} (t : Taken b c at own) where
+module _ {b : Contents} {c : Call} {at : ℕ} {own : Slots 64} (t : Taken b c at own) where
   abbrev p : Plan
   p = b .plan
 
@@ -87,14 +87,14 @@ module _ {b : Stated} {c : Call} {at : ℕ} {own : Slots 64} (t : Taken b c at o
   responded a slots out net h e small room k w held =
       let whole : sets out 0 (all slots) ≡ all slots ++ drop (0 + length (all slots)) out = sets-eq (all slots) out 0 (omega (arith, room)) in
       record {
-        member = ap (λ (new : Stated). liveAt new (unitOf c) (timeOf c)) k ∙ taken-live t;
+        member = ap (λ (new : Contents). liveAt new (unitOf c) (timeOf c)) k ∙ taken-live t;
         slots = slots;
-        held = e ∙ (slots-now t ∙ ap (λ (new : Stated). slotsAt new (unitOf c) (timeOf c)) (sym k));
+        held = e ∙ (slots-now t ∙ ap (λ (new : Contents). slotsAt new (unitOf c) (timeOf c)) (sym k));
         sized = w ∙ length-for p (unitOf c) (timeOf c) slots;
         read =
             ap (λ (s : List ℕ). map readFrame (framesIn (length slots) s)) (held ∙ whole)
             ∙ (responses-read p (unitOf c) (timeOf c) (t .allowed .of-unit) (rule .named) net h slots (drop (0 + length (all slots)) out) small
-            ∙ ap (λ (plan : Plan). map (saying (unitOf c) (timeOf c) (plan .network)) slots) (sym (ap (λ (new : Stated). new .plan) k ∙ keeps-plan b c .0)));
+            ∙ ap (λ (plan : Plan). map (saying (unitOf c) (timeOf c) (plan .network)) slots) (sym (ap (λ (new : Contents). new .plan) k ∙ keeps-plan b c .0)));
       }
 
 pub responses-are-read : ResponsesRead
@@ -108,7 +108,7 @@ responses-are-read b s time out net h = (
   λ z.
       let t = ask-taken b s time out z in
       let fits = ltb-false _ _ (ask-allowed b s time out z .2) in
-      responded t (askOf b s time out) (slotsTold (b .plan) (rowFor (askIn s .node) (rowsAt b time)) (askedSlots b s time)) out net h refl (below t)
+      responded t (askOf b s time out) (slotsTold (b .plan) (placeFor (askIn s .node) (rowsAt b time)) (askedSlots b s time)) out net h refl (below t)
       fits refl (after-accepted _ 0 _ z) (after-accepted _ out _ z),
 )
 

@@ -30,7 +30,7 @@ use Rattle.route_forwards.specs.Forwards.{forwardOf}
 use Rattle.route_pages.specs.Pages.{entryFor, onPage, pageOf}
 use Rattle.route_relays.specs.Relays.{relayOf}
 use Rattle.route_bytes.specs.TableTrips.{Sized}
-use Rattle.book.specs.Books.{Stated, liveAt}
+use Rattle.book.specs.Books.{Contents, liveAt}
 use Rattle.book_joins.specs.Joins.{joinIn, joinOf, askIn, askOf}
 use Rattle.book_joins.specs.Responses.{toldIn}
 use Rattle.book_history.specs.BookLaws.{slotsAt}
@@ -44,7 +44,7 @@ framesIn (suc n) s = take 13 s ∷ framesIn n (drop 13 s)
 -- the answer to a unit, so many bytes at the start of a buffer: the unit is a live member of the book that the call leaves, and the bytes are one frame
 -- for each slot that this book has for it, its control slot first; each is read as an accepted join response to this unit: 0x22, unit, status 0, slot,
 -- superframe time, network
-pub record Responded (unit time : ℕ) (book : Stated) (written : ℕ) (out : List ℕ) : Type 0 where
+pub record Responded (unit time : ℕ) (book : Contents) (written : ℕ) (out : List ℕ) : Type 0 where
   pub member : liveAt book unit time ≡ true
   pub slots : List ℕ
   pub held : slots ≡ slotsAt book unit time
@@ -55,7 +55,7 @@ pub record Responded (unit time : ℕ) (book : Stated) (written : ℕ) (out : Li
 -- an accepted join, and an accepted slot request
 abbrev pub ResponsesRead : Type 0
 ResponsesRead =
-    (b : Stated) (s : List ℕ) (time : ℕ) (out : List ℕ) → b .plan .network < 0x10000 → time < 0x100000000
+    (b : Contents) (s : List ℕ) (time : ℕ) (out : List ℕ) → b .plan .network < 0x10000 → time < 0x100000000
     → let joined = joinOf b s time out in
     let asked = askOf b s time out in
     (joined .refused ≡ 0 → Responded (joinIn s .node) time (joined .book) (joined .written) (joined .held))
@@ -72,7 +72,7 @@ slotsRead n out = map slotSaid (map readFrame (framesIn n out))
 -- so what an answer tells its unit, cut out of its bytes (`toldIn`), is what the reader reads in it
 abbrev pub ToldAsRead : Type 0
 ToldAsRead =
-    (b : Stated) (s : List ℕ) (time : ℕ) (out : List ℕ) → b .plan .network < 0x10000 → time < 0x100000000
+    (b : Contents) (s : List ℕ) (time : ℕ) (out : List ℕ) → b .plan .network < 0x10000 → time < 0x100000000
     → let joined = joinOf b s time out in
     let asked = askOf b s time out in
     (joined .refused ≡ 0 → slotsRead (joined .written / 13) (joined .held) ≡ toldIn (joined .written / 13) (joined .held))

@@ -5,7 +5,7 @@ ghost use lib.ListN.{length};
 ghost use lib.Seq.{sets};
 ghost use Prim.Native.Nat.{_≤_};
 ghost use Rattle.octets.specs.Calls.{after};
-ghost use Rattle.book.specs.Books.{stated};
+ghost use Rattle.book.specs.Books.{contents};
 ghost use Rattle.book_bytes.specs.BookBytes.{bookSize, bookBytes};
 ghost use Rattle.c_requests.specs.RequestCalls.{requestLeft, joinCall, slotRequestCall};
 use book_bytes::books::BOOK_SIZE;
@@ -18,7 +18,7 @@ use book_joins::joining::join;
 // The end of both calls: unless something refuses it, the book goes to its buffer, and the number of bytes written to the caller.
 fn settle(book: &mut [u8], granted: Granted, written: &mut u32) -> u8
     requires { ⌜ granted .written ≤ 845 ⌝ }
-    ensures { λ r. ⌜ (r ≡ granted .refused) × (now (book .exit) ≡ after (granted .refused) (now (book .entry)) (sets (now (book .entry)) 0 (bookBytes (stated (granted .book))))) × (now (written .exit) ≡ after (granted .refused) (now (written .entry)) (granted .written)) × (granted .refused ≡ 0 → length (bookBytes (stated (granted .book))) ≡ bookSize) ⌝ }
+    ensures { λ r. ⌜ (r ≡ granted .refused) × (now (book .exit) ≡ after (granted .refused) (now (book .entry)) (sets (now (book .entry)) 0 (bookBytes (contents (granted .book))))) × (now (written .exit) ≡ after (granted .refused) (now (written .entry)) (granted .written)) × (granted .refused ≡ 0 → length (bookBytes (contents (granted .book))) ≡ bookSize) ⌝ }
 {
     let next = granted.book;
     let status = write_back(book, granted.refused, next);

@@ -20,7 +20,7 @@ use Rattle.site_plan.proofs.ToldLaws.{told-plan-one}
 use Rattle.book_members.specs.declared.member.Member.{Member}
 use Rattle.book_members.specs.Members.{Row, rowOf, rowsOf}
 use Rattle.book.specs.declared.book.Book.{Book}
-use Rattle.book.specs.Books.{Stated, stated}
+use Rattle.book.specs.Books.{Contents, contents}
 use Rattle.paper.specs.Single.{TellsApart, SingleAnswer, PartsTellApart, any, mask, maskRow, maskRows, maskBook, ViewsTellApart}
 
 pub single-answer : SingleAnswer
@@ -59,10 +59,10 @@ unfolding rowsOf
 rows-back [] p = refl
 rows-back (m ∷ ms) p = ap₂ _∷_ (row-back m (p .0)) (rows-back ms (p .1))
 
-bookBack : Stated → Book
+bookBack : Contents → Book
 bookBack b = record { plan = b .plan; time = b .time; rows = map rowBack (b .places) }
 
-book-back : (b : Book) → maskBook b → bookBack (stated b) ≡ b
+book-back : (b : Book) → maskBook b → bookBack (contents b) ≡ b
 unfolding bookBack
 book-back b p = ap (λ (rows : List Member). record { plan = b .plan; time = b .time; rows = rows }) (rows-back (b .rows) p)
 
@@ -93,7 +93,7 @@ views-tell-apart =
       census =
           undone _ _ (λ v. record { own = v .0; place = v .1; slots = maskOf (v .2); vacant = v .3 })
           (λ c p. ap (λ (slots : ℕ). record { own = c .own; place = c .place; slots = slots; vacant = c .vacant }) (mask-back (c .slots) p));
-      books = undone maskBook stated bookBack book-back;
+      books = undone maskBook contents bookBack book-back;
       changes = undone _ _ (λ l. record { refused = l .refused; book = bookBack (l .book) }) (λ c p. ap (λ (b : Book). record { refused = c .refused; book = b }) (book-back (c .book) p));
       grants = undone _ _ (λ l. (record { refused = l .refused; written = l .written; book = bookBack (l .book) }, l .held)) (λ a p. ap (λ (b : Book). (record { refused = a .0 .refused; written = a .0 .written; book = b }, a .1)) (book-back (a .0 .book) p));
       reads = undone any _ (λ l. (l .status, l .fields, l .place, l .extent)) (λ a p. refl);

@@ -30,7 +30,7 @@ use Rattle.book_members.specs.declared.member.Member.{Member}
 use Rattle.book_members.specs.Members.{rowsOf}
 use Rattle.book.specs.declared.book.Book.{Book}
 use Rattle.book.specs.declared.book.Changed.{Changed}
-use Rattle.book.specs.Books.{stated, leftBy}
+use Rattle.book.specs.Books.{contents, changeOf}
 use Rattle.book_joins.specs.declared.grants.Granted.{Granted}
 use Rattle.book_joins.specs.Joins.{answeredBy}
 use Rattle.c_unit.specs.ClockCalls.{clockLeft}
@@ -110,8 +110,8 @@ pub record ViewsTellApart : Type 1 where
   pub masks : TellsApart mask slotsOf
   pub rows : TellsApart maskRows rowsOf
   pub census : TellsApart {B = ℕ × ℕ × Slots 64 × ℕ} (λ c. mask (c .slots)) (λ (c : Census). (c .own, c .place, slotsOf (c .slots), c .vacant))
-  pub books : TellsApart maskBook stated
-  pub changes : TellsApart (λ c. maskBook (c .book)) leftBy
+  pub books : TellsApart maskBook contents
+  pub changes : TellsApart (λ c. maskBook (c .book)) changeOf
   pub grants : TellsApart (λ (a : Granted × List ℕ). maskBook (a .0 .book)) (λ a. answeredBy (a .0) (a .1))
   -- what a call leaves to C: its status, and each buffer and out parameter
   pub reads : TellsApart any (λ (a : ℕ × List ℕ × ℕ × ℕ). readLeft (a .0) (a .1) (a .2) (a .3))

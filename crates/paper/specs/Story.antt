@@ -7,7 +7,7 @@ use lib.ListN.{replicate}
 use Rattle.frame_kinds.specs.Shape.{frameOf}
 use Rattle.frame_requests.specs.Requests.{joinRequest, joinRequestValues, slotRequest, slotRequestValues}
 use Rattle.site_plan.specs.declared.plan.Plan.{Plan}
-use Rattle.book.specs.Books.{Stated, heardOf, leaveOf, freshBook}
+use Rattle.book.specs.Books.{Contents, heardOf, leaveOf, freshBook}
 use Rattle.book.specs.Schedules.{scheduleOf}
 use Rattle.book_joins.specs.Joins.{Answered, joinOf, askOf}
 use Rattle.book_joins.specs.Responses.{toldIn}
@@ -19,7 +19,7 @@ use Rattle.book_history.specs.BookEvents.{fresh, call, grantedAt}
 abbrev pub grantTold : Answered → List ℕ
 grantTold a = a .refused ∷ toldIn (a .written / 13) (a .held)
 
-abbrev pub told : Stated → Call → List ℕ
+abbrev pub told : Contents → Call → List ℕ
 told b (join s time out) = grantTold (joinOf b s time out)
 told b (ask s time out) = grantTold (askOf b s time out)
 told b (heard unit time) = heardOf b unit time .refused ∷ []
@@ -27,7 +27,7 @@ told b (leave unit time) = leaveOf b unit time .refused ∷ []
 told b (schedule unit hop time out) = scheduleOf b unit hop time out .said .refusal ∷ []
 
 -- what calls say, one after the other
-abbrev pub run : Stated → List Call → List (List ℕ)
+abbrev pub run : Contents → List Call → List (List ℕ)
 run b [] = []
 run b (c ∷ cs) = told b c ∷ run (next b c) cs
 

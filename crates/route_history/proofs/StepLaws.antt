@@ -34,7 +34,7 @@ use Rattle.route_merges.proofs.LearnLaws.{Kept, learn-all-every}
 use Rattle.route_merges.proofs.MergeLaws.{some-origin}
 use Rattle.route_forwards.specs.Forwards.{forwardRefusal, forwardOf}
 use Rattle.route_forwards.proofs.ForwardLaws.{onward, forward-within}
-use Rattle.route_history.specs.TableCalls.{Call, merge, forget, forward, lookup, relay, page, answer, changes, stepOf, Update, Past, followed, after, fresh}
+use Rattle.route_history.specs.TableCalls.{Call, merge, forget, forward, lookup, relay, page, answer, changes, stepOf, Update, Past, followed, afterCalls, fresh}
 use Rattle.route_history.specs.TableLaws.{borne, before, Accounts}
 use Rattle.route_history.proofs.FreshLaws.{borne-later, borne-on, borne-new, borne-kept, borne-forgotten, logged-on}
 
@@ -190,7 +190,7 @@ good-next p (lookup d time) g = reading p (lookup d time) refl g
 good-next p (relay s time out) g = reading p (relay s time out) refl g
 good-next p (page n time out) g = reading p (page n time out) refl g
 
-pub good-after : (p : Past) (cs : List Call) → Good p → Good (after p cs)
+pub good-after : (p : Past) (cs : List Call) → Good p → Good (afterCalls p cs)
 good-after p [] g = g
 good-after p (c ∷ cs) g = good-after (followed p c) cs (good-next p c g)
 

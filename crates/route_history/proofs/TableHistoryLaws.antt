@@ -25,7 +25,7 @@ use Rattle.route_pages.proofs.AlikeLaws.{page-alike}
 use Rattle.route_relays.proofs.AlikeLaws.{relay-alike}
 use Rattle.route_forwards.proofs.AlikeLaws.{forward-refused, forward-written, forward-held, forward-table}
 use Rattle.route_forwards.proofs.ForwardLaws.{forward-within}
-use Rattle.route_history.specs.TableCalls.{Call, merge, forget, forward, lookup, relay, page, next, answers, newTable, answer, Past, after, fresh}
+use Rattle.route_history.specs.TableCalls.{Call, merge, forget, forward, lookup, relay, page, next, answers, newTable, answer, Past, afterCalls, fresh}
 use Rattle.route_history.specs.TableLaws.{AnswersHeard, Freshness, Accounts, FreshnessFrom, KeepsRule, RefusedKeeps, StaysWithinRule, GoneRowsDoNotMatter}
 use Rattle.route_history.proofs.FreshLaws.{heard}
 use Rattle.route_history.proofs.LookupLaws.{answering, Found, found, with-values}
@@ -82,14 +82,14 @@ answers-heard p a time hop more = (
       rw (← same) (heard p (dataIn s .destination) time a f),
 )
 
-accounts-after : (own began : ℕ) (cs : List Call) → freshOf own began .refused ≡ 0 → Accounts (after (fresh own began) cs)
+accounts-after : (own began : ℕ) (cs : List Call) → freshOf own began .refused ≡ 0 → Accounts (afterCalls (fresh own began) cs)
 accounts-after own began cs z = good-after (fresh own began) cs (good-fresh own began z) .accounts
 
 pub freshness : Freshness
-freshness own began cs z = answers-heard (after (fresh own began) cs) (accounts-after own began cs z)
+freshness own began cs z = answers-heard (afterCalls (fresh own began) cs) (accounts-after own began cs z)
 
 pub freshness-from : FreshnessFrom
-freshness-from = (accounts-after, λ p cs w a. answers-heard (after p cs) (good-after p cs (record { rule = w; accounts = a }) .accounts))
+freshness-from = (accounts-after, λ p cs w a. answers-heard (afterCalls p cs) (good-after p cs (record { rule = w; accounts = a }) .accounts))
 
 pub stays-within-rule : StaysWithinRule
 stays-within-rule own began cs z = good-after (fresh own began) cs (good-fresh own began z) .rule

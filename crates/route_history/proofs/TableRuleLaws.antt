@@ -17,7 +17,7 @@ use Rattle.route_merges.specs.Merges.{mergeRefusal, mergeOf, mergeReasons}
 use Rattle.route_forwards.specs.Forwards.{forwardRefusal, forwardOf, forwardReasons}
 use Rattle.route_pages.specs.Pages.{pageThere, pageRefusal, pageOf, pageReasons}
 use Rattle.route_relays.specs.Relays.{relayRefusal, relayReasons}
-use Rattle.route_history.specs.TableCalls.{Call, merge, forget, forward, lookup, relay, page, answer, after, fresh}
+use Rattle.route_history.specs.TableCalls.{Call, merge, forget, forward, lookup, relay, page, answer, afterCalls, fresh}
 use Rattle.route_history.specs.TableLaws.{wrongPage, OnlyForPages}
 use Rattle.frame_kinds.proofs.FourteenLaws.{some-number, in-rule, read-never, only-so}
 use Rattle.route_history.proofs.TableHistoryLaws.{relay-number, stays-within-rule}
@@ -83,4 +83,4 @@ module _ (t : Table) (w : withinRule t ≡ true) where
   only-pages (page p time out) e = only-so (pageThere (standing time (rowsOf t)) p) (λ there. page-never p time (length out) there (sym (unless-number _ _) ∙ e))
 
 pub only-for-pages : OnlyForPages
-only-for-pages own began cs c z = only-pages (after (fresh own began) cs .table) (stays-within-rule own began cs z) c
+only-for-pages own began cs c z = only-pages (afterCalls (fresh own began) cs .table) (stays-within-rule own began cs z) c

@@ -117,9 +117,9 @@ abbrev pub followed : Past → Call → Past
 followed p c =
     record { table = next (p .table) c; clock = moved (p .clock) (stepOf (p .table) c); log = logged (p .table) c (p .clock) (p .log) }
 
-abbrev pub after : Past → List Call → Past
-after p [] = p
-after p (c ∷ cs) = after (followed p c) cs
+abbrev pub afterCalls : Past → List Call → Past
+afterCalls p [] = p
+afterCalls p (c ∷ cs) = afterCalls (followed p c) cs
 
 -- a fresh table, with no update yet
 abbrev pub fresh : ℕ → ℕ → Past

@@ -15,7 +15,7 @@ use Rattle.route_table.specs.Rows.{standing}
 use Rattle.route_table.specs.Tables.{rowsOf, withinRule, dropped, freshOf, lookupOf}
 use Rattle.route_pages.specs.Pages.{pageThere}
 use Rattle.route_relays.specs.Relays.{relayOf}
-use Rattle.route_history.specs.TableCalls.{Call, merge, forget, forward, lookup, relay, page, timeOf, next, answer, stepsOf, Update, Past, after, fresh, timesFrom}
+use Rattle.route_history.specs.TableCalls.{Call, merge, forget, forward, lookup, relay, page, timeOf, next, answer, stepsOf, Update, Past, afterCalls, fresh, timesFrom}
 
 -- ---- freshness
 -- updates from this unit have been accepted, and the last of them no later than now and at most 300,000 ms before, in elapsed ms
@@ -36,7 +36,7 @@ AnswersHeard p =
 
 -- so it is from a fresh table on, over any list of calls, accepted or refused
 abbrev pub Freshness : Type 0
-Freshness = (own began : ℕ) (cs : List Call) → freshOf own began .refused ≡ 0 → AnswersHeard (after (fresh own began) cs)
+Freshness = (own began : ℕ) (cs : List Call) → freshOf own began .refused ≡ 0 → AnswersHeard (afterCalls (fresh own began) cs)
 
 -- the first of some elapsed times is at most this age before now
 abbrev pub since : ℕ → ℕ → List ℕ → Bool
@@ -61,15 +61,15 @@ pub record Accounts (p : Past) : Type 0 where
 -- next hop that is answered was heard
 abbrev pub FreshnessFrom : Type 0
 FreshnessFrom =
-    ((own began : ℕ) (cs : List Call) → freshOf own began .refused ≡ 0 → Accounts (after (fresh own began) cs))
-    × ((p : Past) (cs : List Call) → withinRule (p .table) ≡ true → Accounts p → AnswersHeard (after p cs))
+    ((own began : ℕ) (cs : List Call) → freshOf own began .refused ≡ 0 → Accounts (afterCalls (fresh own began) cs))
+    × ((p : Past) (cs : List Call) → withinRule (p .table) ≡ true → Accounts p → AnswersHeard (afterCalls p cs))
 
 -- where calls are made in time, as document 02 asks, elapsed time is true time: the next hop's last update is at most 300,000 true ms old
 abbrev pub TrueTime : Type 0
 TrueTime =
     (own began : ℕ) (cs : List Call) (nows : List ℕ)
     → let p = fresh own (began % 2 ^ 32) in
-    let ss = stepsOf (p .table) cs in Timely began ss nows → IsTrue began (after p cs .clock) (lastOf began ss nows)
+    let ss = stepsOf (p .table) cs in Timely began ss nows → IsTrue began (afterCalls p cs .clock) (lastOf began ss nows)
 
 -- ---- the rule
 -- a fresh table is within rule, and so is the table after every accepted call
@@ -84,7 +84,7 @@ RefusedKeeps = (t : Table) (c : Call) → (answer t c .said .refusal ≡ 0 → �
 
 -- every table that comes from a fresh one is within rule, so that along a history no call is refused for its table
 abbrev pub StaysWithinRule : Type 0
-StaysWithinRule = (own began : ℕ) (cs : List Call) → freshOf own began .refused ≡ 0 → withinRule (after (fresh own began) cs .table) ≡ true
+StaysWithinRule = (own began : ℕ) (cs : List Call) → freshOf own began .refused ≡ 0 → withinRule (afterCalls (fresh own began) cs .table) ≡ true
 
 -- 14 is only for a page that is not there
 abbrev pub wrongPage : Table → Call → Bool
@@ -98,7 +98,7 @@ wrongPage t (page p time out) = not (pageThere (standing time (rowsOf t)) p)
 abbrev pub OnlyForPages : Type 0
 OnlyForPages =
     (own began : ℕ) (cs : List Call) (c : Call) → freshOf own began .refused ≡ 0
-    → let t = after (fresh own began) cs .table in answer t c .said .refusal ≡ 14 → wrongPage t c ≡ true
+    → let t = afterCalls (fresh own began) cs .table in answer t c .said .refusal ≡ 14 → wrongPage t c ≡ true
 
 -- ---- gone rows
 -- a table and the same table without the rows that are gone answer every call alike

@@ -85,11 +85,11 @@ module _ (s : Site) (c : Course) (z : Sited s) (w : Clocks s c) (r : ℕ) (a : R
   all-machine (h ∷ hs) f g = (machine s c z r before (rowsAfter c r) (untilAfter c r) same right u m h (f .0) (g .0), all-machine hs (f .1) (g .1))
 
   round-held : (hs : List Heard) → Each (Fair s c u) hs → Each (Sent before) hs
-      → heldAfter (inBytes (pastAfter c r u)) (map (takingInC buffers) hs) ≡ inBytes (history.after (pastAfter c r u) (map (taking before) hs))
+      → heldAfter (inBytes (pastAfter c r u)) (map (takingInC buffers) hs) ≡ inBytes (history.afterCalls (pastAfter c r u) (map (taking before) hs))
   round-held hs f g =
       ap (heldAfter (inBytes (pastAfter c r u))) (all-calls hs f g)
       ∙ (held-same (pastAfter c r u) (map (inC before) hs) (all-machine hs f g) (same u m .sized)
-      ∙ ap (λ (l : List Call). inBytes (history.after (pastAfter c r u) l)) (calls-are before hs))
+      ∙ ap (λ (l : List Call). inBytes (history.afterCalls (pastAfter c r u) l)) (calls-are before hs))
 
 -- ---- rounds
 pub holds-tables : HoldsTables

@@ -32,7 +32,7 @@ use Rattle.route_merges.proofs.KeepLaws.{merge-gives, merge-rules, merge-within
 use Rattle.route_pages.specs.Pages.{entryFor, onPage, pageFrame, pageReasons, pageRefusal, pageOf}
 use Rattle.route_pages.proofs.PageLaws.{page-short}
 use Rattle.route_pages.proofs.StandLaws.{page-frame-bytes}
-use Rattle.route_history.specs.TableCalls.{merge, next, stepOf, Past, followed, after}
+use Rattle.route_history.specs.TableCalls.{merge, next, stepOf, Past, followed, afterCalls}
 use Rattle.c_read_back.specs.FramesRead.{Paged, Offered}
 use Rattle.c_read_back.proofs.OfferLaws.{pages-offer}
 use Rattle.c_read_back.proofs.PageReadLaws.{pages-are-read}
@@ -220,9 +220,9 @@ module _ (s : Site) (c : Course) (z : Sited s) (r : ℕ) (before : ℕ → Table
 
   module _ (hs : List Heard) (f : Each (Fair s c u) hs) (g : Each (Sent before) hs) (p : Past) (order : ordered (p .table .time) hs ≡ true) (now : ℕ) (rows : List Row)
       (k : Midway now rows (p .table)) where
-    pub all-held : Holds c u (mergedUntil c u now hs) (after p (map (taking before) hs) .table) (learnsAll u their hs rows)
+    pub all-held : Holds c u (mergedUntil c u now hs) (afterCalls p (map (taking before) hs) .table) (learnsAll u their hs rows)
     all-held =
-        by-pages (λ p now rows hs. Holds c u (mergedUntil c u now hs) (after p (map (taking before) hs) .table) (learnsAll u their hs rows)) (λ p now rows k. k .held)
+        by-pages (λ p now rows hs. Holds c u (mergedUntil c u now hs) (afterCalls p (map (taking before) hs) .table) (learnsAll u their hs rows)) (λ p now rows k. k .held)
         (λ h hs p now rows f g k o later. later) hs f g p order now rows k
 
     pub all-turn : AllInTurn c u until now hs
@@ -239,12 +239,12 @@ module _ (s : Site) (c : Course) (z : Sited s) (r : ℕ) (before : ℕ → Table
 
     -- the clock of the calls: the table's last accepted time, and the ms since the unit began
     pub all-clocked : p .clock ≡ record { last = p .table .time; elapsed = now }
-        → after p (map (taking before) hs) .clock ≡ record { last = after p (map (taking before) hs) .table .time; elapsed = mergedUntil c u now hs }
+        → afterCalls p (map (taking before) hs) .clock ≡ record { last = afterCalls p (map (taking before) hs) .table .time; elapsed = mergedUntil c u now hs }
     all-clocked =
         by-pages
         (λ p now rows hs.
         p .clock ≡ record { last = p .table .time; elapsed = now }
-        → after p (map (taking before) hs) .clock ≡ record { last = after p (map (taking before) hs) .table .time; elapsed = mergedUntil c u now hs })
+        → afterCalls p (map (taking before) hs) .clock ≡ record { last = afterCalls p (map (taking before) hs) .table .time; elapsed = mergedUntil c u now hs })
         (λ p now rows k e. e) (λ h hs p now rows f g k o later e. later (clocked h f g p now rows k o e)) hs f g p order now rows k
       where
         clocked : (h : Heard) (f : Fair s c u h) (g : Sent before h) (p : Past) (now : ℕ) (rows : List Row) (k : Midway now rows (p .table)) (o : inOrder (p .table .time) (h .time) ≡ true)

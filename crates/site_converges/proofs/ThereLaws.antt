@@ -19,7 +19,7 @@ use Rattle.route_table.specs.declared.row.Row.{Row}
 use Rattle.route_table.specs.declared.table.Table.{Table}
 use Rattle.route_table.specs.Tables.{rowsOf}
 use Rattle.route_pages.specs.Pages.{pageThere}
-use Rattle.route_history.specs.TableCalls.{Past, after, fresh}
+use Rattle.route_history.specs.TableCalls.{Past, afterCalls, fresh}
 use Rattle.site_converges.specs.Sites.{Site, Sited, among}
 use Rattle.site_converges.specs.Courses.{Heard, Course, InTime, Fair}
 use Rattle.site_converges.specs.RowRounds.{rowsAfter, untilAfter, toHear, Hears}
@@ -43,7 +43,7 @@ hearing s before u (o ∷ os) = cond (s .linked u o) (pages before o ++ hearing 
 
 unfoldable pasts : Site → ℕ → ℕ → Past
 pasts s zero u = fresh u 0
-pasts s (suc r) u = after (pasts s r u) (map (taking (λ o. pasts s r o .table)) (hearing s (λ o. pasts s r o .table) u (s .units)))
+pasts s (suc r) u = afterCalls (pasts s r u) (map (taking (λ o. pasts s r o .table)) (hearing s (λ o. pasts s r o .table) u (s .units)))
 
 abbrev course : Site → Course
 course s = record { began = λ u. 0; heard = λ k u. hearing s (λ o. pasts s k o .table) u (s .units) }
@@ -52,7 +52,7 @@ pasts-are : (s : Site) (r : ℕ) → pasts s r ≡ pastAfter (course s) r
 unfolding pasts pastAfter
 pasts-are s zero = refl
 pasts-are s (suc r) =
-    ap (λ (b : ℕ → Past). λ (u : ℕ). after (b u) (map (taking (λ o. b o .table)) (hearing s (λ o. pasts s r o .table) u (s .units)))) (pasts-are s r)
+    ap (λ (b : ℕ → Past). λ (u : ℕ). afterCalls (b u) (map (taking (λ o. b o .table)) (hearing s (λ o. pasts s r o .table) u (s .units)))) (pasts-are s r)
 
 -- 300,000 is in time for each unit
 all-the-time : ageAt 300000 0 ≡ 300000

@@ -10,7 +10,7 @@ use Rattle.moments.specs.Moments.{inOrder}
 use Rattle.route_table.specs.declared.table.Table.{Table}
 use Rattle.route_table.specs.Tables.{rowsOf}
 use Rattle.route_pages.specs.Pages.{pageOf}
-use Rattle.route_history.specs.TableCalls.{Call, merge, Past, after, fresh}
+use Rattle.route_history.specs.TableCalls.{Call, merge, Past, afterCalls, fresh}
 use Rattle.site_converges.specs.Sites.{Site, Sited, among}
 use Rattle.site_converges.specs.Courses.{Heard, Course, InTime, Fair}
 use Rattle.site_converges.specs.RowRounds.{toHear, Hears}
@@ -36,7 +36,7 @@ taking tables h = merge (bytesOf (tables (h .from)) (h .page) (h .written)) (h .
 -- each unit's history: a fresh table, and in each round a merge of each page that it hears, written from the tables as they stood before the round
 unfoldable pub pastAfter : Course → ℕ → ℕ → Past
 pastAfter c zero u = fresh u (c .began u)
-pastAfter c (suc r) u = after (pastAfter c r u) (map (taking (λ o. pastAfter c r o .table)) (c .heard r u))
+pastAfter c (suc r) u = afterCalls (pastAfter c r u) (map (taking (λ o. pastAfter c r o .table)) (c .heard r u))
 
 -- its table after so many rounds
 abbrev pub tableAfter : Course → ℕ → ℕ → Table

@@ -8,7 +8,7 @@ use Rattle.octets.specs.Answers.{Reason, reason, first}
 use Rattle.moments.specs.Moments.{ageAt, inOrder}
 use Rattle.unit_life.specs.declared.state.State.{State}
 use Rattle.unit_life.specs.declared.state.Lived.{Lived}
-use Rattle.unit_life.specs.States.{Initializing, Discovery, Joining, Normal, Recovery, Stopped, Nowhere, beacon, leadsTo, tickTo}
+use Rattle.unit_life.specs.States.{Initializing, Discovery, Joining, Normal, Recovery, Stopped, Nowhere, beacon, kindAfter, tickTo}
 
 -- the kinds whose time runs from their entry
 abbrev pub runsFromEntry : ℕ → Bool
@@ -27,8 +27,8 @@ abbrev pub freshState : ℕ → State
 freshState time = record { kind = Initializing; last = time; entered = time; beacon = time }
 
 -- the state that goes to a kind at a time. A change of kind sets `entered`; `heard` says that a beacon counts, and so does entering Normal
-unfoldable pub gone : State → ℕ → Bool → ℕ → State
-gone s to heard time =
+unfoldable pub movedOn : State → ℕ → Bool → ℕ → State
+movedOn s to heard time =
     let changed = not (eqb to (s .kind)) in
     record {
       kind = to;
@@ -47,12 +47,12 @@ reasons s time own = reason (not (withinRule s)) 14 ∷ reason (not (inOrder (s 
 
 -- the answer of a call that has its own reason and else goes to a kind
 abbrev pub stepped : State → ℕ → Reason → ℕ → Bool → Lived
-stepped s time own to heard = lived (reasons s time own) s (gone s to heard time)
+stepped s time own to heard = lived (reasons s time own) s (movedOn s to heard time)
 
 -- an event at a time: 14, 8, 7
 unfoldable pub onEvent : State → ℕ → ℕ → Lived
 onEvent s event time =
-    let to = leadsTo (s .kind) event in
+    let to = kindAfter (s .kind) event in
     stepped s time (reason (eqb to Nowhere) 7) to (eqb event beacon)
 
 -- a superframe has 1 to 6,553,500 ms

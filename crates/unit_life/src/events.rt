@@ -1,7 +1,7 @@
 // The events of a unit's life, by number and by name.
 ghost use mathlib.Core.Path.{_≡_};
 ghost use Rattle.unit_life.specs.Calls.{onEvent};
-ghost use Rattle.unit_life.specs.States.{ready, failed, beacon, accepted, denied, fault, elected, roleChange, recovered};
+ghost use Rattle.unit_life.specs.States.{ready, failed, beacon, joinAccepted, joinDenied, fault, elected, roleChange, recovered};
 use crate::state::Lived;
 use crate::state::State;
 use crate::table::leads_to;
@@ -34,13 +34,13 @@ impl State {
     }
 
     pub fn accepted(self, time: u32) -> Lived
-        ensures { λ r. ⌜ r ≡ onEvent self accepted time ⌝ }
+        ensures { λ r. ⌜ r ≡ onEvent self joinAccepted time ⌝ }
     {
         self.event(State::ACCEPTED, time)
     }
 
     pub fn denied(self, time: u32) -> Lived
-        ensures { λ r. ⌜ r ≡ onEvent self denied time ⌝ }
+        ensures { λ r. ⌜ r ≡ onEvent self joinDenied time ⌝ }
     {
         self.event(State::DENIED, time)
     }

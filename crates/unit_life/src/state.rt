@@ -1,7 +1,7 @@
 // A unit's state: how it begins, when it is within rule, and how a call that is accepted takes it on.
 ghost use mathlib.Core.Path.{_≡_};
 ghost use Rattle.octets.specs.Answers.{reason, first};
-ghost use Rattle.unit_life.specs.Calls.{withinRule, freshState, gone, reasons, stepped};
+ghost use Rattle.unit_life.specs.Calls.{withinRule, freshState, movedOn, reasons, stepped};
 use crate::choices::either;
 use crate::choices::either_time;
 use moments::in_order;
@@ -48,7 +48,7 @@ impl State {
 
     // The state that goes to a kind: a change of it is an entry, and entry into Normal counts as a beacon.
     fn gone(self, to: u8, heard: bool, time: u32) -> State
-        ensures { λ r. ⌜ r ≡ gone self to heard time ⌝ }
+        ensures { λ r. ⌜ r ≡ movedOn self to heard time ⌝ }
     {
         let changed = to != self.kind;
         let beacon = (heard & !changed) | (changed & (to == State::NORMAL));

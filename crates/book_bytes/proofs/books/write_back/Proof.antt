@@ -4,7 +4,7 @@ use mathlib.Core.Path.{refl, sym, _∙_}
 use lib.ListN.{length-map}
 use Rattle.octets.proofs.CallLaws.{after-accepted, after-refused}
 use Rattle.book_members.specs.Members.{rowOf, rowsOf}
-use Rattle.book.specs.Books.{stated}
+use Rattle.book.specs.Books.{contents}
 use Rattle.book_bytes.proofs.BookByteLaws.{length-book}
 use borrow.Author.Needs.{needs}
 use Rattle.book_bytes.proofs.books.write_back.Statement.{statement}
@@ -19,7 +19,7 @@ returns-2 c =
     let put = c .before .before .put-book .ensures in
     let a = c .before .before .before .before .before .before .args in
     let z = c .before .before .before .before .if1 .left in
-    (sym z, put .0 ∙ sym (after-accepted _ _ _ z), λ q. length-book (stated (a .next)) (length-map (a .next .rows) rowOf ∙ put .1))
+    (sym z, put .0 ∙ sym (after-accepted _ _ _ z), λ q. length-book (contents (a .next)) (length-map (a .next .rows) rowOf ∙ put .1))
 
 pub write-back-spec : {M : Type 1} → statement M
 write-back-spec =

@@ -5,7 +5,7 @@ use Prim.Native.Nat.{_+_, _-_, _≤_, min}
 use native.Mathlib.Nat.{zero-add}
 use native.Mathlib.Omega.{arith}
 use lib.ListN.{length, take, drop}
-use Rattle.book_members.specs.Members.{rowsOf, rowFor}
+use Rattle.book_members.specs.Members.{rowsOf, placeFor}
 use Rattle.book_members.proofs.RowLoopLaws.{rows-length, row-found, row-on, row-none}
 use borrow.Author.Needs.{needs}
 use Rattle.book_members.proofs.rows.row_for.Statement.{statement}
@@ -13,7 +13,7 @@ use Rattle.book_members.proofs.rows.row_for.Tie as tie
 
 abbrev Inv-loop : tie.InvT-loop
 Inv-loop count unit rows used i₀ i =
-    (i ≤ used) × (used ≡ min count 21) × (length rows ≡ 21) × (rowFor unit (take count (rowsOf rows)) ≡ i + rowFor unit (drop i (take count (rowsOf rows))))
+    (i ≤ used) × (used ≡ min count 21) × (length rows ≡ 21) × (placeFor unit (take count (rowsOf rows)) ≡ i + placeFor unit (drop i (take count (rowsOf rows))))
 
 abbrev μ-loop : tie.MeasureT-loop
 μ-loop count unit rows used i₀ i = used - i

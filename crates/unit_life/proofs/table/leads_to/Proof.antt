@@ -2,12 +2,12 @@
 -- Assumes nothing.
 use borrow.Author.Needs.{needs}
 use borrow.Author.Tests.{ne-eqb}
-use Rattle.unit_life.specs.States.{leadsTo}
+use Rattle.unit_life.specs.States.{kindAfter}
 use Rattle.unit_life.proofs.table.leads_to.Statement.{statement}
 use Rattle.unit_life.proofs.table.leads_to.Tie as tie
 
 pub leads-to-spec : {M : Type 1} → statement M
-unfolding leadsTo
+unfolding kindAfter
 leads-to-spec =
     tie.close
     (tie.spec (λ c κs. search needs)

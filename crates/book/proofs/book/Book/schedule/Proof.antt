@@ -9,7 +9,7 @@ use lib.Dec.{ltb}
 use mathlib.Core.Bool.{Bool, true}
 use denote.Ref.{now}
 use borrow.Author.Tests.{ltb-true}
-use Rattle.book.specs.Books.{stated, liveAt}
+use Rattle.book.specs.Books.{contents, liveAt}
 use Rattle.book.specs.Schedules.{scheduleRefusal}
 use Rattle.book.proofs.ScheduleLaws.{few-slots, Schedulable, schedulable, unscheduled, scheduled}
 use Rattle.book.proofs.VisitLaws.{live-now, found-at, slots-there}
@@ -18,7 +18,7 @@ use Rattle.book.proofs.book.Book.schedule.Statement.{statement}
 use Rattle.book.proofs.book.Book.schedule.Tie as tie
 
 -- what is known once it is decided
-live : (d : tie.After-refusal) → ltb (d .before .before .row-for .result) (d .before .in-use .result) ≡ liveAt (stated (d .before .before .before .before .before .before .before .args .self)) (d .before .before .before .before .before .before .before .args .unit) (d .before .before .before .before .before .before .before .args .time)
+live : (d : tie.After-refusal) → ltb (d .before .before .row-for .result) (d .before .in-use .result) ≡ liveAt (contents (d .before .before .before .before .before .before .before .args .self)) (d .before .before .before .before .before .before .before .args .unit) (d .before .before .before .before .before .before .before .args .time)
 live d =
     let a = d .before .before .before .before .before .before .before .args in
     let found = d .before .before in
@@ -26,19 +26,19 @@ live d =
     (d .before .in-use .ensures) (found .row-for .ensures .1)
 
 number : (d : tie.After-refusal)
-    → d .refusal .result ≡ scheduleRefusal (stated (d .before .before .before .before .before .before .before .args .self)) (d .before .before .before .before .before .before .before .args .unit) (d .before .before .before .before .before .before .before .args .hop) (d .before .before .before .before .before .before .before .args .time) (liveAt (stated (d .before .before .before .before .before .before .before .args .self)) (d .before .before .before .before .before .before .before .args .unit) (d .before .before .before .before .before .before .before .args .time)) (length (now (d .before .before .before .before .before .before .before .args .out)))
+    → d .refusal .result ≡ scheduleRefusal (contents (d .before .before .before .before .before .before .before .args .self)) (d .before .before .before .before .before .before .before .args .unit) (d .before .before .before .before .before .before .before .args .hop) (d .before .before .before .before .before .before .before .args .time) (liveAt (contents (d .before .before .before .before .before .before .before .args .self)) (d .before .before .before .before .before .before .before .args .unit) (d .before .before .before .before .before .before .before .args .time)) (length (now (d .before .before .before .before .before .before .before .args .out)))
 number d =
     let a = d .before .before .before .before .before .before .before .args in
-    d .refusal .ensures ∙ ap (λ (b : Bool). scheduleRefusal (stated (a .self)) (a .unit) (a .hop) (a .time) b (length (now (a .out)))) (live d)
+    d .refusal .ensures ∙ ap (λ (b : Bool). scheduleRefusal (contents (a .self)) (a .unit) (a .hop) (a .time) b (length (now (a .out)))) (live d)
 
 able : (d : tie.After-refusal) → d .refusal .result ≡ 0
-    → Schedulable (stated (d .before .before .before .before .before .before .before .args .self)) (d .before .before .before .before .before .before .before .args .unit) (d .before .before .before .before .before .before .before .args .hop) (d .before .before .before .before .before .before .before .args .time) (liveAt (stated (d .before .before .before .before .before .before .before .args .self)) (d .before .before .before .before .before .before .before .args .unit) (d .before .before .before .before .before .before .before .args .time)) (length (now (d .before .before .before .before .before .before .before .args .out)))
+    → Schedulable (contents (d .before .before .before .before .before .before .before .args .self)) (d .before .before .before .before .before .before .before .args .unit) (d .before .before .before .before .before .before .before .args .hop) (d .before .before .before .before .before .before .before .args .time) (liveAt (contents (d .before .before .before .before .before .before .before .args .self)) (d .before .before .before .before .before .before .before .args .unit) (d .before .before .before .before .before .before .before .args .time)) (length (now (d .before .before .before .before .before .before .before .args .out)))
 able d z = schedulable _ _ _ _ _ _ (sym (number d) ∙ z)
 
 returns : tie.Need-returns
 returns c =
     let a = c .before .before .before .before .before .before .before .before .args in
-    unscheduled (stated (a .self)) (a .unit) (a .hop) (a .time) (c .before .refusal .result) (now (a .out)) (number (c .before)) (c .if1 .taken)
+    unscheduled (contents (a .self)) (a .unit) (a .hop) (a .time) (c .before .refusal .result) (now (a .out)) (number (c .before)) (c .if1 .taken)
 
 cast-put-kinds : tie.Need-cast-put-kinds
 cast-put-kinds c =
@@ -73,7 +73,7 @@ returns-2 c =
     (found .row-for .ensures .1) in
     let own = slots-there (a .self) (a .unit) (a .time) rows (found .before .current .ensures) (found .row-for .result) (found .row-for .ensures .0) (d .before .in-use .result) (d .before .in-use .ensures)
     (found .row-for .ensures .1) (able d z .member) in
-    scheduled (stated (a .self)) (a .unit) (a .hop) (a .time) (d .refusal .result) (now (a .out)) (number d) (put .before .before .before .slots .result) (found .row-for .result) _ _ z
+    scheduled (contents (a .self)) (a .unit) (a .hop) (a .time) (d .refusal .result) (now (a .out)) (number d) (put .before .before .before .slots .result) (found .row-for .result) _ _ z
     (put .before .before .before .slots .ensures) at (put .before .slots-at .ensures ∙ own) (put .put-kinds .ensures)
 
 pub schedule-spec : {M : Type 1} → statement M

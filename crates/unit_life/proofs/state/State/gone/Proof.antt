@@ -1,12 +1,12 @@
 -- `gone`: each of its two times is picked by the definition's test.
 -- Assumes nothing.
 use borrow.Author.Needs.{needs}
-use Rattle.unit_life.specs.Calls.{gone}
+use Rattle.unit_life.specs.Calls.{movedOn}
 use Rattle.unit_life.proofs.state.State.gone.Statement.{statement}
 use Rattle.unit_life.proofs.state.State.gone.Tie as tie
 
 returns : tie.Need-returns
-unfolding gone
+unfolding movedOn
 returns c = rw (c .either-time2 .ensures, c .before .either-time .ensures)
 
 pub gone-spec : {M : Type 1} → statement M

@@ -9,7 +9,7 @@ use Rattle.octets.specs.Answers.{Reason, reason, first}
 use Rattle.octets.specs.Calls.{after}
 use Rattle.octets.specs.Lists.{every}
 use Rattle.moments.specs.Moments.{inOrder}
-use Rattle.frame_kinds.specs.Rules.{address}
+use Rattle.octets.specs.Addresses.{address}
 use Rattle.slot_sets.specs.Sets.{firsts}
 use Rattle.site_plan.specs.declared.plan.Plan.{Plan}
 use Rattle.site_plan.specs.Plans.{planRule}

@@ -11,7 +11,7 @@ use Rattle.octets.specs.Calls.{after}
 use Rattle.octets.specs.Lists.{tab}
 use Rattle.octets.specs.Told.{Wrote}
 use Rattle.moments.specs.Moments.{inOrder}
-use Rattle.frame_kinds.specs.Rules.{address}
+use Rattle.octets.specs.Addresses.{address}
 use Rattle.site_plan.specs.declared.plan.Plan.{Plan}
 use Rattle.site_plan.specs.Plans.{slots}
 use Rattle.site_plan.specs.Schedules.{kindOf}

@@ -10,7 +10,7 @@ use lib.Dec.{leb}
 use lib.ListN.{length, drop}
 use Rattle.moments.specs.Moments.{inOrder}
 use Rattle.moments.proofs.ElapsedLaws as elapsed
-use Rattle.frame_kinds.specs.Rules.{address}
+use Rattle.octets.specs.Addresses.{address}
 use Rattle.slot_sets.specs.Sets.{Slots, count, noSlots}
 use Rattle.book_members.specs.Members.{Row, vacantRow, placeFor, free}
 use Rattle.book_members.proofs.RowLaws.{row}

@@ -12,7 +12,7 @@ use Rattle.octets.specs.Answers.{first}
 use Rattle.octets.proofs.AnswerLaws.{numbered, refusing-numbered, none-holds, unless-number}
 use Rattle.moments.specs.Moments.{inOrder}
 use Rattle.frame_kinds.specs.Reading.{refusalAs}
-use Rattle.frame_kinds.specs.Rules.{address}
+use Rattle.octets.specs.Addresses.{address}
 use Rattle.frame_kinds.proofs.ReadingLaws.{passed}
 use Rattle.frame_requests.specs.Requests.{joinRequest, slotRequest}
 use Rattle.slot_sets.specs.Sets.{Slots}

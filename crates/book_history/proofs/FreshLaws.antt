@@ -13,7 +13,7 @@ use Rattle.octets.proofs.AnswerLaws.{numbered, none-holds}
 use Rattle.octets.specs.Lists.{every}
 use Rattle.octets.proofs.CallLaws.{after-accepted}
 use Rattle.moments.proofs.MomentLaws.{in-order-self}
-use Rattle.frame_kinds.specs.Rules.{address}
+use Rattle.octets.specs.Addresses.{address}
 use Rattle.slot_sets.specs.Sets.{count, Subset, firsts}
 use Rattle.slot_sets.proofs.SetLaws.{firsts-has}
 use Rattle.slot_sets.proofs.LowestLaws.{count-of-firsts}

@@ -9,7 +9,7 @@ use native.Mathlib.Omega.{arith}
 use lib.ListN.{length, length-set}
 use lib.Seq.{getD-set-other}
 use Rattle.moments.specs.Moments.{inOrder}
-use Rattle.frame_kinds.specs.Rules.{address}
+use Rattle.octets.specs.Addresses.{address}
 use Rattle.slot_sets.specs.Sets.{Slots, Apart}
 use Rattle.slot_sets.proofs.SetLaws.{nothing-has, disjoint-is-apart}
 use Rattle.book_members.specs.Members.{Row, emptyRow, placeFor}

@@ -14,7 +14,7 @@ use Rattle.octets.proofs.ListLaws.{every-at}
 use Rattle.moments.specs.Moments.{ageAt, inOrder}
 use Rattle.moments.specs.Elapsed.{Clock, started, nowAt, moved, clockAfter}
 use Rattle.moments.proofs.MomentLaws.{in-order-self, not-in-order, ages-add}
-use Rattle.frame_kinds.specs.Rules.{address}
+use Rattle.octets.specs.Addresses.{address}
 use Rattle.slot_sets.specs.Sets.{Slots}
 use Rattle.site_plan.specs.declared.plan.Plan.{Plan}
 use Rattle.book_members.specs.Members.{Row, emptyRow, vacantRow, placeFor}

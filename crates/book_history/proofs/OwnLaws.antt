@@ -12,7 +12,7 @@ use lib.ListN.{length}
 use Rattle.octets.specs.Lists.{every}
 use Rattle.moments.specs.Moments.{inOrder}
 use Rattle.moments.proofs.MomentLaws.{in-order-self}
-use Rattle.frame_kinds.specs.Rules.{address}
+use Rattle.octets.specs.Addresses.{address}
 use Rattle.book_members.specs.Members.{placeFor}
 use Rattle.book.specs.Books.{Contents, withinRule, rowsAt, liveAt}
 use Rattle.book_history.specs.Calls.{Call, join, ask, heard, leave, schedule, refusalOf}

@@ -2,7 +2,7 @@
 -- Assumes nothing.
 use mathlib.Core.Path.{_≡_, sym, subst}
 use Prim.Native.Nat.{ℕ, _<_}
-use Rattle.frame_kinds.proofs.RuleLaws.{address-fits}
+use Rattle.octets.proofs.AddressLaws.{address-fits}
 use Rattle.slot_sets.specs.Sets.{Slots}
 use Rattle.book_members.specs.Members.{emptyRow, placeFor}
 use Rattle.book.specs.Books.{Contents, rowsAt}

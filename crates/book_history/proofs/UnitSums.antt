@@ -11,7 +11,7 @@ use borrow.Author.Tests.{eq-eqb, ne-eqb, eqb-true, leb-true, lt-ltb}
 use lib.Dec.{eqb, leb, ltb, leb·suc-suc, eqb·suc-suc}
 use lib.ListN.{length}
 use Rattle.octets.specs.Lists.{every}
-use Rattle.frame_kinds.specs.Rules.{address}
+use Rattle.octets.specs.Addresses.{address}
 use Rattle.slot_sets.specs.Sets.{noSlots}
 use Rattle.book_members.specs.Members.{Row, vacantRow, placeFor}
 use Rattle.book_members.specs.Rules.{rowRule}

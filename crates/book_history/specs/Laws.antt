@@ -9,7 +9,7 @@ use lib.ListN.{length, getD}
 use Rattle.octets.specs.Lists.{every}
 use Rattle.moments.specs.Moments.{ageAt, inOrder}
 use Rattle.frame_kinds.specs.Reading.{refusalAs}
-use Rattle.frame_kinds.specs.Rules.{address}
+use Rattle.octets.specs.Addresses.{address}
 use Rattle.frame_requests.specs.Requests.{joinRequest}
 use Rattle.slot_sets.specs.Sets.{Slots, count, disjoint}
 use Rattle.site_plan.specs.declared.plan.Plan.{Plan}

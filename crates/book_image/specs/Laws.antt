@@ -10,7 +10,7 @@ use Rattle.octets.specs.Layouts.{Fit, Bytes, fields}
 use Rattle.octets.specs.Lists.{tab}
 use Rattle.octets.specs.Numbers.{num}
 use Rattle.moments.specs.Moments.{inOrder}
-use Rattle.frame_kinds.specs.Rules.{address}
+use Rattle.octets.specs.Addresses.{address}
 use Rattle.slot_sets.specs.Sets.{Slots, Subset, Apart, count, noSlots, firsts}
 use Rattle.site_plan.specs.Plans.{planRule, planValues}
 use Rattle.book_members.specs.Members.{Row, emptyRow, vacantRow, free, vacant}

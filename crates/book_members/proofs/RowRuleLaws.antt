@@ -12,7 +12,7 @@ use Rattle.octets.specs.Lists.{every}
 use Rattle.octets.proofs.ListLaws.{every-at}
 use Rattle.moments.specs.Moments.{ageAt, inOrder}
 use Rattle.moments.proofs.MomentLaws.{young-in-order}
-use Rattle.frame_kinds.specs.Rules.{address}
+use Rattle.octets.specs.Addresses.{address}
 use Rattle.slot_sets.specs.Sets.{Slots, has, count, isEmpty, Subset, noSlots, union, minus, disjoint, firsts}
 use Rattle.slot_sets.proofs.SetLaws.{nothing-has, empty-is-nothing, subset-by-minus, union-either, in-union, minus-both, meet-subset}
 use Rattle.slot_sets.proofs.CountLaws.{empty-by-count, count-of-union, count-of-minus}

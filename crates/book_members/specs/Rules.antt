@@ -6,7 +6,7 @@ use mathlib.Core.List.{List, [], _∷_}
 use lib.Dec.{eqb, leb}
 use Rattle.octets.specs.Lists.{every}
 use Rattle.moments.specs.Moments.{inOrder}
-use Rattle.frame_kinds.specs.Rules.{address}
+use Rattle.octets.specs.Addresses.{address}
 use Rattle.slot_sets.specs.Sets.{minus, count, isEmpty, disjoint, firsts}
 use Rattle.book_members.specs.Members.{Row, vacantRow, heldSlots, free, vacant}
 

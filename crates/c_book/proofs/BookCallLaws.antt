@@ -15,7 +15,7 @@ use Rattle.octets.specs.declared.answers.Written.{Written}
 use Rattle.octets.specs.Told.{Wrote, wrote}
 use Rattle.octets.proofs.AnswerLaws.{numbered, none-holds, unless-number}
 use Rattle.octets.proofs.CallLaws.{WrittenBack, written-back}
-use Rattle.frame_kinds.proofs.AnsweredLaws.{Answered, valued, said-value, answered, told-other, told-done, told-undone}
+use Rattle.octets.proofs.AnsweredLaws.{Answered, valued, said-value, answered, told-other, told-done, told-undone}
 use Rattle.site_plan.specs.Plans.{slots}
 use Rattle.book.specs.declared.book.Changed.{Changed}
 use Rattle.book.specs.Books.{Contents, contents, withinRule, BookChange, changeOf, liveAt}

@@ -14,7 +14,7 @@ use Rattle.octets.specs.Calls.{stored}
 use Rattle.octets.specs.declared.answers.Refusal.{Refusal}
 use Rattle.octets.proofs.AnswerLaws.{numbered, none-holds}
 use Rattle.octets.proofs.StoreLaws.{sets-whole}
-use Rattle.frame_kinds.proofs.AnsweredLaws.{Valued, valued, valued-unless, refused-by-some}
+use Rattle.octets.proofs.AnsweredLaws.{Valued, valued, valued-unless, refused-by-some}
 use Rattle.site_plan.specs.declared.plan.Plan.{Plan}
 use Rattle.site_plan.specs.declared.plan.Made.{Made}
 use Rattle.site_plan.specs.Plans.{active, slots, superframeMs, controlAt, dataAt, discoveryAt, sleepAt, planNumbers, planRule, toldPlan, planOf}

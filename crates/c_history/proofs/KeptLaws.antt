@@ -12,7 +12,7 @@ use Rattle.octets.specs.Answers.{reason, first}
 use Rattle.octets.specs.Layouts.{Bytes}
 use Rattle.octets.specs.Lists.{every}
 use Rattle.octets.proofs.LayoutLaws.{fields-fit}
-use Rattle.frame_kinds.specs.Rules.{address}
+use Rattle.octets.specs.Addresses.{address}
 use Rattle.frame_kinds.specs.Shape.{partIn}
 use Rattle.frame_traffic.specs.Traffic.{update, entriesOf}
 use Rattle.frame_beacons.specs.Beacons.{beacon}

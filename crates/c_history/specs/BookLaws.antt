@@ -10,7 +10,7 @@ use Rattle.octets.specs.Layouts.{Bytes}
 use Rattle.octets.specs.Lists.{every}
 use Rattle.moments.specs.Elapsed.{lastOf, Timely, IsTrue}
 use Rattle.moments.specs.Moments.{inOrder}
-use Rattle.frame_kinds.specs.Rules.{address}
+use Rattle.octets.specs.Addresses.{address}
 use Rattle.slot_sets.specs.Sets.{count}
 use Rattle.site_plan.specs.Schedules.{sends, inBeacons, inControls, inData}
 use Rattle.book_members.specs.Members.{free, spare}

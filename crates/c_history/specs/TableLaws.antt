@@ -6,7 +6,7 @@ use mathlib.Core.List.{List}
 use Prim.Native.Nat.{ℕ, _%_, _^_, _<_}
 use Rattle.octets.specs.Layouts.{Bytes}
 use Rattle.moments.specs.Elapsed.{Clock, nowAt, lastOf, Timely, IsTrue}
-use Rattle.frame_kinds.specs.Rules.{address}
+use Rattle.octets.specs.Addresses.{address}
 use Rattle.route_table.specs.declared.table.Table.{Table}
 use Rattle.route_table.specs.Rows.{standing, rowFor}
 use Rattle.route_table.specs.Tables.{rowsOf, withinRule, freshOf}

@@ -8,7 +8,7 @@ use lib.Dec.{eqb}
 use lib.ListN.{length, getD}
 use Rattle.octets.specs.Answers.{Said, accepted, refused}
 use Rattle.octets.proofs.CallLaws.{after-accepted, stored-none}
-use Rattle.frame_kinds.proofs.AnsweredLaws.{said-none}
+use Rattle.octets.proofs.AnsweredLaws.{said-none}
 use Rattle.route_table.specs.declared.table.Table.{Table}
 use Rattle.route_forwards.specs.Forwards.{forwardOf}
 use Rattle.route_pages.specs.Pages.{pageFrame, pageRefusal, pageOf}

@@ -10,7 +10,7 @@ use Rattle.octets.specs.Layouts.{Fit, Bytes}
 use Rattle.octets.proofs.CallLaws.{after-accepted}
 use Rattle.octets.proofs.LayoutLaws.{fields-fit}
 use Rattle.octets.proofs.StoreLaws.{take-sets}
-use Rattle.frame_kinds.proofs.RuleLaws.{address-fits}
+use Rattle.octets.proofs.AddressLaws.{address-fits}
 use Rattle.frame_beacons.specs.Beacons.{beacon, beaconValues}
 use Rattle.frames.proofs.KindLaws.{a-beacon}
 use Rattle.frames.proofs.TripLaws.{accepted-read}

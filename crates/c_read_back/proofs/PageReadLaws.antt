@@ -15,10 +15,10 @@ use Rattle.octets.proofs.AnswerLaws.{unless-none, unless-number, numbered, none
 use Rattle.octets.proofs.ListLaws.{getD-tab}
 use Rattle.octets.proofs.StoreLaws.{take-sets}
 use Rattle.octets.proofs.ListLaws.{every-both, every-take, every-drop}
-use Rattle.frame_kinds.proofs.RuleLaws.{address-fits}
-use Rattle.frame_kinds.specs.Rules.{address}
+use Rattle.octets.proofs.AddressLaws.{address-fits}
+use Rattle.octets.specs.Addresses.{address}
 use Rattle.frame_kinds.specs.Shape.{partIn, frameOf}
-use Rattle.frame_kinds.proofs.AnsweredLaws.{said-value}
+use Rattle.octets.proofs.AnsweredLaws.{said-value}
 use Rattle.frame_traffic.specs.declared.entry.Entry.{Entry}
 use Rattle.frame_traffic.specs.Traffic.{entryWidths, entryValues, entryRule, entryAt, entriesOf, update, updateRule, updateFrom}
 use Rattle.frame_entries.specs.Walks.{walkOf}

@@ -13,7 +13,7 @@ use Rattle.octets.specs.Calls.{after}
 use Rattle.octets.specs.Told.{Wrote}
 use Rattle.octets.proofs.CallLaws.{stored-none}
 use Rattle.frame_kinds.specs.Shape.{placeOf}
-use Rattle.frame_kinds.proofs.AnsweredLaws.{said-none}
+use Rattle.octets.proofs.AnsweredLaws.{said-none}
 use Rattle.frame_traffic.specs.Traffic.{dataKind}
 use Rattle.frames.proofs.KindLaws.{a-data}
 use Rattle.frames.proofs.TripLaws.{accepted-read}

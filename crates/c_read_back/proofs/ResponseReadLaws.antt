@@ -11,8 +11,8 @@ use lib.Seq.{sets, sets-eq, take-at, drop-at}
 use Rattle.octets.specs.Answers.{Said, accepted}
 use Rattle.octets.specs.Layouts.{Fit}
 use Rattle.octets.proofs.CallLaws.{after-accepted}
-use Rattle.frame_kinds.proofs.RuleLaws.{address-fits}
-use Rattle.frame_kinds.specs.Rules.{address, network}
+use Rattle.octets.proofs.AddressLaws.{address-fits}
+use Rattle.octets.specs.Addresses.{address, network}
 use Rattle.frame_requests.specs.Requests.{joinResponse, joinResponseFrom, joinResponseRule}
 use Rattle.frames.specs.Frames.{readFrame}
 use Rattle.frames.proofs.KindLaws.{a-response}

@@ -21,7 +21,7 @@ use Rattle.route_relays.specs.Relays.{dataIn, forUs, copyOf, relayRefusal, rela
 use Rattle.route_relays.proofs.RelayLaws.{copy-short}
 use Rattle.route_bytes.specs.TableBytes.{tableIn, isTable}
 use Rattle.c_routes.specs.RelayCalls.{relayLeft, relayCall}
-use Rattle.frame_kinds.proofs.AnsweredLaws.{Valued, Answered, valued, answered, unwritten}
+use Rattle.octets.proofs.AnsweredLaws.{Valued, Answered, valued, answered, unwritten}
 
 -- ---- relaying: one value is said of a payload for this unit, two of a copy
 abbrev Saying : Bool → ℕ → ℕ → ℕ → Said

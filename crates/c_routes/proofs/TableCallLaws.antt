@@ -24,7 +24,7 @@ use Rattle.route_bytes.specs.StoredTables.{tableLeft}
 use Rattle.route_bytes.specs.TableBytes.{tableIn, tableBytes, tableOver, isTable}
 use Rattle.route_in_place.specs.Lookups.{lookupIn}
 use Rattle.c_routes.specs.TableCalls.{freshCall, lookupLeft, lookupCall}
-use Rattle.frame_kinds.proofs.AnsweredLaws.{Valued, valued, valued-unless, refused-by-some}
+use Rattle.octets.proofs.AnsweredLaws.{Valued, valued, valued-unless, refused-by-some}
 
 -- ---- looking up
 lookup-valued : (t : Table) (destination time : ℕ) → Valued (lookupOf t destination time)

@@ -19,7 +19,7 @@ use Rattle.route_pages.specs.Pages.{pageFrame, pageRefusal, pageOf, pageIn}
 use Rattle.route_pages.proofs.PageLaws.{page-short}
 use Rattle.route_bytes.specs.TableBytes.{tableIn, isTable}
 use Rattle.c_routes.specs.UpdateCalls.{pageCall}
-use Rattle.frame_kinds.proofs.AnsweredLaws.{Answered, valued, said-value, answered, told-done, told-undone}
+use Rattle.octets.proofs.AnsweredLaws.{Answered, valued, said-value, answered, told-done, told-undone}
 
 -- ---- merging: the call on the bytes says no number where it is refused
 module _ (s frame : List ℕ) (quality time skipped : ℕ) (a : MergedIn) (last : List ℕ) (e : mergeLeft (a .refused) last (a .skipped) ≡ mergeCall s frame quality time 0) where

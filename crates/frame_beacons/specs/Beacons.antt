@@ -6,7 +6,7 @@ use mathlib.Core.Bool.{Bool, _&&_}
 use mathlib.Core.List.{List, [], _∷_}
 use lib.Dec.{eqb, leb}
 use lib.ListN.{getD}
-use Rattle.frame_kinds.specs.Rules.{address, network}
+use Rattle.octets.specs.Addresses.{address, network}
 use Rattle.frame_kinds.specs.Shape.{Kind, fixed}
 use Rattle.frame_beacons.specs.declared.beacon.Beacon.{Beacon}
 

@@ -1,4 +1,3 @@
 pub mod Reading
-pub mod Rules
 pub mod Shape
 pub mod Writing

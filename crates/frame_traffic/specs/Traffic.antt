@@ -8,7 +8,7 @@ use lib.Dec.{eqb, leb}
 use lib.ListN.{getD}
 use Rattle.octets.specs.Layouts.{fields}
 use Rattle.octets.specs.Lists.{tab, every}
-use Rattle.frame_kinds.specs.Rules.{address}
+use Rattle.octets.specs.Addresses.{address}
 use Rattle.frame_kinds.specs.Shape.{Kind}
 use Rattle.frame_traffic.specs.declared.data_frame.DataHeader.{DataHeader}
 use Rattle.frame_traffic.specs.declared.entry.Entry.{Entry}

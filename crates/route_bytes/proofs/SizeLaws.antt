@@ -12,7 +12,7 @@ use Rattle.octets.specs.Layouts.{Fit, Bytes}
 use Rattle.octets.specs.Lists.{tab, every}
 use Rattle.octets.proofs.LayoutLaws.{fields-fit}
 use Rattle.octets.proofs.ListLaws.{length-tab}
-use Rattle.frame_kinds.proofs.RuleLaws.{address-fits}
+use Rattle.octets.proofs.AddressLaws.{address-fits}
 use Rattle.route_table.specs.declared.row.Row.{Row}
 use Rattle.route_table.specs.Rows.{none, rowRule, inUse, pad}
 use Rattle.route_table.proofs.RuleLaws.{ruled}

@@ -13,7 +13,7 @@ use Rattle.octets.specs.Answers.{Reason, reason, refusing, first}
 use Rattle.octets.proofs.AnswerLaws.{Numbered, numbered, refusing-numbered, none-holds}
 use Rattle.moments.specs.Moments.{inOrder}
 use Rattle.frame_kinds.specs.Reading.{refusalAs}
-use Rattle.frame_kinds.specs.Rules as rules
+use Rattle.octets.specs.Addresses as rules
 use Rattle.frame_kinds.specs.Shape.{valuesIn}
 use Rattle.frame_kinds.proofs.ReadingLaws.{passed}
 use Rattle.frame_beacons.specs.declared.beacon.Beacon.{Beacon}

@@ -5,7 +5,7 @@ ghost use mathlib.Core.List.{[], _∷_};
 ghost use Prim.Native.Nat.{_+_, _≤_};
 ghost use Rattle.octets.specs.Answers.{reason, refusing, first};
 ghost use Rattle.frame_kinds.specs.Reading.{refusalAs};
-ghost use Rattle.frame_kinds.specs.Rules as rules;
+ghost use Rattle.octets.specs.Addresses as rules;
 ghost use Rattle.frame_beacons.specs.Beacons as beacons;
 ghost use Rattle.route_forwards.specs.Forwards.{passingOf, passedBy, passed, forwardOf, forwardedIn, forwardCall};
 use crate::writing::put_beacon;

@@ -12,7 +12,7 @@ use lib.ListN.{length}
 use Rattle.octets.specs.Answers.{Said, accepted, first, unless}
 use Rattle.octets.proofs.AnswerLaws.{unless-none, unless-some, unless-number, numbered, none-holds}
 use Rattle.moments.specs.Moments.{inOrder}
-use Rattle.frame_kinds.specs.Rules.{address}
+use Rattle.octets.specs.Addresses.{address}
 use Rattle.route_table.specs.declared.row.Row.{Row}
 use Rattle.route_table.specs.declared.table.Table.{Table}
 use Rattle.route_table.specs.Rows.{usable, rowFor}

@@ -13,7 +13,7 @@ use Rattle.octets.specs.Answers.{Said, first}
 use Rattle.octets.specs.Layouts.{bytes}
 use Rattle.octets.specs.Lists.{every}
 use Rattle.octets.proofs.RunLaws.{run-length}
-use Rattle.frame_kinds.proofs.RuleLaws.{address-least}
+use Rattle.octets.proofs.AddressLaws.{address-least}
 use Rattle.route_table.specs.declared.row.Row.{Row}
 use Rattle.route_table.specs.declared.table.Changed.{Changed}
 use Rattle.route_table.specs.declared.table.Head.{Head}

@@ -22,7 +22,7 @@ use Rattle.route_table.specs.Places.{firstDestination, okPlaces}
 use Rattle.route_table.specs.Rows.{rowRule, isNone}
 use Rattle.route_table.specs.declared.table.Head.{Head}
 use Rattle.route_table.specs.Tables.{headOf, pairOk, withinRule}
-use Rattle.frame_kinds.specs.Rules.{address}
+use Rattle.octets.specs.Addresses.{address}
 use Rattle.route_table.proofs.PlaceLaws.{ok-right, none-first}
 use Rattle.route_table.proofs.TableLaws.{table-right}
 use Rattle.route_bytes.specs.TableBytes.{rowWidths, rowFrom, rowAt, tableIn, flagsOk, isTable, holdsTable}

@@ -10,8 +10,8 @@ use lib.ListN.{take, drop}
 use Rattle.octets.specs.Lists.{every, Each}
 use Rattle.octets.proofs.LayoutLaws.{fields-part}
 use Rattle.octets.proofs.TestLaws.{neither}
-use Rattle.frame_kinds.specs.Rules.{address}
-use Rattle.frame_kinds.proofs.RuleLaws.{address-least}
+use Rattle.octets.specs.Addresses.{address}
+use Rattle.octets.proofs.AddressLaws.{address-least}
 use Rattle.frame_traffic.specs.declared.entry.Entry.{Entry}
 use Rattle.frame_traffic.specs.Traffic.{entryWidths, entryFrom, entryRule, entryAt}
 use Rattle.route_merges.specs.declared.candidate.Candidate.{Candidate}

@@ -9,7 +9,7 @@ use borrow.Author.Tests.{eq-eqb, le-leb}
 use lib.Dec.{eqb}
 use Rattle.octets.specs.Lists.{every, Each}
 use Rattle.moments.proofs.MomentLaws.{in-order-self}
-use Rattle.frame_kinds.specs.Rules.{address}
+use Rattle.octets.specs.Addresses.{address}
 use Rattle.frame_kinds.specs.Shape.{partIn}
 use Rattle.frame_traffic.specs.declared.entry.Entry.{Entry}
 use Rattle.frame_traffic.specs.Traffic.{entryRule, update, entriesOf}

@@ -13,10 +13,10 @@ use Rattle.octets.specs.Lists.{every}
 use Rattle.octets.proofs.AnswerLaws.{numbered, refusing-numbered, none-holds}
 use Rattle.moments.specs.Moments.{inOrder}
 use Rattle.frame_kinds.specs.Reading.{refusalAs}
-use Rattle.frame_kinds.specs.Rules.{address}
+use Rattle.octets.specs.Addresses.{address}
 use Rattle.frame_kinds.specs.Shape.{lengthOf, valuesIn, partIn}
 use Rattle.frame_kinds.proofs.ReadingLaws.{passed}
-use Rattle.frame_kinds.proofs.RuleLaws.{address-least}
+use Rattle.octets.proofs.AddressLaws.{address-least}
 use Rattle.frame_traffic.specs.declared.update.UpdateHeader.{UpdateHeader}
 use Rattle.frame_traffic.specs.Traffic.{update, updateValues, updateFrom, entryRule, entriesOf}
 use Rattle.route_table.specs.declared.row.Row.{Row}

@@ -15,7 +15,7 @@ use Rattle.octets.specs.Told.{Wrote}
 use Rattle.octets.proofs.AnswerLaws.{Numbered, numbered, refusing-numbered, none-holds}
 use Rattle.moments.specs.Moments.{inOrder}
 use Rattle.frame_kinds.specs.Reading.{refusalAs}
-use Rattle.frame_kinds.specs.Rules.{address}
+use Rattle.octets.specs.Addresses.{address}
 use Rattle.frame_kinds.specs.Shape.{valuesIn, partIn, partLent, frameOf}
 use Rattle.frame_kinds.proofs.ReadingLaws.{passed, part-length}
 use Rattle.frame_traffic.specs.declared.data_frame.DataHeader.{DataHeader}

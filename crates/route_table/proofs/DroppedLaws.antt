@@ -10,7 +10,7 @@ use lib.Dec.{eqb, leb, ltb}
 use Rattle.octets.specs.Answers.{accepted, reason, first, unless}
 use Rattle.octets.specs.Lists.{every}
 use Rattle.moments.specs.Moments.{ageAt, inOrder}
-use Rattle.frame_kinds.specs.Rules.{address}
+use Rattle.octets.specs.Addresses.{address}
 use Rattle.route_table.specs.declared.row.Row.{Row}
 use Rattle.route_table.specs.declared.table.Table.{Table}
 use Rattle.route_table.specs.Rows.{none, usable, leads, stands, rowRule, forgotten, ascending, standing, rowFor}

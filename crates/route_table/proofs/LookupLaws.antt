@@ -8,7 +8,7 @@ use lib.Dec.{eqb}
 use Rattle.octets.specs.Answers.{Said, accepted, refused, unless}
 use Rattle.octets.proofs.AnswerLaws.{unless-none, unless-number}
 use Rattle.moments.specs.Moments.{inOrder}
-use Rattle.frame_kinds.specs.Rules.{address}
+use Rattle.octets.specs.Addresses.{address}
 use Rattle.route_table.specs.declared.table.Table.{Table}
 use Rattle.route_table.specs.Rows.{rowFor}
 use Rattle.route_table.specs.Tables.{rowsOf, withinRule, leadsTo, foundBy, lookupRefusal, lookupOf}

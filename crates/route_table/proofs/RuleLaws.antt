@@ -12,8 +12,8 @@ use Rattle.octets.specs.Lists.{every}
 use Rattle.octets.proofs.ListLaws.{every-on}
 use Rattle.moments.specs.Moments.{ageAt, inOrder}
 use Rattle.moments.proofs.MomentLaws.{in-order-self, young-in-order}
-use Rattle.frame_kinds.specs.Rules.{address}
-use Rattle.frame_kinds.proofs.RuleLaws.{address-least}
+use Rattle.octets.specs.Addresses.{address}
+use Rattle.octets.proofs.AddressLaws.{address-least}
 use Rattle.route_table.specs.declared.row.Row.{Row}
 use Rattle.route_table.specs.Rows.{stands, rowRule, withdrawnAt, ascending, inUse, pad}
 use Rattle.route_table.specs.Tables.{pairOk, withinRule}

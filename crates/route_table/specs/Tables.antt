@@ -8,7 +8,7 @@ use lib.ListN.{length, drop, replicate}
 use Rattle.octets.specs.Answers.{Said, accepted, Reason, reason, first, unless}
 use Rattle.octets.specs.Lists.{every}
 use Rattle.moments.specs.Moments.{inOrder}
-use Rattle.frame_kinds.specs.Rules.{address}
+use Rattle.octets.specs.Addresses.{address}
 use Rattle.route_table.specs.declared.row.Row.{Row}
 use Rattle.route_table.specs.declared.table.Table.{Table}
 use Rattle.route_table.specs.declared.table.Changed.{Changed}

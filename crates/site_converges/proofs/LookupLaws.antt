@@ -11,7 +11,7 @@ use lib.Dec.{eqb}
 use lib.ListN.{getD}
 use Rattle.moments.specs.Moments.{inOrder}
 use Rattle.moments.proofs.MomentLaws.{young-in-order}
-use Rattle.frame_kinds.specs.Rules.{address}
+use Rattle.octets.specs.Addresses.{address}
 use Rattle.route_table.specs.Rows.{rowFor}
 use Rattle.route_table.specs.Tables.{rowsOf, leadsTo, lookupOf}
 use Rattle.route_table.proofs.LookupLaws.{lookup-told, lookup-leads, not-led}

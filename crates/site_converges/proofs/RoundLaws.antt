@@ -14,7 +14,7 @@ use Rattle.octets.specs.Lists.{Some, Each}
 use Rattle.octets.proofs.EachLaws.{each-take, each-drop, each-every}
 use Rattle.octets.proofs.TestLaws.{by-bool}
 use Rattle.moments.proofs.MomentLaws.{young-in-order, in-turn}
-use Rattle.frame_kinds.specs.Rules.{address}
+use Rattle.octets.specs.Addresses.{address}
 use Rattle.route_table.specs.declared.row.Row.{Row}
 use Rattle.route_table.specs.Rows.{stands, standing, rowFor}
 use Rattle.route_table.proofs.StandingLaws.{standing-all}

@@ -13,7 +13,7 @@ use Rattle.octets.proofs.EachLaws.{each-also}
 use Rattle.octets.proofs.TestLaws.{of-cond, or-elim, by-bool}
 use Rattle.moments.specs.Moments.{ageAt}
 use Rattle.moments.proofs.MomentLaws.{age-between}
-use Rattle.frame_kinds.specs.Rules.{address}
+use Rattle.octets.specs.Addresses.{address}
 use Rattle.route_table.specs.declared.row.Row.{Row}
 use Rattle.route_table.specs.Rows.{usable, stands, ascending, rowFor}
 use Rattle.route_table.proofs.HasLaws.{Has, each-row}

@@ -16,8 +16,8 @@ use Rattle.octets.proofs.AnswerLaws.{unless-none, first-none}
 use Rattle.octets.proofs.StoreLaws.{take-sets}
 use Rattle.moments.specs.Moments.{ageAt, inOrder}
 use Rattle.moments.proofs.MomentLaws.{no-age, young-in-order, ages-add, in-turn}
-use Rattle.frame_kinds.specs.Rules.{address}
-use Rattle.frame_kinds.proofs.RuleLaws.{address-fits}
+use Rattle.octets.specs.Addresses.{address}
+use Rattle.octets.proofs.AddressLaws.{address-fits}
 use Rattle.route_table.specs.declared.row.Row.{Row}
 use Rattle.route_table.specs.declared.table.Table.{Table}
 use Rattle.route_table.specs.Rows.{standing}

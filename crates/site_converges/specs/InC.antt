@@ -5,7 +5,7 @@ use mathlib.Core.Path.{_≡_}
 use mathlib.Core.Bool.{true}
 use mathlib.Core.List.{List, map}
 use lib.ListN.{length, take}
-use Rattle.frame_kinds.specs.Rules.{address}
+use Rattle.octets.specs.Addresses.{address}
 use Rattle.route_history.specs.TableCalls.{merge}
 use Rattle.c_routes.specs.TableCalls.{lookupCall}
 use Rattle.c_routes.specs.UpdateCalls.{pageCall}

@@ -12,7 +12,7 @@ use lib.Dec.{leb, ltb}
 use lib.ListN.{getD}
 use Rattle.octets.specs.Lists.{tab}
 use Rattle.octets.proofs.ListLaws.{getD-tab}
-use Rattle.frame_kinds.specs.Rules.{address, network}
+use Rattle.octets.specs.Addresses.{address, network}
 use Rattle.site_plan.specs.declared.plan.Plan.{Plan}
 use Rattle.site_plan.specs.Plans.{planRule, discoverySlots, active, slotsIn, superframeMs}
 use Rattle.site_plan.specs.Laws.{LengthsByTable, RuleBounds}

@@ -5,7 +5,7 @@ use mathlib.Core.Bool.{Bool, not, _&&_}
 use mathlib.Core.List.{List, [], _∷_}
 use lib.Dec.{leb}
 use Rattle.octets.specs.Answers.{Said, accepted, refused, reason, first, unless}
-use Rattle.frame_kinds.specs.Rules.{address, network}
+use Rattle.octets.specs.Addresses.{address, network}
 use Rattle.site_plan.specs.declared.plan.Plan.{Plan}
 use Rattle.site_plan.specs.declared.plan.Made.{Made}
 

@@ -1,4 +1,4 @@
--- The field rules that several kinds share.
+-- Addresses and networks: the rules that frames, rows and arguments share.
 -- Assumes nothing.
 use Prim.Native.Nat.{ℕ}
 use mathlib.Core.Bool.{Bool, _&&_}

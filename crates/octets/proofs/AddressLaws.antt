@@ -1,4 +1,4 @@
--- What the shared field rules say of a number's size.
+-- What the rule of an address says of a number's size.
 -- Assumes nothing.
 use mathlib.Core.Path.{_≡_}
 use mathlib.Core.Bool.{true, and-eq-true-iff}
@@ -6,7 +6,7 @@ use Prim.Native.Nat.{ℕ, _<_}
 use native.Mathlib.Omega.{arith}
 use borrow.Author.Tests.{leb-true}
 use lib.Dec.{leb}
-use Rattle.frame_kinds.specs.Rules.{address}
+use Rattle.octets.specs.Addresses.{address}
 
 -- an address is not 0, and has 16 bits
 pub address-least : (n : ℕ) → address n ≡ true → 0 < n

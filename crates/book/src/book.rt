@@ -4,6 +4,7 @@ ghost use Rattle.book.specs.Books.{contents, withinRule, changeOf, chang
 use book_members::member::Member;
 use book_members::rules::empty_from;
 use book_members::rules::rows_within_rule;
+use octets::answers::Refusal;
 use octets::answers::refuse_if;
 use site_plan::plan::Plan;
 use slot_sets::masks::below;
@@ -75,7 +76,7 @@ impl Book {
         ensures { λ r. ⌜ changeOf r ≡ freshOf plan time ⌝ }
     {
         settled(
-            refuse_if(!plan.within_rule(), 14, 0),
+            refuse_if(!plan.within_rule(), Refusal::RULE, 0),
             zeros(),
             opened(plan, time),
         )

@@ -73,12 +73,12 @@ fn refusal(book: Book, unit: u16, hop: u32, time: u32, live: bool, room: usize) 
 {
     let plan = book.plan;
     let address = (1 <= unit) & (unit <= 0xFFFE);
-    let refused = refuse_if(room < plan.slots() as usize, 5, 0);
-    let refused = refuse_if(!live, 13, refused);
-    let refused = refuse_if(!hop_within_rule(plan, unit, hop), 14, refused);
-    let refused = refuse_if(!in_order(book.time, time), 8, refused);
-    let refused = refuse_if(!address, 4, refused);
-    refuse_if(!book.within_rule(), 14, refused)
+    let refused = refuse_if(room < plan.slots() as usize, Refusal::ROOM, 0);
+    let refused = refuse_if(!live, Refusal::NO_MEMBER, refused);
+    let refused = refuse_if(!hop_within_rule(plan, unit, hop), Refusal::RULE, refused);
+    let refused = refuse_if(!in_order(book.time, time), Refusal::EARLIER, refused);
+    let refused = refuse_if(!address, Refusal::FIELD, refused);
+    refuse_if(!book.within_rule(), Refusal::RULE, refused)
 }
 
 impl Book {

@@ -12,6 +12,7 @@ use book_members::rows::row_for;
 use book_members::rows::slots_at;
 use book_members::rows::with_row;
 use moments::in_order;
+use octets::answers::Refusal;
 use octets::answers::refuse_if;
 
 // Why a call on a member is refused, where it is found or not; 0 where it is not.
@@ -19,10 +20,10 @@ fn refusal(book: Book, unit: u16, time: u32, found: bool) -> u8
     ensures { λ r. ⌜ r ≡ first (memberReasons (contents book) unit time found) ⌝ }
 {
     let address = (1 <= unit) & (unit <= 0xFFFE);
-    let refused = refuse_if(!found, 13, 0);
-    let refused = refuse_if(!in_order(book.time, time), 8, refused);
-    let refused = refuse_if(!address, 4, refused);
-    refuse_if(!book.within_rule(), 14, refused)
+    let refused = refuse_if(!found, Refusal::NO_MEMBER, 0);
+    let refused = refuse_if(!in_order(book.time, time), Refusal::EARLIER, refused);
+    let refused = refuse_if(!address, Refusal::FIELD, refused);
+    refuse_if(!book.within_rule(), Refusal::RULE, refused)
 }
 
 impl Book {

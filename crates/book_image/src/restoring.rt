@@ -15,6 +15,7 @@ use book::book::Changed;
 use book::book::settled;
 use book::book::zeros;
 use book_members::member::Member;
+use octets::answers::Refusal;
 use octets::answers::refuse_if;
 use octets::numbers::number8;
 use octets::numbers::number16;
@@ -108,5 +109,5 @@ pub fn restore(image: &[u8], time: u32) -> Changed
     let rows = members_in(image, time, plan.rows);
     let book = Book { plan, time, rows };
     let good = fits(image, plan.rows) & book.within_rule();
-    settled(refuse_if(!good, 14, 0), zeros(), book)
+    settled(refuse_if(!good, Refusal::RULE, 0), zeros(), book)
 }

@@ -78,9 +78,9 @@ fn refusal(book: Book, time: u32, room: usize) -> u8
     ensures { λ r. ⌜ r ≡ first (imageReasons (contents book) time room) ⌝ }
 {
     let plan = book.plan;
-    let refused = refuse_if(room < size_for(plan.rows), 5, 0);
-    let refused = refuse_if(!in_order(book.time, time), 8, refused);
-    refuse_if(!book.within_rule(), 14, refused)
+    let refused = refuse_if(room < size_for(plan.rows), Refusal::ROOM, 0);
+    let refused = refuse_if(!in_order(book.time, time), Refusal::EARLIER, refused);
+    refuse_if(!book.within_rule(), Refusal::RULE, refused)
 }
 
 // Writes the image of a book at a time.

@@ -19,6 +19,7 @@ use book_members::rows::in_use;
 use frame_reading::refusals::slot_request;
 use frame_requests::slot_request::SlotRequest;
 use moments::in_order;
+use octets::answers::Refusal;
 use octets::answers::refuse_if;
 use slot_sets::masks::joined;
 use slot_sets::masks::lowest;
@@ -51,12 +52,12 @@ fn refusal(book: Book, frame: &[u8], time: u32, live: bool, short: bool) -> u8
     let unread = slot_request(frame);
     let unit = SlotRequest::of(frame).node;
     let manager = book.plan.manager;
-    let refused = refuse_if(short, 5, 0);
-    let refused = refuse_if(!live, 13, refused);
-    let refused = refuse_if(!in_order(book.time, time), 8, refused);
-    let refused = refuse_if(unit == manager, 6, refused);
+    let refused = refuse_if(short, Refusal::ROOM, 0);
+    let refused = refuse_if(!live, Refusal::NO_MEMBER, refused);
+    let refused = refuse_if(!in_order(book.time, time), Refusal::EARLIER, refused);
+    let refused = refuse_if(unit == manager, Refusal::OWN, refused);
     let refused = refuse_if(!(unread == 0), unread, refused);
-    refuse_if(!book.within_rule(), 14, refused)
+    refuse_if(!book.within_rule(), Refusal::RULE, refused)
 }
 
 // A live member asks for slots: it is told all that it then holds.

@@ -21,6 +21,7 @@ use book_members::rows::in_use;
 use frame_reading::refusals::join_request;
 use frame_requests::join_request::JoinRequest;
 use moments::in_order;
+use octets::answers::Refusal;
 use octets::answers::refuse_if;
 use slot_sets::masks::lowest;
 
@@ -51,13 +52,13 @@ fn refusal(book: Book, frame: &[u8], time: u32, no_row: bool, short: bool) -> u8
     let network = request.network;
     let foreign = !(network == 0) & !(network == book.plan.network);
     let by_manager = request.node == book.plan.manager;
-    let refused = refuse_if(short, 5, 0);
-    let refused = refuse_if(no_row, 12, refused);
-    let refused = refuse_if(!in_order(book.time, time), 8, refused);
-    let refused = refuse_if(foreign, 15, refused);
-    let refused = refuse_if(by_manager, 6, refused);
+    let refused = refuse_if(short, Refusal::ROOM, 0);
+    let refused = refuse_if(no_row, Refusal::FULL, refused);
+    let refused = refuse_if(!in_order(book.time, time), Refusal::EARLIER, refused);
+    let refused = refuse_if(foreign, Refusal::NETWORK, refused);
+    let refused = refuse_if(by_manager, Refusal::OWN, refused);
     let refused = refuse_if(!(unread == 0), unread, refused);
-    refuse_if(!book.within_rule(), 14, refused)
+    refuse_if(!book.within_rule(), Refusal::RULE, refused)
 }
 
 // A unit asks to be a member: it is told its row and its slots.

@@ -7,6 +7,7 @@ ghost use Rattle.slot_sets.specs.Sets.{slotsOf};
 ghost use Rattle.book_members.specs.Members.{rowOf, rowsOf, emptyRow, kept, current, placeFor};
 use crate::member::Member;
 use moments::age;
+use site_plan::plan::Plan;
 
 // How many places are in use: no more than there are.
 pub fn in_use(count: u8) -> usize
@@ -34,7 +35,7 @@ pub fn row_for(rows: [Member; 21], count: u8, unit: u16) -> usize
 fn kept(member: Member, time: u32) -> Member
     ensures { λ r. ⌜ rowOf r ≡ kept time (rowOf member) ⌝ }
 {
-    if age(time, member.time) <= 300000 {
+    if age(time, member.time) <= Plan::LIVE_MS {
         return member;
     }
     Member {

@@ -14,6 +14,7 @@ use book_bytes::books::write_back;
 use book_joins::asking::ask;
 use book_joins::grants::Granted;
 use book_joins::joining::join;
+use octets::answers::Refusal;
 
 // The end of both calls: unless something refuses it, the book goes to its buffer, and the number of bytes written to the caller.
 fn settle(book: &mut [u8], granted: Granted, written: &mut u32) -> u8
@@ -41,7 +42,7 @@ pub extern "C" fn braidlark_join(
     ensures { λ r. ⌜ requestLeft r (now (book .exit)) (now (out .exit)) (now (written .exit)) ≡ joinCall (now (book .entry)) (now (frame .entry)) time (now (out .entry)) (now (written .entry)) ⌝ }
 {
     if book.len() != BOOK_SIZE {
-        return 14;
+        return Refusal::RULE;
     }
     let granted = join(book_of(&book[..]), frame, time, out);
     settle(book, granted, written)
@@ -59,7 +60,7 @@ pub extern "C" fn braidlark_slot_request(
     ensures { λ r. ⌜ requestLeft r (now (book .exit)) (now (out .exit)) (now (written .exit)) ≡ slotRequestCall (now (book .entry)) (now (frame .entry)) time (now (out .entry)) (now (written .entry)) ⌝ }
 {
     if book.len() != BOOK_SIZE {
-        return 14;
+        return Refusal::RULE;
     }
     let brought = ask(book_of(&book[..]), frame, time, out);
     settle(book, brought, written)

@@ -2,6 +2,7 @@
 ghost use mathlib.Core.Path.{_≡_};
 ghost use Rattle.route_bytes.specs.StoredTables.{tableLeft};
 ghost use Rattle.c_routes.specs.TableCalls.{freshCall, forgetCall, lookupLeft, lookupCall};
+use octets::answers::Refusal;
 use octets::answers::refuse_if;
 use route_bytes::tables::put_empty;
 use route_in_place::changing::forget;
@@ -15,7 +16,7 @@ pub extern "C" fn braidlark_table_fresh(table: &mut [u8], own: u16, time: u32) -
     ensures { λ r. ⌜ tableLeft r (now (table .exit)) ≡ freshCall (now (table .entry)) own time ⌝ }
 {
     let fresh = Table::fresh(own, time);
-    let refused = refuse_if(table.len() != 539, 14, fresh.refused);
+    let refused = refuse_if(table.len() != 539, Refusal::RULE, fresh.refused);
     if refused != 0 {
         return refused;
     }

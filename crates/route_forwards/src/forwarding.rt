@@ -11,6 +11,7 @@ ghost use Rattle.route_forwards.specs.Forwards.{passingOf, passedBy, pas
 use crate::writing::put_beacon;
 use frame_beacons::beacon::Beacon;
 use frame_reading::refusals;
+use octets::answers::Refusal;
 use octets::answers::refuse_if;
 use octets::numbers::number16;
 use route_in_place::changing;
@@ -73,7 +74,11 @@ fn unread(network: u16, frame: &[u8]) -> u8
     ensures { λ r. ⌜ r ≡ first (refusing (refusalAs beacons.beacon (now (frame .entry))) ∷ reason (not (rules.network network)) 4 ∷ []) ⌝ }
 {
     let refused = refusals::beacon(frame);
-    refuse_if(!(refused == 0), refused, refuse_if(!(1 <= network), 4, 0))
+    refuse_if(
+        !(refused == 0),
+        refused,
+        refuse_if(!(1 <= network), Refusal::FIELD, 0),
+    )
 }
 
 // Writes the copy, and records its pair and the time; the rows that are gone are dropped.
@@ -90,7 +95,7 @@ pub fn forward(
     let beacon = Beacon::of(frame);
     let passing = passing_of(beacon);
     let before = unread(network, frame);
-    let behind = refuse_if(out.len() < 34, 5, 0);
+    let behind = refuse_if(out.len() < 34, Refusal::ROOM, 0);
     let changed = pass(table, before, network, passing, delay, time, behind);
     let next = changed.table;
     if changed.refused != 0 {
@@ -123,7 +128,7 @@ pub fn forward_in(
     let beacon = Beacon::of(frame);
     let passing = passing_of(beacon);
     let before = unread(network, frame);
-    let behind = refuse_if(out.len() < 34, 5, 0);
+    let behind = refuse_if(out.len() < 34, Refusal::ROOM, 0);
     let refused = changing::pass(table, before, network, passing, delay, time, behind);
     if refused != 0 {
         return ForwardedIn {

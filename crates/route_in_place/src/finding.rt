@@ -35,7 +35,9 @@ pub fn lookup(s: &[u8], destination: u16, time: u32) -> Found
     ensures { λ r. ⌜ toldFound r ≡ lookupIn (now (s .entry)) destination time ⌝ }
 {
     if !holds_table(s) {
-        return Found::Refused(Refusal { number: 14 });
+        return Found::Refused(Refusal {
+            number: Refusal::RULE,
+        });
     }
     found_by(number32(s, 2), row_for(s, destination), destination, time)
 }

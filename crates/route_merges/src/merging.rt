@@ -18,6 +18,7 @@ use frame_reading::parts::entries;
 use frame_reading::refusals::update;
 use frame_traffic::update::UpdateHeader;
 use moments::in_order;
+use octets::answers::Refusal;
 use octets::answers::refuse_if;
 use route_table::row::Row;
 use route_table::standing::standing_places;
@@ -91,9 +92,9 @@ pub(crate) fn why_unmerged(own: u16, last: u32, frame: &[u8], quality: u8, time:
 {
     let origin = UpdateHeader::of(frame).origin;
     let unread = update(frame);
-    let refused = refuse_if(quality < 40, 9, 0);
-    let refused = refuse_if(!in_order(last, time), 8, refused);
-    let refused = refuse_if(origin == own, 6, refused);
+    let refused = refuse_if(quality < Row::LEAST_QUALITY, Refusal::QUALITY, 0);
+    let refused = refuse_if(!in_order(last, time), Refusal::EARLIER, refused);
+    let refused = refuse_if(origin == own, Refusal::OWN, refused);
     refuse_if(unread != 0, unread, refused)
 }
 
@@ -102,7 +103,7 @@ pub fn merge(table: Table, frame: &[u8], quality: u8, time: u32) -> Merged
     ensures { λ r. ⌜ r ≡ mergeOf table (now (frame .entry)) quality time ⌝ }
 {
     let refused = why_unmerged(table.own, table.time, frame, quality, time);
-    let refused = refuse_if(!table.within_rule(), 14, refused);
+    let refused = refuse_if(!table.within_rule(), Refusal::RULE, refused);
     if refused != 0 {
         return Merged {
             refused,

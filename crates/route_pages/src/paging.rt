@@ -59,7 +59,9 @@ pub fn page(table: Table, number: u32, time: u32, out: &mut [u8]) -> Written
     ensures { λ r. ⌜ wrote r (now (out .exit)) ≡ pageOf table number time (now (out .entry)) ⌝ }
 {
     if !table.within_rule() {
-        return Written::Refused(Refusal { number: 14 });
+        return Written::Refused(Refusal {
+            number: Refusal::RULE,
+        });
     }
     let rows = table.rows;
     let stand = standing_places(rows, time);

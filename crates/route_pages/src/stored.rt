@@ -18,7 +18,9 @@ pub fn page_in(table: &[u8], number: u32, time: u32, out: &mut [u8]) -> Written
     ensures { λ r. ⌜ wrote r (now (out .exit)) ≡ pageIn (now (table .entry)) number time (now (out .entry)) ⌝ }
 {
     if !holds_table(table) {
-        return Written::Refused(Refusal { number: 14 });
+        return Written::Refused(Refusal {
+            number: Refusal::RULE,
+        });
     }
     let head = head_of(table);
     let place = place_behind(table, 24 * (number as usize), time);

@@ -13,6 +13,7 @@ ghost use Rattle.frame_traffic.specs.Traffic.{entryWidths, entryValues, update}
 ghost use Rattle.route_pages.specs.Pages.{entryFor, unpagedReasons};
 use frame_traffic::entry::Entry;
 use moments::in_order;
+use octets::answers::Refusal;
 use octets::answers::refuse_if;
 use octets::fixed::put8;
 use octets::fixed::put16;
@@ -77,7 +78,7 @@ pub(crate) fn refusal(last: u32, number: u32, count: usize, time: u32, room: usi
     ensures { λ r. ⌜ r ≡ first (unpagedReasons last (eqb number 0 || ltb 0 count) (9 + 10 * count) time room) ⌝ }
 {
     let there = (number == 0) | (0 < count);
-    let refused = refuse_if(room < 9 + 10 * count, 5, 0);
-    let refused = refuse_if(!there, 14, refused);
-    refuse_if(!in_order(last, time), 8, refused)
+    let refused = refuse_if(room < 9 + 10 * count, Refusal::ROOM, 0);
+    let refused = refuse_if(!there, Refusal::RULE, refused);
+    refuse_if(!in_order(last, time), Refusal::EARLIER, refused)
 }

@@ -70,11 +70,11 @@ fn refusal(own: u16, last: u32, found: Found, frame: &[u8], time: u32, room: usi
     let unread = refusals::data_frame(frame);
     let other = !(header.destination == own);
     let size = payload(frame).len() + 10;
-    let refused = refuse_if(other & (room < size), 5, 0);
-    let refused = refuse_if(other & !(found.refusal() == 0), 11, refused);
-    let refused = refuse_if(other & (header.ttl <= 1), 10, refused);
-    let refused = refuse_if(!in_order(last, time), 8, refused);
-    let refused = refuse_if(header.source == own, 6, refused);
+    let refused = refuse_if(other & (room < size), Refusal::ROOM, 0);
+    let refused = refuse_if(other & !(found.refusal() == 0), Refusal::NO_ROUTE, refused);
+    let refused = refuse_if(other & (header.ttl <= 1), Refusal::TTL, refused);
+    let refused = refuse_if(!in_order(last, time), Refusal::EARLIER, refused);
+    let refused = refuse_if(header.source == own, Refusal::OWN, refused);
     refuse_if(!(unread == 0), unread, refused)
 }
 
@@ -134,7 +134,9 @@ pub fn relay(table: Table, frame: &[u8], time: u32, out: &mut [u8]) -> Relayed
     ensures { λ r. ⌜ relayed r (now (out .exit)) ≡ relayOf table (now (frame .entry)) time (now (out .entry)) ⌝ }
 {
     if !table.within_rule() {
-        return Relayed::Refused(Refusal { number: 14 });
+        return Relayed::Refused(Refusal {
+            number: Refusal::RULE,
+        });
     }
     let to = DataHeader::of(frame).destination;
     let rows = table.rows;
@@ -147,7 +149,9 @@ pub fn relay_in(table: &[u8], frame: &[u8], time: u32, out: &mut [u8]) -> Relaye
     ensures { λ r. ⌜ relayed r (now (out .exit)) ≡ relayIn (now (table .entry)) (now (frame .entry)) time (now (out .entry)) ⌝ }
 {
     if !holds_table(table) {
-        return Relayed::Refused(Refusal { number: 14 });
+        return Relayed::Refused(Refusal {
+            number: Refusal::RULE,
+        });
     }
     let head = head_of(table);
     let to = DataHeader::of(frame).destination;

@@ -19,7 +19,11 @@ pub struct Row {
 fn lifetime(withdrawn: bool) -> u32
     ensures { λ r. ⌜ r ≡ cond withdrawn 60000 360000 ⌝ }
 {
-    if withdrawn { 60000 } else { 360000 }
+    if withdrawn {
+        Row::WITHDRAWN_MS
+    } else {
+        Row::STANDS_MS
+    }
 }
 
 fn either(test: bool, first: Row, second: Row) -> Row
@@ -29,6 +33,17 @@ fn either(test: bool, first: Row, second: Row) -> Row
 }
 
 impl Row {
+    // How long a row may carry traffic, how long it stands, and how long if it was withdrawn.
+    pub const USABLE_MS: u32 = 300_000;
+
+    pub const STANDS_MS: u32 = 360_000;
+
+    pub const WITHDRAWN_MS: u32 = 60_000;
+
+    pub const MOST_HOPS: u8 = 16;
+
+    pub const LEAST_QUALITY: u8 = 40;
+
     // A place that is not in use.
     pub fn none() -> Row
         ensures { λ r. ⌜ r ≡ none ⌝ }
@@ -47,7 +62,7 @@ impl Row {
     pub fn usable(self, time: u32) -> bool
         ensures { λ r. ⌜ r ≡ usable time self ⌝ }
     {
-        !self.withdrawn & (age(time, self.time) <= 300000)
+        !self.withdrawn & (age(time, self.time) <= Row::USABLE_MS)
     }
 
     // Whether traffic to a destination may go by it at this time.
@@ -71,8 +86,8 @@ impl Row {
         ((1 <= self.destination) & (self.destination <= 0xFFFE))
             & !(self.destination == own)
             & (((1 <= self.next_hop) & (self.next_hop <= 0xFFFE)) & !(self.next_hop == own))
-            & ((1 <= self.hops) & (self.hops <= 16))
-            & (40 <= self.quality)
+            & ((1 <= self.hops) & (self.hops <= Row::MOST_HOPS))
+            & (Row::LEAST_QUALITY <= self.quality)
             & in_order(self.time, last)
     }
 

@@ -158,9 +158,9 @@ pub fn found_by(last: u32, row: Row, destination: u16, time: u32) -> Found
     ensures { λ r. ⌜ toldFound r ≡ foundBy last row destination time ⌝ }
 {
     let address = (1 <= destination) & (destination <= 0xFFFE);
-    let refused = refuse_if(!row.leads(destination, time), 11, 0);
-    let refused = refuse_if(!in_order(last, time), 8, refused);
-    answered(refuse_if(!address, 4, refused), row)
+    let refused = refuse_if(!row.leads(destination, time), Refusal::NO_ROUTE, 0);
+    let refused = refuse_if(!in_order(last, time), Refusal::EARLIER, refused);
+    answered(refuse_if(!address, Refusal::FIELD, refused), row)
 }
 
 // Why a table within rule of the unit `own`, with this last accepted time, does not forget a unit; 0 where it does.
@@ -168,9 +168,9 @@ pub fn why_unforgotten(own: u16, last: u32, unit: u16, time: u32) -> u8
     ensures { λ r. ⌜ r ≡ first (unforgottenReasons own last unit time) ⌝ }
 {
     let address = (1 <= unit) & (unit <= 0xFFFE);
-    let refused = refuse_if(!in_order(last, time), 8, 0);
-    let refused = refuse_if(unit == own, 6, refused);
-    refuse_if(!address, 4, refused)
+    let refused = refuse_if(!in_order(last, time), Refusal::EARLIER, 0);
+    let refused = refuse_if(unit == own, Refusal::OWN, refused);
+    refuse_if(!address, Refusal::FIELD, refused)
 }
 
 impl Found {
@@ -204,7 +204,11 @@ impl Table {
         ensures { λ r. ⌜ r ≡ freshOf own time ⌝ }
     {
         let address = (1 <= own) & (own <= 0xFFFE);
-        settled(refuse_if(!address, 4, 0), zeros(0, 0), zeros(own, time))
+        settled(
+            refuse_if(!address, Refusal::FIELD, 0),
+            zeros(0, 0),
+            zeros(own, time),
+        )
     }
 
     pub fn head(self) -> Head
@@ -234,7 +238,9 @@ impl Table {
         ensures { λ r. ⌜ toldFound r ≡ lookupOf self destination time ⌝ }
     {
         if !self.within_rule() {
-            return Found::Refused(Refusal { number: 14 });
+            return Found::Refused(Refusal {
+                number: Refusal::RULE,
+            });
         }
         let rows = self.rows;
         found_by(self.time, row_for(rows, destination), destination, time)
@@ -246,7 +252,7 @@ impl Table {
     {
         let rows = self.rows;
         let refused = why_unforgotten(self.own, self.time, unit, time);
-        let refused = refuse_if(!self.within_rule(), 14, refused);
+        let refused = refuse_if(!self.within_rule(), Refusal::RULE, refused);
         let next = forgotten_rows(standing_places(rows, time), unit, time);
         settled(
             refused,

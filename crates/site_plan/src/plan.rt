@@ -38,8 +38,9 @@ impl Plan {
     ) -> Made
         ensures { λ r. ⌜ toldPlan r ≡ planOf network manager «max_hops» rows «data_slots» «slot_ms» ⌝ }
     {
+        let number = Refusal::RULE;
         if !fit(max_hops, rows, data_slots, slot_ms) {
-            return Made::Refused(Refusal { number: 14 });
+            return Made::Refused(Refusal { number });
         }
         let plan = Plan {
             network,
@@ -52,7 +53,7 @@ impl Plan {
         if plan.within_rule() {
             return Made::Plan(plan);
         }
-        Made::Refused(Refusal { number: 14 })
+        Made::Refused(Refusal { number })
     }
 
     // Whether it is a plan that could have been made: a stored one may hold any numbers.

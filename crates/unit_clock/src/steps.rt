@@ -6,6 +6,7 @@ use crate::drifts::correction;
 use frame_beacons::beacon::Beacon;
 use frame_reading::refusals::beacon;
 use moments::age;
+use octets::answers::Refusal;
 use octets::answers::refuse_if;
 use std::num::wrapping_add_u32;
 use std::num::wrapping_sub_u32;
@@ -29,8 +30,8 @@ pub fn step(offset: u32, local: u32, original_time: u32, delay: u32) -> u32
 fn refusal(unread: u8, heard: u16, network: u16) -> u8
     ensures { λ r. ⌜ r ≡ first (heardReasons unread heard network) ⌝ }
 {
-    let refused = refuse_if(!(network == heard), 15, 0);
-    let refused = refuse_if(network == 0, 4, refused);
+    let refused = refuse_if(!(network == heard), Refusal::NETWORK, 0);
+    let refused = refuse_if(network == 0, Refusal::FIELD, refused);
     refuse_if(!(unread == 0), unread, refused)
 }
 

@@ -5,6 +5,7 @@ ghost use Rattle.unit_life.specs.States.{ready, failed, beacon, joinAcce
 use crate::state::Lived;
 use crate::state::State;
 use crate::table::leads_to;
+use octets::answers::Refusal;
 
 impl State {
     // Any number is taken: one that is no event leads nowhere, which is 7.
@@ -12,7 +13,13 @@ impl State {
         ensures { λ r. ⌜ r ≡ onEvent self number time ⌝ }
     {
         let to = leads_to(self.kind, number);
-        self.step(time, to == State::NOWHERE, 7, to, number == State::BEACON)
+        self.step(
+            time,
+            to == State::NOWHERE,
+            Refusal::EVENT,
+            to,
+            number == State::BEACON,
+        )
     }
 
     pub fn ready(self, time: u32) -> Lived

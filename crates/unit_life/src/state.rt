@@ -5,6 +5,7 @@ ghost use Rattle.unit_life.specs.Calls.{withinRule, freshState, movedOn,
 use crate::choices::either;
 use crate::choices::either_time;
 use moments::in_order;
+use octets::answers::Refusal;
 
 // The kind is one of seven numbers; the times are the last accepted one, that of entry into the kind, and that of the last beacon.
 pub struct State {
@@ -66,7 +67,9 @@ impl State {
     {
         let known = self.within_rule();
         let ordered = in_order(self.last, time);
-        either(!known, 14, either(!ordered, 8, either(wrong, number, 0)))
+        let refused = either(wrong, number, 0);
+        let refused = either(!ordered, Refusal::EARLIER, refused);
+        either(!known, Refusal::RULE, refused)
     }
 
     // What an event and a tick share: a refusal with the state as it was, or the state that goes to a kind.

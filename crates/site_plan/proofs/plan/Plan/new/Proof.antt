@@ -24,17 +24,17 @@ returns c = rw (too-wide (wanted (c .before .before)) (sym (c .before .fit .ensu
 here : (c : tie.Else1) → Fitting (wanted (c .before .before))
 here c = fitted (wanted (c .before .before)) (sym (c .before .fit .ensures) ∙ not-false _ (c .if1 .left))
 
-cast-t11 : tie.Need-cast-t11
-cast-t11 c = omega (arith, here c .hops)
-
 cast-t12 : tie.Need-cast-t12
-cast-t12 c = omega (arith, here c .rows)
+cast-t12 c = omega (arith, here c .hops)
 
 cast-t13 : tie.Need-cast-t13
-cast-t13 c = omega (arith, here c .data-slots)
+cast-t13 c = omega (arith, here c .rows)
 
 cast-t14 : tie.Need-cast-t14
-cast-t14 c = omega (arith, here c .slot-ms)
+cast-t14 c = omega (arith, here c .data-slots)
+
+cast-t15 : tie.Need-cast-t15
+cast-t15 c = omega (arith, here c .slot-ms)
 
 returns-2 : tie.Need-returns-2
 unfolding planOf
@@ -46,4 +46,4 @@ returns-3 c = rw (← c .before .within-rule .ensures, c .if2 .left)
 
 pub new-spec : {M : Type 1} → statement M
 new-spec =
-    tie.close (tie.spec (λ c κs. search needs) returns cast-t11 cast-t12 cast-t13 cast-t14 (λ c κs. search needs) returns-2 returns-3)
+    tie.close (tie.spec (λ c κs. search needs) returns cast-t12 cast-t13 cast-t14 cast-t15 (λ c κs. search needs) returns-2 returns-3)

@@ -1,7 +1,13 @@
 // 0x46, the beacon: the manager's time and superframe, passed on hop by hop.
 ghost use mathlib.Core.Path.{_≡_};
+ghost use mathlib.Core.List.{_∷_};
+ghost use lib.Seq.{sets};
+ghost use Rattle.octets.specs.Layouts.{bytes};
 ghost use Rattle.frame_beacons.specs.Beacons.{beacon, beaconValues, beaconRule};
 ghost use Rattle.frame_kinds.specs.Shape.{valuesIn};
+use octets::fixed::put8;
+use octets::fixed::put16;
+use octets::fixed::put32;
 use octets::numbers::number8;
 use octets::numbers::number16;
 use octets::numbers::number32;
@@ -60,5 +66,26 @@ impl Beacon {
             & ((1 <= self.total_slots) & (self.total_slots <= 100))
             & (1 <= self.slot_ms)
             & (self.superframe_ms as u64 == self.total_slots as u64 * self.slot_ms as u64)
+    }
+
+    // Writes the type and the fields where they stand, from the buffer's start.
+    pub fn put(self, out: &mut [u8])
+        ensures { λ _. ⌜ now (out .exit) ≡ sets (now (out .entry)) 0 (bytes (1 ∷ beacon .widths) (beacon .code ∷ beaconValues self)) ⌝ }
+    {
+        put8(out, 0, 0x46);
+        put16(out, 1, self.destination);
+        put16(out, 3, self.source);
+        put8(out, 5, self.size);
+        put16(out, 6, self.network);
+        put32(out, 8, self.superframe_number);
+        put16(out, 12, self.superframe_ms);
+        put8(out, 14, self.total_slots);
+        put32(out, 15, self.slot_ms);
+        put16(out, 19, self.original_source);
+        put8(out, 21, self.hop);
+        put32(out, 22, self.original_time);
+        put32(out, 26, self.delay);
+        put8(out, 30, self.max_hops);
+        put16(out, 31, self.sequence);
     }
 }

@@ -1,1 +1,2 @@
-// Shapes: what a kind of frame is, and what reading and writing one means. There are definitions and laws here, and no code.
+// Kinds: what a kind of frame is, what reading and writing one means, and the checksum behind a frame's bytes.
+pub mod sealing;

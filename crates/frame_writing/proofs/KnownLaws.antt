@@ -25,7 +25,7 @@ use Rattle.frames.proofs.ListedLaws.{listed-as, by-type}
 use Rattle.frame_kinds.proofs.WritingLaws.{put}
 use Rattle.frame_writing.specs.Taking.{takes}
 use Rattle.frame_writing.proofs.ListedLaws.{length-given, fitting-fit, fitting-stand, standing-given, told-late, takes-kept}
-use Rattle.frame_writing.proofs.WritingLaws.{frame-length, unwritten}
+use Rattle.frame_kinds.proofs.StoredLaws.{frame-length, unwritten}
 
 -- the kind that numbers of this type are of, and what its layout holds
 pub record Known (code : ℕ) (layout : Layout) : Type 0 where

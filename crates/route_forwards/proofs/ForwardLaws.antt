@@ -18,7 +18,7 @@ use Rattle.frame_kinds.specs.Shape.{valuesIn}
 use Rattle.frame_kinds.proofs.ReadingLaws.{passed}
 use Rattle.frame_beacons.specs.declared.beacon.Beacon.{Beacon}
 use Rattle.frame_beacons.specs.Beacons.{beacon, beaconValues, beaconFrom, beaconRule}
-use Rattle.frame_writing.proofs.WritingLaws.{frame-length}
+use Rattle.frame_kinds.proofs.StoredLaws.{frame-length}
 use Rattle.route_table.specs.declared.table.Changed.{Changed}
 use Rattle.route_table.specs.declared.table.Table.{Table}
 use Rattle.route_table.specs.Rows.{standing}
@@ -151,11 +151,10 @@ module _ (t : Table) (network : ℕ) (s : List ℕ) (delay time : ℕ) (out : Li
   known = onward t network s delay time (length out) z
 
   -- the sums that it needs fit their fields, and it fits the buffer
-  pub sums-fit : (b : Beacon) → beaconValues b ≡ valuesIn beacon s → (b .hop + 1 ≤ 255) × (b .delay + delay ≤ 0xFFFFFFFF)
-  sums-fit b v = rw (beacon-in b s v) (omega (arith, known .below, read-ruled s (known .unread) .few), known .sum)
-
-  pub room-fits : 34 ≤ length out
-  room-fits = omega (arith, ltb-false (length out) (length (copyOf t delay s)) (known .fits), copy-length t delay s)
+  pub copy-fits : (b : Beacon) → beaconValues b ≡ valuesIn beacon s → (b .hop + 1 ≤ 255) × (b .delay + delay ≤ 0xFFFFFFFF) × (34 ≤ length out)
+  copy-fits b v =
+      rw (beacon-in b s v)
+      (omega (arith, known .below, read-ruled s (known .unread) .few), known .sum, omega (arith, ltb-false (length out) (length (copyOf t delay s)) (known .fits), copy-length t delay s))
 
 -- ---- the answers
 module _ (t : Table) (network : ℕ) (s : List ℕ) (delay time : ℕ) (out : List ℕ) (c : Changed)

@@ -3,13 +3,17 @@ ghost use mathlib.Core.Path.{_≡_};
 ghost use mathlib.Core.Bool.{not};
 ghost use mathlib.Core.List.{[], _∷_};
 ghost use Prim.Native.Nat.{_+_, _≤_};
+ghost use lib.ListN.{length};
+ghost use lib.Seq.{sets};
 ghost use Rattle.octets.specs.Answers.{reason, refusing, first};
 ghost use Rattle.frame_kinds.specs.Reading.{refusalAs};
+ghost use Rattle.frame_kinds.specs.Shape.{frameOf};
 ghost use Rattle.octets.specs.Addresses as rules;
 ghost use Rattle.frame_beacons.specs.Beacons as beacons;
+ghost use Rattle.frame_beacons.specs.Beacons.{beaconValues};
 ghost use Rattle.route_forwards.specs.Forwards.{passingOf, passedBy, passed, forwardOf, forwardedIn, forwardCall};
-use crate::writing::put_beacon;
 use frame_beacons::beacon::Beacon;
+use frame_kinds::sealing::seal;
 use frame_reading::refusals;
 use octets::answers::Refusal;
 use octets::answers::refuse_if;
@@ -46,12 +50,12 @@ fn passing_of(beacon: Beacon) -> Passing
     }
 }
 
-// The copy that this unit sends.
-fn passed_by(own: u16, delay: u32, beacon: Beacon) -> Beacon
-    requires { ⌜ (beacon .hop + 1 ≤ 255) × (beacon .delay + delay ≤ 0xFFFFFFFF) ⌝ }
-    ensures { λ r. ⌜ r ≡ passedBy own delay beacon ⌝ }
+// Writes the copy that this unit sends. A beacon that was read keeps its rules, and so does its copy.
+fn put_copy(out: &mut [u8], own: u16, delay: u32, beacon: Beacon)
+    requires { ⌜ (beacon .hop + 1 ≤ 255) × (beacon .delay + delay ≤ 0xFFFFFFFF) × (34 ≤ length (now out)) ⌝ }
+    ensures { λ _. ⌜ now (out .exit) ≡ sets (now (out .entry)) 0 (frameOf beacons.beacon (beaconValues (passedBy own delay beacon)) []) ⌝ }
 {
-    Beacon {
+    let copy = Beacon {
         destination: beacon.destination,
         source: own,
         size: beacon.size,
@@ -66,7 +70,9 @@ fn passed_by(own: u16, delay: u32, beacon: Beacon) -> Beacon
         delay: beacon.delay + delay,
         max_hops: beacon.max_hops,
         sequence: beacon.sequence,
-    }
+    };
+    copy.put(out);
+    seal(out, 33);
 }
 
 // What refuses a frame before a table is asked: it is no beacon, or the caller has no network.
@@ -105,7 +111,7 @@ pub fn forward(
             table: next,
         };
     }
-    put_beacon(out, passed_by(table.own, delay, beacon));
+    put_copy(out, table.own, delay, beacon);
     Forwarded {
         refused: 0,
         written: 34,
@@ -136,7 +142,7 @@ pub fn forward_in(
             written: 0,
         };
     }
-    put_beacon(out, passed_by(own, delay, beacon));
+    put_copy(out, own, delay, beacon);
     ForwardedIn {
         refused: 0,
         written: 34,

@@ -1,6 +1,6 @@
 -- A page as an update, and the call that writes it, from what its parts say: the same for a table by value and for one that lies in bytes.
 -- Assumes nothing.
-use mathlib.Core.Path.{_≡_, refl, sym, _∙_}
+use mathlib.Core.Path.{_≡_, refl, sym, ap, _∙_}
 use mathlib.Core.Bool.{true, false, _||_}
 use mathlib.Core.List.{List, [], _∷_, map}
 use Prim.Native.Nat.{ℕ, _+_, _*_, _≤_, _<_}
@@ -17,7 +17,7 @@ use Rattle.octets.specs.declared.answers.Written.{Written}
 use Rattle.octets.specs.Told.{wrote}
 use Rattle.octets.proofs.AnswerLaws.{numbered, none-holds}
 use Rattle.frame_traffic.specs.Traffic.{update}
-use Rattle.frame_writing.proofs.WritingLaws.{frame-length, sealed-stored}
+use Rattle.frame_kinds.proofs.StoredLaws.{frame-length, frame-put}
 use Rattle.route_table.specs.declared.row.Row.{Row}
 use Rattle.route_table.specs.declared.table.Table.{Table}
 use Rattle.route_table.specs.Rows.{standing}
@@ -85,9 +85,9 @@ module _ {t : Table} {p time : ℕ} {out : List ℕ} {count refused : ℕ} (k : 
         → wrote (Written.Done (9 + 10 * count)) three ≡ pageOf t p time out
     unfolding pageOf
     page-written own o rows r one two three a b c =
-        let n : 8 + 10 * count ≡ 8 + length (rowEntries time rs) = omega (arith, length-rows time rs, k .counted) in
+        let n : 8 + 10 * count ≡ 8 + length (rowEntries time rows) = omega (arith, length-rows time rows, k .counted, ap length r) in
         let size : 9 + 10 * count ≡ length (pageFrame t p time) = rw (k .counted) (sym (page-size t p time)) in
         let whole : three ≡ sets out 0 (pageFrame t p time) =
-        c ∙ rw (b, r, a, n, o, k .counted)
-        (sealed-stored (1 ∷ update .widths) (update .code ∷ t .own ∷ length rs ∷ time ∷ []) (rowEntries time rs) out 8 refl refl _ (omega (arith, page-room, length-rows time rs, k .counted)) refl) in
+        rw (← o, ← k .counted, ← r)
+        (frame-put update (own ∷ count ∷ time ∷ []) (rowEntries time rows) out refl one two three (omega (arith, page-room, n)) a b (c ∙ rw n)) in
         rw (← number, z, whole, size)

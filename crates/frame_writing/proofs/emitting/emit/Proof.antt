@@ -8,7 +8,7 @@ use Prim.Native.Nat.{_+_}
 use native.Mathlib.Omega.{arith}
 use lib.ListN.{length, length-set}
 use Rattle.frame_kinds.proofs.WritingLaws.{put}
-use Rattle.frame_writing.proofs.WritingLaws.{frame-length, unwritten, stored, sealed-stored}
+use Rattle.frame_kinds.proofs.StoredLaws.{frame-length, unwritten, stored, sealed-stored}
 use borrow.Author.Needs.{needs}
 use Rattle.frame_writing.proofs.emitting.emit.Statement.{statement}
 use Rattle.frame_writing.proofs.emitting.emit.Tie as tie

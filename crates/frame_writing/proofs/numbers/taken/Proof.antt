@@ -12,7 +12,7 @@ use Rattle.frames.specs.Frames.{readFrame}
 use Rattle.frame_kinds.specs.Shape.{sealed}
 use Rattle.frame_writing.specs.Taking.{takes}
 use Rattle.frame_writing.proofs.ListedLaws.{apart-done, apart-refused}
-use Rattle.frame_writing.proofs.WritingLaws.{frame-length}
+use Rattle.frame_kinds.proofs.StoredLaws.{frame-length}
 use borrow.Author.Needs.{needs}
 use Rattle.frame_writing.proofs.numbers.taken.Statement.{statement}
 use Rattle.frame_writing.proofs.numbers.taken.Tie as tie

@@ -55,14 +55,7 @@ put-entries-requires c κs =
     let header = c .before .before .before in
     let test = header .before .before in
     let d = test .before in
-    (omega (arith, d .before .before .smaller .ensures, d .before .before .before .rows-in .ensures .1), omega (arith, page-room (here d) (test .if2 .left), d .before .between .ensures .0, header .put-header .kept .0))
-
-seal-requires : tie.Need-seal-requires
-seal-requires c κs =
-    let entries = c .before .before .before in
-    let header = entries .before .before .before .before in
-    let test = header .before .before in
-    omega (arith, page-room (here (test .before)) (test .if2 .left), entries .put-entries .kept .0, header .put-header .kept .0)
+    (omega (arith, d .before .before .smaller .ensures, d .before .before .before .rows-in .ensures .1), omega (arith, page-room (here d) (test .if2 .left), d .before .between .ensures .0, header .put .kept .1))
 
 returns-3 : tie.Need-returns-3
 returns-3 c =
@@ -71,8 +64,8 @@ returns-3 c =
     let header = entries .before .before .before .before in
     let test = header .before .before in
     let d = test .before in
-    page-written (here d) (test .if2 .left) (start d .args .table .own) refl _ (rows-are d) _ _ _ (header .put-header .ensures) (entries .put-entries .ensures) (sum .seal .ensures)
+    page-written (here d) (test .if2 .left) (start d .args .table .own) refl _ (rows-are d) _ _ _ (header .put .ensures) (entries .put-entries .ensures) (sum .seal .ensures)
 
 pub page-spec : {M : Type 1} → statement M
 page-spec =
-    tie.close (tie.spec (λ c κs. search needs) returns (λ c κs. search needs) (λ c. search needs) (λ c. search needs) (λ c κs. search needs) (λ c κs. search needs) (λ c κs. search needs) refusal-requires returns-2 (λ c. search needs) (λ c κs. search needs) put-entries-requires seal-requires (λ c. search needs) (λ c. search needs) (λ c. search needs) returns-3)
+    tie.close (tie.spec (λ c κs. search needs) returns (λ c κs. search needs) (λ c. search needs) (λ c. search needs) (λ c κs. search needs) (λ c κs. search needs) (λ c κs. search needs) refusal-requires returns-2 (λ c. search needs) (λ c κs. search needs) put-entries-requires (λ c. search needs) (λ c. search needs) (λ c κs. search needs) (λ c. search needs) (λ c. search needs) (λ c. search needs) returns-3)

@@ -1,9 +1,9 @@
 -- A writer that is refused, one that is not, and a frame that is stored with its checksum.
 -- Assumes nothing.
-use mathlib.Core.Path.{_≡_, sym, _∙_}
+use mathlib.Core.Path.{_≡_, refl, sym, ap, _∙_}
 use mathlib.Core.Bool.{Bool}
 use mathlib.Core.List.{List, [], _∷_, _++_}
-use Prim.Native.Nat.{ℕ, _+_, _<_}
+use Prim.Native.Nat.{ℕ, suc, _+_, _<_}
 use native.Mathlib.Nat.{zero-add}
 use native.Mathlib.Omega.{arith}
 use lib.ListN.{length, take, set, length-append}
@@ -17,9 +17,9 @@ use Rattle.octets.proofs.AnswerLaws.{unless-none, unless-some}
 use Rattle.octets.proofs.CallLaws.{after-accepted, after-refused}
 use Rattle.octets.proofs.LayoutLaws.{length-bytes}
 use Rattle.octets.proofs.StoreLaws.{sets-append, take-sets}
 use Rattle.frame_kinds.proofs.SealLaws.{length-sealed}
-use Rattle.frame_kinds.specs.Shape.{sealed}
+use Rattle.frame_kinds.specs.Shape.{Kind, placeOf, sealed, frameOf}
 use Rattle.frame_kinds.specs.Writing.{writeRefusal, writing}
 
 module _ (due : ℕ) (good : Bool) (frame out : List ℕ) (n : ℕ) (e : n ≡ writeRefusal due (length frame) good (length out)) where
   pub unwritten : (n ≡ 0 → ⊥) → wrote (Written.Refused (record { number = n })) out ≡ writing due good frame out
@@ -50,3 +50,9 @@ module _ (ws vs part out : List ℕ) (head : ℕ) (lengths : length ws ≡ lengt
       let t : take (head + length part) (sets out 0 body) ≡ body = take-sets out body _ body-length (omega arith) in
       let s : sum ≡ xors 0 body = e ∙ rw (p, t) in
       rw (p, s) (sym (sets-append body (xors 0 body ∷ []) out 0 ∙ rw (zero-add, body-length)))
+
+-- the fields of a kind put from the buffer's start, the bytes behind them, and the checksum, are the frame
+module _ (k : Kind) (vs part out : List ℕ) (lengths : length (k .widths) ≡ length vs) where
+  pub frame-put : (one two three : List ℕ) → placeOf k + length part < length out → one ≡ sets out 0 (bytes (1 ∷ k .widths) (k .code ∷ vs)) → two ≡ sets one (placeOf k) part
+      → three ≡ set two (placeOf k + length part) (xors 0 (take (placeOf k + length part) two)) → three ≡ sets out 0 (frameOf k vs part)
+  frame-put one two three h a b c = c ∙ rw (b, a) (sealed-stored (1 ∷ k .widths) (k .code ∷ vs) part out (placeOf k) (ap suc lengths) refl _ h refl)

@@ -1,0 +1,11 @@
+-- `UpdateHeader::put`: the type and the fields, one behind the other.
+-- Assumes nothing.
+use mathlib.Core.List.{_∷_}
+use Rattle.octets.proofs.StoreLaws.{all-laid}
+use Rattle.frame_traffic.specs.Traffic.{update, updateValues}
+use borrow.Author.Needs.{needs}
+use Rattle.frame_traffic.proofs.update.UpdateHeader.put.Statement.{statement}
+use Rattle.frame_traffic.proofs.update.UpdateHeader.put.Tie as tie
+
+pub put-spec : {M : Type 1} → statement M
+put-spec = tie.close (tie.spec (λ c κs. search needs) (λ c κs. search needs) (λ c κs. search needs) (λ c κs. search needs) (λ c. search needs) (λ c. all-laid _ 0 (1 ∷ update .widths) (update .code ∷ updateValues _) _ cc))

@@ -14,7 +14,7 @@ use lib.Seq.{sets, sets-eq}
 use Rattle.octets.specs.Lists.{tab}
 use Rattle.octets.specs.declared.answers.Written.{Written}
 use Rattle.octets.specs.Told.{wrote}
-use Rattle.octets.proofs.AnswerLaws.{numbered, none-holds}
+use Rattle.octets.proofs.AnswerLaws.{none-holds}
 use Rattle.slot_sets.specs.Sets.{Slots}
 use Rattle.site_plan.specs.declared.plan.Plan.{Plan}
 use Rattle.site_plan.specs.Plans.{slotsIn, slots, sleepAt}
@@ -86,10 +86,7 @@ pub record Schedulable (b : Contents) (unit hop time : ℕ) (live : Bool) (room 
 pub schedulable : (b : Contents) (unit hop time : ℕ) (live : Bool) (room : ℕ) → scheduleRefusal b unit hop time live room ≡ 0 → Schedulable b unit hop time live room
 schedulable b unit hop time live room e =
     let none =
-    none-holds (scheduleReasons b unit hop time live room) (
-      numbered _ 14 (λ z. omega arith),
-      (numbered _ 4 (λ z. omega arith), (numbered _ 8 (λ z. omega arith), (numbered _ 14 (λ z. omega arith), (numbered _ 13 (λ z. omega arith), (numbered _ 5 (λ z. omega arith), tt))))),
-    ) e in
+    none-holds (scheduleReasons b unit hop time live room) _ e in
     let ruled = not-false (withinRule b) (none .0) in
     let below = hop-below (b .plan) unit hop (not-false (hopRule (b .plan) unit hop) (none .1 .1 .1 .0)) in
     record {

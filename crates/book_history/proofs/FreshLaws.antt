@@ -9,7 +9,7 @@ use borrow.Author.Tests.{eq-eqb, ne-eqb, lt-ltb, ltb-true, not-false}
 use lib.Dec.{ltb}
 use lib.ListN.{take, drop, replicate}
 use Rattle.octets.specs.Answers.{reason}
-use Rattle.octets.proofs.AnswerLaws.{numbered, none-holds}
+use Rattle.octets.proofs.AnswerLaws.{none-holds}
 use Rattle.octets.specs.Lists.{every}
 use Rattle.octets.proofs.CallLaws.{after-accepted}
 use Rattle.moments.proofs.MomentLaws.{in-order-self}
@@ -79,7 +79,7 @@ fresh-ruled manager dataSlots time n unit h =
 module _ (p : Plan) (time : ℕ) where
   fresh-plan : freshOf p time .refused ≡ 0 → planRule p ≡ true
   unfolding freshOf
-  fresh-plan e = not-false (planRule p) (none-holds (reason (not (planRule p)) 14 ∷ []) (numbered _ 14 (λ z. omega arith), tt) e .0)
+  fresh-plan e = not-false (planRule p) (none-holds (reason (not (planRule p)) 14 ∷ []) _ e .0)
 
   pub fresh-within : freshOf p time .refused ≡ 0 → withinRule (freshOf p time .book) ≡ true
   unfolding freshOf

@@ -12,7 +12,7 @@ use lib.Seq.{sets}
 use Rattle.octets.specs.Answers.{Reason, reason, first}
 use Rattle.octets.specs.Calls.{stored}
 use Rattle.octets.specs.declared.answers.Refusal.{Refusal}
-use Rattle.octets.proofs.AnswerLaws.{numbered, none-holds}
+use Rattle.octets.proofs.AnswerLaws.{none-holds}
 use Rattle.octets.proofs.StoreLaws.{sets-whole}
 use Rattle.octets.proofs.AnsweredLaws.{Valued, valued, valued-unless, refused-by-some}
 use Rattle.site_plan.specs.declared.plan.Plan.{Plan}
@@ -88,7 +88,7 @@ module _ (s numbers : List ℕ) where
 
       pub places : 7 ≤ length numbers
       places =
-          let none = none-holds reasons (numbered _ 14 (λ y. omega arith), (numbered _ 5 (λ y. omega arith), tt)) (go (eqb (length s) planSize) (sym e ∙ z)) in
+          let none = none-holds reasons _ (go (eqb (length s) planSize) (sym e ∙ z)) in
           ltb-false (length numbers) 7 (none .1 .0)
         where
           go : (b : Bool) → cond b (first reasons) 14 ≡ 0 → first reasons ≡ 0

@@ -11,7 +11,7 @@ use lib.ListN.{length, getD, take, drop, length-take, length-map, List·getD-map
 use Rattle.octets.specs.Answers.{Said, accepted}
 use Rattle.octets.specs.Layouts.{Fit}
 use Rattle.octets.specs.Lists.{every}
-use Rattle.octets.proofs.AnswerLaws.{unless-none, unless-number, numbered, none-holds}
+use Rattle.octets.proofs.AnswerLaws.{unless-none, unless-number, none-holds}
 use Rattle.octets.proofs.ListLaws.{getD-tab}
 use Rattle.octets.proofs.StoreLaws.{take-sets}
 use Rattle.octets.proofs.ListLaws.{every-both, every-take, every-drop}
@@ -165,8 +165,7 @@ module _ (t : Table) (p time : ℕ) (out : List ℕ) (z : Sized t) (h : time < 0
 
   known : Known
   known =
-      let none = none-holds (pageReasons t p time (length out))
-      (numbered _ 14 (λ y. omega arith), (numbered _ 8 (λ y. omega arith), (numbered _ 14 (λ y. omega arith), (numbered _ 5 (λ y. omega arith), tt)))) e in
+      let none = none-holds (pageReasons t p time (length out)) _ e in
       record { right = not-false (withinRule t) (none .0); room = ltb-false (length out) (length (pageFrame t p time)) (none .1 .1 .1 .0) }
 
   rows-sound : every (sound (t .own) (t .time)) rows ≡ true

@@ -10,7 +10,7 @@ use borrow.Author.Tests.{eqb-true, not-false}
 use lib.Dec.{eqb}
 use lib.ListN.{length}
 use Rattle.octets.specs.Answers.{Said, accepted, first, unless}
-use Rattle.octets.proofs.AnswerLaws.{unless-none, unless-some, unless-number, numbered, none-holds}
+use Rattle.octets.proofs.AnswerLaws.{unless-none, unless-some, unless-number, none-holds}
 use Rattle.moments.specs.Moments.{inOrder}
 use Rattle.octets.specs.Addresses.{address}
 use Rattle.route_table.specs.declared.row.Row.{Row}
@@ -36,7 +36,7 @@ found t d time e =
     let r = answering t d in
     let reasons = lookupReasons t d time in
     let z : first reasons ≡ 0 = sym (unless-number (first reasons) (r .«next_hop» ∷ r .hops ∷ [])) ∙ e in
-    let n = none-holds reasons (numbered _ 14 (λ q. omega arith), (numbered _ 4 (λ q. omega arith), (numbered _ 8 (λ q. omega arith), (numbered _ 11 (λ q. omega arith), tt)))) z in
+    let n = none-holds reasons _ z in
     let (same, carries) = and-eq-true-iff (eqb (r .destination) d) (usable time r) .0 (not-false _ (n .1 .1 .1 .0)) in
     record {
       within = not-false (withinRule t) (n .0);

@@ -11,7 +11,7 @@ use lib.Dec.{eqb}
 use lib.ListN.{length, getD}
 use Rattle.octets.specs.Answers.{Said, accepted, first, unless}
 use Rattle.octets.specs.Told.{Wrote}
-use Rattle.octets.proofs.AnswerLaws.{unless-number, numbered, refusing-numbered, none-holds}
+use Rattle.octets.proofs.AnswerLaws.{unless-number, refusing-numbered, none-holds}
 use Rattle.frame_kinds.specs.Reading.{refusalAs}
 use Rattle.frame_traffic.specs.Traffic.{dataKind}
 use Rattle.route_table.specs.declared.table.Table.{Table}
@@ -40,13 +40,7 @@ relayable : (t : Table) (s : List ℕ) (time room : ℕ) → relayRefusal t s ti
 unfolding relayRefusal
 relayable t s time room e =
     let n =
-    none-holds (relayReasons t s time room) (
-      numbered _ 14 (λ q. omega arith),
-      (
-        refusing-numbered (refusalAs dataKind s),
-        (numbered _ 6 (λ q. omega arith), (numbered _ 8 (λ q. omega arith), (numbered _ 10 (λ q. omega arith), (numbered _ 11 (λ q. omega arith), (numbered _ 5 (λ q. omega arith), tt))))),
-      ),
-    ) e in
+    none-holds (relayReasons t s time room) (_, (refusing-numbered (refusalAs dataKind s), _)) e in
     record { within = not-false (withinRule t) (n .0); way = n .1 .1 .1 .1 .1 .0 }
 
 -- a relay that answers a next hop looked it up
@@ -100,7 +94,7 @@ unfolding pageOf
 paged t p time out e =
     let reasons = pageReasons t p time (length out) in
     let z : first reasons ≡ 0 = sym (unless-number (first reasons) (length (pageFrame t p time) ∷ [])) ∙ e in
-    not-false (withinRule t) (none-holds reasons (numbered _ 14 (λ q. omega arith), (numbered _ 8 (λ q. omega arith), (numbered _ 14 (λ q. omega arith), (numbered _ 5 (λ q. omega arith), tt)))) z .0)
+    not-false (withinRule t) (none-holds reasons _ z .0)
 
 -- the number of a relay
 pub relay-number : (t : Table) (s : List ℕ) (time : ℕ) (out : List ℕ) → relayOf t s time out .said .refusal ≡ relayRefusal t s time (length out)

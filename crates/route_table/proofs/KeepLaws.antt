@@ -10,8 +10,7 @@ use lib.Dec.{eqb, ltb}
 use lib.ListN.{length-map}
 use Rattle.octets.specs.Answers.{reason}
 use Rattle.octets.specs.Lists.{every}
-use Rattle.octets.proofs.AnswerLaws.{numbered, none-holds}
-use Rattle.moments.specs.Moments.{inOrder}
+use Rattle.octets.proofs.AnswerLaws.{none-holds}
 use Rattle.octets.specs.Addresses.{address}
 use Rattle.route_table.specs.declared.row.Row.{Row}
 use Rattle.route_table.specs.declared.table.Table.{Table}
@@ -72,7 +71,7 @@ forgotten-destination unit time r = by-forgotten (λ x. x .destination ≡ r .de
 pub fresh-within : (own time : ℕ) → freshOf own time .refused ≡ 0 → withinRule (freshOf own time .table) ≡ true
 unfolding freshOf pad every
 fresh-within own time e =
-    let a = not-false (address own) (none-holds (reason (not (address own)) 4 ∷ []) (numbered _ 4 (λ z. omega arith), tt) e .0) in
+    let a = not-false (address own) (none-holds (reason (not (address own)) 4 ∷ []) _ e .0) in
     rw a (within-pad own time false 0 0 [] a refl (omega arith) refl refl)
 
 pub forget-within : (t : Table) (unit time : ℕ) → forgetOf t unit time .refused ≡ 0 → withinRule (forgetOf t unit time .table) ≡ true

@@ -14,6 +14,7 @@ use Rattle.octets.specs.Lists.{every}
 use Rattle.octets.proofs.CallLaws.{after-accepted}
 use Rattle.moments.proofs.MomentLaws.{in-order-self}
 use Rattle.octets.specs.Addresses.{address}
+use Rattle.octets.proofs.AddressLaws.{address-some}
 use Rattle.slot_sets.specs.Sets.{count, Subset, firsts}
 use Rattle.slot_sets.proofs.SetLaws.{firsts-has}
 use Rattle.slot_sets.proofs.LowestLaws.{count-of-firsts}
@@ -23,7 +24,7 @@ use Rattle.site_plan.proofs.PlanLaws.{kept, rule-bounds}
 use Rattle.book_members.specs.Members.{Row, emptyRow, vacantRow}
 use Rattle.book_members.specs.Rules.{emptyIs, rowRule}
 use Rattle.book_members.proofs.RowSums.{weigh, one, ofUnit, owns}
-use Rattle.book_members.proofs.RowRuleLaws.{empty-is, no-count, member-rule, needs, rule-empty, Ruled, units-least, owners-least, address-some}
+use Rattle.book_members.proofs.RowRuleLaws.{empty-is, no-count, member-rule, needs, rule-empty, Ruled, units-least, owners-least}
 use Rattle.book.specs.Books.{withinRule, freshRow, noBook, freshBook, freshOf}
 use Rattle.book.proofs.WithinLaws.{by-parts}
 

@@ -10,13 +10,14 @@ use lib.Dec.{eqb}
 use lib.ListN.{length, set, length-set}
 use lib.Seq.{getD-set-same}
 use Rattle.octets.proofs.CallLaws.{after-accepted}
+use Rattle.octets.proofs.AddressLaws.{address-some}
 use Rattle.moments.proofs.MomentLaws.{in-order-self}
 use Rattle.slot_sets.specs.Sets.{Slots}
 use Rattle.site_plan.proofs.PlanLaws.{kept}
 use Rattle.book_members.specs.Members.{Row, emptyRow, placeFor, vacant}
 use Rattle.book_members.proofs.RowLaws.{row}
 use Rattle.book_members.proofs.LookupLaws.{found-unit, found-set}
-use Rattle.book_members.proofs.RowRuleLaws.{Seat, Share, address-some, ruled-taken}
+use Rattle.book_members.proofs.RowRuleLaws.{Seat, Share, ruled-taken}
 use Rattle.book_members.proofs.SeatLaws.{live-seat, free-seat}
 use Rattle.book.specs.Books.{Contents, withinRule, rowsAt, liveAt, withRow, heardOf, leaveOf}
 use Rattle.book_joins.specs.Joins.{seat, seated, grantFor, asks, noRowFor, joinIn, joinOf, askIn, askOf}

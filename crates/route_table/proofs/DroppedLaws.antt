@@ -11,6 +11,7 @@ use Rattle.octets.specs.Answers.{accepted, reason, first, unless}
 use Rattle.octets.specs.Lists.{every}
 use Rattle.moments.specs.Moments.{ageAt, inOrder}
 use Rattle.octets.specs.Addresses.{address}
+use Rattle.octets.proofs.AddressLaws.{address-some}
 use Rattle.route_table.specs.declared.row.Row.{Row}
 use Rattle.route_table.specs.declared.table.Table.{Table}
 use Rattle.route_table.specs.Rows.{none, usable, leads, stands, rowRule, forgotten, ascending, standing, rowFor}
@@ -18,7 +19,7 @@ use Rattle.route_table.specs.Tables.{rowsOf, withinRule, withRows, dropp
 use Rattle.route_table.proofs.KeepLaws.{ascending-above}
 use Rattle.route_table.proofs.RuleLaws.{within-pad}
 use Rattle.route_table.proofs.StandingLaws.{used, in-use-used, in-use-pad, standing-every, standing-ascending, ascending-rest}
-use Rattle.route_table.proofs.TableLaws.{within, few-stand, address-some}
+use Rattle.route_table.proofs.TableLaws.{within, few-stand}
 
 -- ---- the rows
 pub standing-again : (time : ℕ) (rs : List Row) → standing time (standing time rs) ≡ standing time rs

@@ -14,7 +14,7 @@ use Rattle.octets.specs.Lists.{every}
 use Rattle.octets.proofs.AnswerLaws.{none-holds}
 use Rattle.moments.specs.Moments.{inOrder}
 use Rattle.octets.specs.Addresses.{address}
-use Rattle.octets.proofs.AddressLaws.{address-least}
+use Rattle.octets.proofs.AddressLaws.{address-some}
 use Rattle.route_table.specs.declared.row.Row.{Row}
 use Rattle.route_table.specs.declared.table.Table.{Table}
 use Rattle.route_table.specs.Places.{okPlaces}
@@ -62,9 +62,6 @@ forgotten-none unit time h = rw (ne-eqb 0 unit (λ z. h (sym z))) (go (usable ti
     go : (b : Bool) → cond (b && false) (record { destination = 0; «next_hop» = 0; hops = 0; quality = 0; time = time; withdrawn = true }) none ≡ none
     go true = refl
     go false = refl
-
-pub address-some : (unit : ℕ) → address unit ≡ true → unit ≡ 0 → ⊥
-address-some unit e z = omega (arith, address-least unit e)
 
 -- ---- the places of a table within rule are its rows, with zeros behind them
 abbrev built : ℕ → ℕ → ℕ → ℕ → ℕ → Bool → Row

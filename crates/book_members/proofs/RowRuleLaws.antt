@@ -9,7 +9,7 @@ use borrow.Author.Tests.{eq-eqb, ne-eqb, eqb-true, le-leb, leb-true}
 use lib.Dec.{eqb, leb}
 use lib.ListN.{length, set}
 use Rattle.octets.specs.Lists.{every}
-use Rattle.octets.proofs.ListLaws.{every-at}
+use Rattle.octets.proofs.ListLaws.{every-at, every-map}
 use Rattle.moments.specs.Moments.{ageAt, inOrder}
 use Rattle.moments.proofs.MomentLaws.{young-in-order}
 use Rattle.octets.specs.Addresses.{address}
@@ -20,7 +20,7 @@ use Rattle.slot_sets.proofs.CountLaws.{empty-by-count, count-of-union, count-of
 use Rattle.slot_sets.proofs.LowestLaws.{count-of-firsts}
 use Rattle.book_members.specs.Members.{Row, emptyRow, vacantRow, kept, current, placeFor, heldSlots, free, vacant, spare}
 use Rattle.book_members.specs.Rules.{emptyIs, rowRule, distinct, apart, ledBy, rowsRule}
-use Rattle.book_members.proofs.RowLaws.{row, every-map, every-current, every-set, kept-either}
+use Rattle.book_members.proofs.RowLaws.{row, every-current, every-set, kept-either}
 use Rattle.book_members.proofs.RowSums.{weigh, weigh-set, weigh-current, one, tally, ofUnit, owns, distinct-tally, tally-distinct, held-none, apart-tally, tally-apart}
 
 -- ---- one row

@@ -13,6 +13,7 @@ use Rattle.octets.specs.Layouts.{Bytes}
 use Rattle.octets.specs.Lists.{every}
 use Rattle.octets.proofs.LayoutLaws.{fields-fit}
 use Rattle.octets.specs.Addresses.{address}
+use Rattle.octets.proofs.ListLaws.{every-map}
 use Rattle.frame_kinds.specs.Shape.{partIn}
 use Rattle.frame_traffic.specs.Traffic.{update, entriesOf}
 use Rattle.frame_beacons.specs.Beacons.{beacon}
@@ -20,7 +21,7 @@ use Rattle.route_table.specs.declared.row.Row.{Row}
 use Rattle.route_table.specs.declared.table.Table.{Table}
 use Rattle.route_table.specs.Rows.{forgotten, standing}
 use Rattle.route_table.specs.Tables.{rowsOf, emptyTable, freshOf, forgetOf}
-use Rattle.route_table.proofs.KeepLaws.{every-map, by-forgotten, standing-rules, forgotten-rules}
+use Rattle.route_table.proofs.KeepLaws.{by-forgotten, standing-rules, forgotten-rules}
 use Rattle.route_table.proofs.StandingLaws.{standing-every}
 use Rattle.route_table.proofs.TableLaws.{within, few-stand, forgettable}
 use Rattle.route_merges.specs.Candidates.{candidates}

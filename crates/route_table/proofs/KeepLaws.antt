@@ -12,6 +12,7 @@ use Rattle.octets.specs.Answers.{reason}
 use Rattle.octets.specs.Lists.{every}
 use Rattle.octets.proofs.AnswerLaws.{none-holds}
 use Rattle.octets.specs.Addresses.{address}
+use Rattle.octets.proofs.ListLaws.{every-map}
 use Rattle.route_table.specs.declared.row.Row.{Row}
 use Rattle.route_table.specs.declared.table.Table.{Table}
 use Rattle.route_table.specs.Rows.{usable, rowRule, withdrawnAt, forgotten, ascending, pad, standing}
@@ -19,15 +20,6 @@ use Rattle.route_table.specs.Tables.{rowsOf, withinRule, freshOf, forget
 use Rattle.route_table.proofs.RuleLaws.{rule-later, rule-withdrawn, within-pad}
 use Rattle.route_table.proofs.StandingLaws.{ascending-without, standing-on, standing-ascending}
 use Rattle.route_table.proofs.TableLaws.{within, few-stand, forgettable}
-
--- ---- what a test of rows says of some of them
-pub every-map : (test test′ : Row → Bool) (f : Row → Row) → ((r : Row) → test r ≡ true → test′ (f r) ≡ true) → (rs : List Row)
-    → every test rs ≡ true → every test′ (map f rs) ≡ true
-unfolding every
-every-map test test′ f h [] e = refl
-every-map test test′ f h (r ∷ rs) e =
-    let (here, later) = and-eq-true-iff (test r) (every test rs) .0 e in
-    rw (h r here, every-map test test′ f h rs later)
 
 -- ---- rows that ascend
 -- every row behind the first is above it

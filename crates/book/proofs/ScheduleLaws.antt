@@ -17,7 +17,7 @@ use Rattle.octets.specs.Told.{wrote}
 use Rattle.octets.proofs.AnswerLaws.{none-holds}
 use Rattle.slot_sets.specs.Sets.{Slots}
 use Rattle.site_plan.specs.declared.plan.Plan.{Plan}
-use Rattle.site_plan.specs.Plans.{slotsIn, slots, sleepAt}
+use Rattle.site_plan.specs.Plans.{slots, sleepAt}
 use Rattle.site_plan.specs.Schedules.{sleep, kindOf}
 use Rattle.site_plan.proofs.PlanLaws.{kept}
 use Rattle.site_plan.proofs.RegionLaws.{kinds-by-region}
@@ -62,11 +62,6 @@ both-put p row hop own count awake held out last a o l =
     let whole : tab count f ≡ tab awake f ++ replicate (count - awake) sleep =
     sym (ap (λ (i : ℕ). tab i f) n) ∙ same-behind awake (count - awake) f sleep (λ k h b. kinds-by-region p row hop own k .behind (omega (arith, a, h, b, n))) in
     rw (l, o, whole) (sym (sets-append (tab awake f) (replicate (count - awake) sleep) held 0 ∙ rw (length-tab awake f, zero-add)))
-
--- a superframe has at most 100 slots
-pub few-slots : (p : Plan) → slots p ≤ 100
-unfolding slotsIn
-few-slots p = omega arith
 
 -- a hop within rule is one of the plan's
 hop-below : (p : Plan) (unit hop : ℕ) → hopRule p unit hop ≡ true → hop ≤ p .«max_hops»

@@ -1,6 +1,6 @@
 -- The calls on a plan, from what the core answers.
 -- Assumes nothing.
-use mathlib.Core.Path.{_≡_, refl, sym, ap, _∙_}
+use mathlib.Core.Path.{_≡_, sym, ap, _∙_}
 use mathlib.Core.Bool.{Bool, true, false, not, cond}
 use mathlib.Core.List.{List, [], _∷_}
 use Prim.Native.Nat.{ℕ, _≤_}
@@ -15,6 +15,7 @@ use Rattle.octets.specs.declared.answers.Refusal.{Refusal}
 use Rattle.octets.proofs.AnswerLaws.{none-holds}
 use Rattle.octets.proofs.StoreLaws.{sets-whole}
 use Rattle.octets.proofs.AnsweredLaws.{Valued, valued, valued-unless, refused-by-some}
+use Rattle.octets.proofs.CallLaws.{stored-number}
 use Rattle.site_plan.specs.declared.plan.Plan.{Plan}
 use Rattle.site_plan.specs.declared.plan.Made.{Made}
 use Rattle.site_plan.specs.Plans.{active, slots, superframeMs, controlAt, dataAt, discoveryAt, sleepAt, planNumbers, planRule, toldPlan, planOf}
@@ -22,14 +23,6 @@ use Rattle.site_plan.specs.PlanBytes.{planSize, planAt, planBytes}
 use Rattle.site_plan.proofs.PlanByteLaws.{length-plan}
 use Rattle.c_book.specs.BookCalls.{bookLeft}
 use Rattle.c_book.specs.PlanCalls.{planCall, numbersLeft, numbersCall}
-
--- the status of a call over a stored value, as `refuse_if` gives it
-pub stored-number : (n : ℕ) (s : List ℕ) (said : ℕ) → cond (not (eqb (length s) n)) 14 said ≡ stored n s said
-stored-number n s said = turned (eqb (length s) n)
-  where
-    turned : (b : Bool) → cond (not b) 14 said ≡ cond b said 14
-    turned true = refl
-    turned false = refl
 
 -- ---- making one
 module _ (s : List ℕ) (network manager hops rows dataSlots ms : ℕ) where

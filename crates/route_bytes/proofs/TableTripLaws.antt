@@ -14,7 +14,7 @@ use Rattle.octets.specs.Layouts.{fields, bytes, Bytes}
 use Rattle.octets.specs.Lists.{tab, every}
 use Rattle.octets.specs.Numbers.{num}
 use Rattle.octets.proofs.LayoutLaws.{fields-bytes, bytes-fields}
-use Rattle.octets.proofs.ListLaws.{length-tab, getD-tab, every-at}
+use Rattle.octets.proofs.ListLaws.{length-tab, getD-tab, every-at, map-same}
 use Rattle.octets.proofs.RunLaws.{run-read, run-kept}
 use Rattle.route_table.specs.declared.row.Row.{Row}
 use Rattle.route_table.specs.declared.table.Table.{Table}
@@ -46,9 +46,8 @@ flag-place s i =
     rw q
 
 -- ---- what was written, read
-rows-back : (rs : List Row) → map (λ r. rowFrom (rowValues r)) rs ≡ rs
-rows-back [] = refl
-rows-back (r ∷ rs) = rw (flag-back (r .withdrawn), rows-back rs)
+row-back : (r : Row) → rowFrom (rowValues r) ≡ r
+row-back r = rw (flag-back (r .withdrawn))
 
 flags-small : (rs : List Row) → every (λ v. leb v 1) (map (λ r. flag (r .withdrawn)) rs) ≡ true
 unfolding every
@@ -69,7 +68,7 @@ module _ (t : Table) (z : Sized t) where
 pub reads-back : ReadsBack
 unfolding tableIn rowAt
 reads-back t z =
-    ap₂ tableFrom (head-read t z) (all-read t z rowFrom (rowAt (tableBytes t)) (λ i. refl) ∙ rows-back (t .rows)) ∙ rw (flag-back (t .forwarded))
+    ap₂ tableFrom (head-read t z) (all-read t z rowFrom (rowAt (tableBytes t)) (λ i. refl) ∙ map-same (λ r. rowFrom (rowValues r)) row-back (t .rows)) ∙ rw (flag-back (t .forwarded))
 
 pub writes-tables : WritesTables
 unfolding isTable

@@ -14,7 +14,7 @@ use Rattle.octets.specs.Lists.{every}
 use Rattle.octets.proofs.ListLaws.{every-map}
 use Rattle.octets.proofs.TestLaws.{of-cond}
 use Rattle.moments.specs.Moments.{ageAt, inOrder}
-use Rattle.moments.proofs.MomentLaws.{older-on}
+use Rattle.moments.proofs.MomentLaws.{no-age, older-on}
 use Rattle.book_members.specs.Members.{Row, emptyRow, kept, current}
 
 -- the row at a place, zeros past the end
@@ -61,6 +61,10 @@ every-behind test empty time (suc n) (r ∷ rs) e = go n rs e
     go zero rs e = every-dropped test empty time rs e
     go (suc n) [] e = e
     go (suc n) (r ∷ rs) e = go n rs e
+
+-- a row of this time stays
+pub kept-now : (time : ℕ) (r : Row) → r .time ≡ time → kept time r ≡ r
+kept-now time r e = rw (e, no-age time)
 
 -- ---- dropped twice
 pub kept-empty : (time : ℕ) → kept time emptyRow ≡ emptyRow

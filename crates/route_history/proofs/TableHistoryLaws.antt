@@ -12,6 +12,7 @@ use lib.ListN.{length, getD}
 use Rattle.octets.specs.Answers.{Said, accepted, first, unless}
 use Rattle.octets.specs.Told.{Wrote}
 use Rattle.octets.proofs.AnswerLaws.{unless-number, refusing-numbered, none-holds}
+use Rattle.octets.proofs.AnsweredLaws.{said-none}
 use Rattle.frame_kinds.specs.Reading.{refusalAs}
 use Rattle.frame_traffic.specs.Traffic.{dataKind}
 use Rattle.route_table.specs.declared.table.Table.{Table}
@@ -28,7 +29,7 @@ use Rattle.route_forwards.proofs.ForwardLaws.{forward-within}
 use Rattle.route_history.specs.TableCalls.{Call, merge, forget, forward, lookup, relay, page, next, answers, newTable, answer, Past, afterCalls, fresh}
 use Rattle.route_history.specs.TableLaws.{AnswersHeard, Freshness, Accounts, FreshnessFrom, KeepsRule, RefusedKeeps, StaysWithinRule, GoneRowsDoNotMatter}
 use Rattle.route_history.proofs.FreshLaws.{heard}
-use Rattle.route_history.proofs.LookupLaws.{answering, Found, found, with-values}
+use Rattle.route_history.proofs.LookupLaws.{answering, Found, found}
 use Rattle.route_history.proofs.StepLaws.{good-after, good-fresh, merge-kept, forget-kept, forward-kept}
 
 -- ---- a relay that is not refused
@@ -50,7 +51,7 @@ module _ (t : Table) (s : List ℕ) (time : ℕ) (out : List ℕ) (hop more : �
 
   unrefused : relayRefusal t s time (length out) ≡ 0
   unfolding relayOf
-  unrefused = with-values _ hop (more ∷ []) _ e
+  unrefused = said-none _ _ (ap (λ (x : Said). x .refusal) e) .0
 
   onward : (us : Bool) → forUs t s ≡ us → Found t d time × (answering t d .«next_hop» ≡ hop)
   unfolding relayOf

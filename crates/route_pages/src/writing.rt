@@ -1,6 +1,6 @@
 // The update that a page is: its header, an entry for each row, and the checksum; and why a page is not written.
 ghost use mathlib.Core.Path.{_≡_};
-ghost use mathlib.Core.Bool.{cond, _||_};
+ghost use mathlib.Core.Bool.{_||_};
 ghost use mathlib.Core.List.{[], _∷_};
 ghost use Prim.Native.Nat.{_+_, _*_, _≤_};
 ghost use lib.Dec.{eqb, ltb};
@@ -14,17 +14,12 @@ ghost use Rattle.route_pages.specs.Pages.{entryFor, unpagedReasons};
 use frame_traffic::entry::Entry;
 use moments::in_order;
 use octets::answers::refuse_if;
+use octets::choices::either;
 use octets::fixed::put8;
 use octets::fixed::put16;
 use octets::fixed::put32;
 use octets::sums::xor_of;
 use route_table::row::Row;
-
-fn either(test: bool, first: u8, second: u8) -> u8
-    ensures { λ r. ⌜ r ≡ cond test first second ⌝ }
-{
-    if test { first } else { second }
-}
 
 // The entry for a row: a dead one is unreachable.
 pub(crate) fn entry_for(row: Row, time: u32) -> Entry

@@ -7,7 +7,7 @@ use native.Mathlib.Omega.{arith}
 use lib.ListN.{length, take, drop}
 use lib.Seq.{take-all, take-add}
 use Rattle.octets.specs.Layouts.{fields, bytes, Bytes}
-use Rattle.octets.specs.Lists.{tab}
+use Rattle.octets.specs.Lists.{tab, Each}
 use Rattle.octets.specs.Numbers.{num, digits}
 use Rattle.octets.proofs.LayoutLaws.{bytes-fields}
 use Rattle.octets.proofs.NumberLaws.{num-lt, num-digits, digits-num}
@@ -18,7 +18,7 @@ use Rattle.book_members.specs.Members.{Row}
 use Rattle.book.specs.Books.{Contents}
 use Rattle.site_plan.specs.PlanBytes.{planWidths, planAt, planBytes}
 use Rattle.book_bytes.specs.BookBytes.{rowWidths, rowValues, rowFrom, rowAt, rowsBytes, bookIn, bookBytes}
-use Rattle.book_bytes.specs.Trips.{RowsFit, Sized, ReadsBack, WritesBack}
+use Rattle.book_bytes.specs.Trips.{RowFits, Sized, ReadsBack, WritesBack}
 use Rattle.octets.proofs.RunLaws.{run-read, run-kept}
 use Rattle.octets.proofs.ListLaws.{map-same}
 use Rattle.book_bytes.proofs.BookByteLaws.{rows-run, length-front, length-book}
@@ -38,7 +38,7 @@ module _ (b : Contents) (z : Sized b) where
   unfolding bookBytes rowAt
   rows-read =
       let front = planBytes (b .plan) ++ digits 4 (b .time) in
-      let read = run-read rows-run RowsFit (λ r rs h. h) rowFrom (rowAt (bookBytes b)) (b .places) front 13 (length-front b) (z .rows) (λ i. refl) in
+      let read = run-read rows-run (Each RowFits) (λ r rs h. h) rowFrom (rowAt (bookBytes b)) (b .places) front 13 (length-front b) (z .rows) (λ i. refl) in
       (rw (z .places) at read) ∙ map-same (λ r. rowFrom (rowValues r)) row-back (b .places)
 
   book-read : bookIn (bookBytes b) ≡ b

@@ -30,9 +30,9 @@ use Rattle.book.specs.Books.{Contents, rowsIn, rowsAt}
 use Rattle.book.proofs.WithinLaws.{RowsRuled, Within, within, rows-then}
 use Rattle.site_plan.specs.PlanBytes.{planWidths, planFrom, planAt, planBytes}
 use Rattle.book_image.specs.Forms.{headWidths, headValues, headBytes, formSize}
-use Rattle.book_image.specs.Images.{rowWidths, sections, rowsBytes, imageOf, planIn, rowIn, imageBook}
+use Rattle.book_image.specs.Images.{rowWidths, rowValues, sections, rowsBytes, imageOf, planIn, rowIn, imageBook}
 use Rattle.book_image.specs.Laws.{WrittenAgain, renewed, Sized, RestoredAs, Restored}
-use Rattle.book_image.proofs.ImageLaws.{rowValues, rows-run, length-head, length-front}
+use Rattle.book_image.proofs.ImageLaws.{rows-run, length-head, length-front}
 use Rattle.book_image.proofs.RenewedLaws.{ruled-renewed}
 use Rattle.book_image.proofs.AcceptedLaws.{fits-parts, parts-fit, rowsFrom, Good, rows-used, good, accepted}
 

@@ -7,6 +7,7 @@ use Prim.Native.Nat.{ℕ, _+_, _*_, _<_}
 use native.Mathlib.Omega.{arith}
 use lib.Dec.{eqb, ltb}
 use Rattle.octets.specs.Layouts.{total, Fit, Bytes}
+use Rattle.octets.proofs.EachLaws.{each-tab}
 use Rattle.octets.proofs.ListLaws.{length-tab}
 use Rattle.octets.proofs.NumberLaws.{num-lt}
 use Rattle.book_members.specs.Members.{emptyRow}
@@ -15,9 +16,9 @@ use Rattle.book_history.specs.Calls.{join, ask, heard, leave, schedule}
 use Rattle.book_history.proofs.SizeLaws.{keeps-size}
 use Rattle.site_plan.specs.PlanBytes.{planAt}
 use Rattle.book_bytes.specs.BookBytes.{rowWidths, rowValues}
-use Rattle.book_bytes.specs.Trips.{Sized}
+use Rattle.book_bytes.specs.Trips.{RowFits, Sized}
 use Rattle.site_plan.proofs.PlanByteLaws.{plan-fits}
-use Rattle.book_bytes.proofs.SizeLaws.{row-fits, empty-fits, tab-fits, either-sized, none-sized, fresh-sized}
+use Rattle.book_bytes.proofs.SizeLaws.{row-fits, empty-fits, either-sized, none-sized, fresh-sized}
 use Rattle.book_image.specs.Images as images
 use Rattle.book_image.specs.Images.{planPlace, rowsPlace, rowIn, restoreOf}
 use Rattle.book_history.specs.BookEvents.{begun, Event, call, image, timeOf, next}
@@ -41,7 +42,7 @@ restored-sized s time b t =
       places = length-tab 21 _;
       plan = plan-fits s planPlace b;
       time = t;
-      rows = tab-fits 21 _ (λ i. go i (ltb i (planAt s planPlace .rows)));
+      rows = each-tab RowFits 21 _ (λ i. go i (ltb i (planAt s planPlace .rows)));
     }
     )
   where

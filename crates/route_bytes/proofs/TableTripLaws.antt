@@ -11,7 +11,7 @@ use lib.Dec.{eqb, leb}
 use lib.ListN.{length, getD, take, drop}
 use lib.Seq.{take-all, take-add}
 use Rattle.octets.specs.Layouts.{fields, bytes, Bytes}
-use Rattle.octets.specs.Lists.{tab, every}
+use Rattle.octets.specs.Lists.{tab, every, Each}
 use Rattle.octets.specs.Numbers.{num}
 use Rattle.octets.proofs.LayoutLaws.{fields-bytes, bytes-fields}
 use Rattle.octets.proofs.ListLaws.{length-tab, getD-tab, every-at, map-same}
@@ -20,7 +20,7 @@ use Rattle.route_table.specs.declared.row.Row.{Row}
 use Rattle.route_table.specs.declared.table.Table.{Table}
 use Rattle.route_table.specs.Tables.{headOf}
 use Rattle.route_bytes.specs.TableBytes.{flag, rowWidths, rowValues, rowFrom, rowAt, rowsBytes, headWidths, headValues, tableFrom, tableIn, tableBytes, flagsOk, isTable}
-use Rattle.route_bytes.specs.TableTrips.{RowsFit, Sized, ReadsBack, WritesTables, WritesBack}
+use Rattle.route_bytes.specs.TableTrips.{RowFits, Sized, ReadsBack, WritesTables, WritesBack}
 use Rattle.route_bytes.proofs.TableByteLaws.{rows-run, length-head, length-table}
 
 -- ---- flags
@@ -63,7 +63,7 @@ module _ (t : Table) (z : Sized t) where
       → tab 48 f ≡ map (λ r. say (rowValues r)) (t .rows)
   unfolding tableBytes
   all-read say f e =
-      rw (z .places) at (run-read rows-run RowsFit (λ r rs h. h) say f (t .rows) (bytes headWidths (headValues (headOf t))) 11 (length-head (headOf t)) (z .fit) e)
+      rw (z .places) at (run-read rows-run (Each RowFits) (λ r rs h. h) say f (t .rows) (bytes headWidths (headValues (headOf t))) 11 (length-head (headOf t)) (z .fit) e)
 
 pub reads-back : ReadsBack
 unfolding tableIn rowAt

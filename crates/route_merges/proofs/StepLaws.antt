@@ -12,8 +12,9 @@ use lib.Dec.{eqb, ltb}
 use lib.ListN.{length, getD, take, drop, set, length-set, List·getD-eq-default}
 use mir.Val.{boolByte}
 use Rattle.octets.specs.Lists.{every}
+use Rattle.octets.proofs.OrderLaws.{put-every, put-length, put-ascending}
 use Rattle.route_table.specs.declared.row.Row.{Row}
-use Rattle.route_table.specs.Rows.{none, usable, withdrawnAt, ascending, pad, rowFor}
+use Rattle.route_table.specs.Rows.{leadingTo, none, usable, withdrawnAt, ascending, pad, rowFor}
 use Rattle.route_table.proofs.StandingLaws.{used}
 use Rattle.route_merges.specs.declared.candidate.Candidate.{Candidate}
 use Rattle.route_merges.specs.Candidates.{bad}
@@ -21,7 +22,6 @@ use Rattle.route_merges.specs.Learning.{put, rowBy, Learned, learned, me
 use Rattle.route_merges.specs.Searching.{goesOn, changes, stores, skips, made}
 use Rattle.route_merges.proofs.MoveLaws.{movedIn}
 use Rattle.route_merges.proofs.PadLaws.{pad-at, used-within, within-used, full, set-pad, moved-pad}
-use Rattle.route_merges.proofs.PutLaws.{put-every, put-length, put-ascending}
 use Rattle.route_merges.proofs.SearchLaws.{Searched, searched-on, stop-end, put-end, stop-same, set-same, put-higher, stop-higher}
 
 -- rows as a table has them: in use, ascending, at most 48
@@ -39,7 +39,7 @@ pub record Stored (d : ℕ) (new : Row) (after : Learned) (rows : List Row) (ski
 
 pub stored-sound : (d : ℕ) (new : Row) (after : Learned) (rows : List Row) (skipped : ℕ) → Sound rows → Stored d new after rows skipped → Sound (put new rows)
 stored-sound d new after rows skipped sound s =
-    record { inUse = put-every used new rows (s .isUsed) (sound .inUse); ascends = put-ascending new rows (sound .ascends); fits = s .fits }
+    record { inUse = put-every leadingTo used new rows (s .isUsed) (sound .inUse); ascends = put-ascending leadingTo new rows (sound .ascends); fits = s .fits }
 
 -- no row in use is for no unit
 pub zero-none : (rs : List Row) → every used rs ≡ true → rowFor 0 rs ≡ none
@@ -252,7 +252,7 @@ module _ (via time : ℕ) (c : Candidate) where
                 leads = target;
                 learns = new-learns q k ∙ rw (good, room);
                 isUsed = lt-ltb 0 (new .destination) (omega (arith, q, target));
-                fits = omega (arith, few, put-length new rows);
+                fits = omega (arith, few, put-length leadingTo new rows);
               },
               moved-pad rows at new (sound .inUse) (s .within) few ∙ ap pad (sym (room-put q k few new target)),
               rw (t, good, full rows (sound .inUse) (sound .fits), room),

@@ -1,12 +1,12 @@
 -- Tables that are within rule: one whose places are filled from rows that are, a fresh one, and that of an accepted forget.
 -- Assumes nothing.
 use mathlib.Core.Path.{_≡_, refl, _∙_}
-use mathlib.Core.Bool.{Bool, true, false, not, _&&_, _||_, cond, and-eq-true-iff}
+use mathlib.Core.Bool.{Bool, true, false, not, _&&_, _||_, cond}
 use mathlib.Core.List.{List, [], _∷_, map}
 use Prim.Native.Nat.{ℕ}
 use native.Mathlib.Omega.{arith}
 use borrow.Author.Tests.{not-false}
-use lib.Dec.{eqb, ltb}
+use lib.Dec.{eqb}
 use lib.ListN.{length-map}
 use Rattle.octets.specs.Answers.{reason}
 use Rattle.octets.specs.Lists.{every}
@@ -18,17 +18,8 @@ use Rattle.route_table.specs.declared.table.Table.{Table}
 use Rattle.route_table.specs.Rows.{usable, rowRule, withdrawnAt, forgotten, ascending, pad, standing}
 use Rattle.route_table.specs.Tables.{rowsOf, withinRule, freshOf, forgetOf}
 use Rattle.route_table.proofs.RuleLaws.{rule-later, rule-withdrawn, within-pad}
-use Rattle.route_table.proofs.StandingLaws.{ascending-without, standing-on, standing-ascending}
+use Rattle.route_table.proofs.StandingLaws.{standing-on, standing-ascending}
 use Rattle.route_table.proofs.TableLaws.{within, few-stand, forgettable}
-
--- ---- rows that ascend
--- every row behind the first is above it
-pub ascending-above : (r : Row) (rs : List Row) → ascending (r ∷ rs) ≡ true → every (λ s. ltb (r .destination) (s .destination)) rs ≡ true
-unfolding every
-ascending-above r [] e = refl
-ascending-above r (s ∷ rs) e =
-    let (a, f) = and-eq-true-iff (ltb (r .destination) (s .destination)) (ascending (s ∷ rs)) .0 e in
-    rw (a, ascending-above r rs (ascending-without r s rs e))
 
 -- ---- a row when a unit is forgotten: as it was, or withdrawn
 pub by-forgotten : (P : Row → Type 0) (unit time : ℕ) (r : Row) → P r → P (withdrawnAt time r) → P (forgotten unit time r)

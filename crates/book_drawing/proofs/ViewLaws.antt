@@ -8,6 +8,7 @@ use native.Mathlib.Omega.{arith}
 use lib.Seq.{sets, length-sets}
 use lib.ListN.{length, take, length-append, length-take}
 use Rattle.octets.proofs.ListLaws.{length-tab}
+use Rattle.octets.proofs.TestLaws.{of-choice}
 use Rattle.site_plan.specs.declared.plan.Plan.{Plan}
 use Rattle.site_plan.specs.Plans.{active, slots}
 use Rattle.site_plan.proofs.PlanLaws.{few-slots}
@@ -81,8 +82,4 @@ places s = length-tab 21 _
 
 pub view-fits : ViewFits
 unfolding viewOf
-view-fits s = go (acceptedImage s 0)
-  where
-    go : (t : Bool) → length (cond t (bookText (imageBook s 0)) refusedText) ≤ 2247
-    go true = text-short (imageBook s 0) (places s)
-    go false = omega arith
+view-fits s = of-choice (λ l. length l ≤ 2247) (acceptedImage s 0) {y = refusedText} (text-short (imageBook s 0) (places s)) (omega arith)

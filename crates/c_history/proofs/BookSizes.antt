@@ -10,6 +10,7 @@ use Rattle.octets.specs.Layouts.{total, Fit, Bytes}
 use Rattle.octets.proofs.EachLaws.{each-tab}
 use Rattle.octets.proofs.ListLaws.{length-tab}
 use Rattle.octets.proofs.NumberLaws.{num-lt}
+use Rattle.octets.proofs.TestLaws.{of-choice}
 use Rattle.book_members.specs.Members.{emptyRow}
 use Rattle.book.specs.Books.{Contents, noBook}
 use Rattle.book_history.specs.Calls.{join, ask, heard, leave, schedule}
@@ -28,11 +29,7 @@ use Rattle.c_history.specs.BookLaws.{SizedKept}
 -- ---- the start
 row-restored : (s : List ℕ) (time i : ℕ) → Bytes s → time < 0x100000000 → Fit rowWidths (rowValues (rowIn s time i))
 unfolding rowIn
-row-restored s time i b t = row-fits _ (rowIn s time i .slots) _ (num-lt s b 2 (rowsPlace + total images.rowWidths * i)) (go (eqb (rowIn s time i .unit) 0))
-  where
-    go : (b : Bool) → cond b 0 time < 0x100000000
-    go true = omega arith
-    go false = t
+row-restored s time i b t = row-fits _ (rowIn s time i .slots) _ (num-lt s b 2 (rowsPlace + total images.rowWidths * i)) (of-choice (λ n. n < 0x100000000) (eqb (rowIn s time i .unit) 0) (omega arith) t)
 
 restored-sized : (s : List ℕ) (time : ℕ) → Bytes s → time < 0x100000000 → Sized (restoreOf s time .book)
 unfolding restoreOf images.imageBook

@@ -14,10 +14,10 @@ use lib.Seq.{sets, sets-eq}
 use Rattle.octets.specs.Lists.{tab}
 use Rattle.octets.specs.declared.answers.Written.{Written}
 use Rattle.octets.specs.Told.{wrote}
-use Rattle.octets.proofs.AnswerLaws.{numbered, none-holds}
+use Rattle.octets.proofs.AnswerLaws.{none-holds}
 use Rattle.slot_sets.specs.Sets.{Slots}
 use Rattle.site_plan.specs.declared.plan.Plan.{Plan}
-use Rattle.site_plan.specs.Plans.{slotsIn, slots, sleepAt}
+use Rattle.site_plan.specs.Plans.{slots, sleepAt}
 use Rattle.site_plan.specs.Schedules.{sleep, kindOf}
 use Rattle.site_plan.proofs.PlanLaws.{kept}
 use Rattle.site_plan.proofs.RegionLaws.{kinds-by-region}
@@ -63,11 +63,6 @@ both-put p row hop own count awake held out last a o l =
     sym (ap (λ (i : ℕ). tab i f) n) ∙ same-behind awake (count - awake) f sleep (λ k h b. kinds-by-region p row hop own k .behind (omega (arith, a, h, b, n))) in
     rw (l, o, whole) (sym (sets-append (tab awake f) (replicate (count - awake) sleep) held 0 ∙ rw (length-tab awake f, zero-add)))
 
--- a superframe has at most 100 slots
-pub few-slots : (p : Plan) → slots p ≤ 100
-unfolding slotsIn
-few-slots p = omega arith
-
 -- a hop within rule is one of the plan's
 hop-below : (p : Plan) (unit hop : ℕ) → hopRule p unit hop ≡ true → hop ≤ p .«max_hops»
 hop-below p unit hop = go (eqb unit (p .manager))
@@ -86,10 +81,7 @@ pub record Schedulable (b : Contents) (unit hop time : ℕ) (live : Bool) (room 
 pub schedulable : (b : Contents) (unit hop time : ℕ) (live : Bool) (room : ℕ) → scheduleRefusal b unit hop time live room ≡ 0 → Schedulable b unit hop time live room
 schedulable b unit hop time live room e =
     let none =
-    none-holds (scheduleReasons b unit hop time live room) (
-      numbered _ 14 (λ z. omega arith),
-      (numbered _ 4 (λ z. omega arith), (numbered _ 8 (λ z. omega arith), (numbered _ 14 (λ z. omega arith), (numbered _ 13 (λ z. omega arith), (numbered _ 5 (λ z. omega arith), tt))))),
-    ) e in
+    none-holds (scheduleReasons b unit hop time live room) _ e in
     let ruled = not-false (withinRule b) (none .0) in
     let below = hop-below (b .plan) unit hop (not-false (hopRule (b .plan) unit hop) (none .1 .1 .1 .0)) in
     record {

@@ -11,7 +11,7 @@ use lib.Dec.{eqb, ltb}
 use lib.ListN.{length, getD, take, set}
 use lib.Seq.{getD-take}
 use Rattle.octets.specs.Answers.{first}
-use Rattle.octets.proofs.AnswerLaws.{numbered, none-holds}
+use Rattle.octets.proofs.AnswerLaws.{none-holds}
 use Rattle.slot_sets.specs.Sets.{Slots, slotsOf}
 use Rattle.slot_sets.proofs.MaskLaws.{mask-nothing}
 use Rattle.book_members.specs.declared.member.Member.{Member}
@@ -65,8 +65,7 @@ module _ (b : Book) (unit time : ℕ) (now : List Member) (e : rowsOf now ≡ cu
     found-true n found q z =
         let s = contents b in
         let none =
-        none-holds (memberReasons s unit time found)
-        (numbered _ 14 (λ y. omega arith), (numbered _ 4 (λ y. omega arith), (numbered _ 8 (λ y. omega arith), (numbered _ 13 (λ y. omega arith), tt)))) (sym q ∙ z) in
+        none-holds (memberReasons s unit time found) _ (sym q ∙ z) in
         not-false found (none .1 .1 .1 .0)
 
     -- the book with one row written, as the code leaves it

@@ -3,7 +3,7 @@
 use Prim.Native.Nat.{ℕ, _+_, _*_}
 use mathlib.Core.List.{List, [], _∷_, _++_}
 use lib.ListN.{getD}
-use Rattle.octets.specs.Layouts.{total, fields, bytes}
+use Rattle.octets.specs.Layouts.{total, fields, inTurn}
 use Rattle.octets.specs.Lists.{tab}
 use Rattle.octets.specs.Numbers.{num, digits}
 use Rattle.slot_sets.specs.Sets.{slotsOf, maskOf}
@@ -31,8 +31,7 @@ rowAt s i = rowFrom (fields rowWidths s (rowsAt + total rowWidths * i))
 
 -- the bytes of rows, one behind the other
 abbrev pub rowsBytes : List Row → List ℕ
-rowsBytes [] = []
-rowsBytes (r ∷ rs) = bytes rowWidths (rowValues r) ++ rowsBytes rs
+rowsBytes rs = inTurn rowWidths rowValues rs
 
 -- ---- a book
 -- how many bytes a book has: 307

@@ -18,11 +18,11 @@ use Rattle.slot_sets.specs.Sets.{Slots}
 use Rattle.site_plan.specs.declared.plan.Plan.{Plan}
 use Rattle.site_plan.specs.Plans.{active, slots}
 use Rattle.site_plan.specs.Schedules.{kindOf}
+use Rattle.site_plan.proofs.PlanLaws.{few-slots}
 use Rattle.book_members.specs.declared.member.Member.{Member}
 use Rattle.book_members.specs.Members.{Row, rowOf, rowsOf, vacantRow}
 use Rattle.book_members.proofs.RowLoopLaws.{nobody, row-and-rest, none-left}
 use Rattle.book.specs.Books.{Contents, rowsIn}
-use Rattle.book.proofs.ScheduleLaws.{few-slots}
 use Rattle.book_drawing.specs.Views.{slotsWord, activeWord, newline, letter, decimal, headLine, drawn, memberLine, memberLines, bookText}
 use Rattle.book_drawing.proofs.TextLaws.{Wrote, then-put}
 

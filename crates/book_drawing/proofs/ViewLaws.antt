@@ -5,17 +5,18 @@ use mathlib.Core.Bool.{Bool, true, false, not, cond}
 use mathlib.Core.List.{List, [], _∷_, _++_}
 use Prim.Native.Nat.{ℕ, suc, _+_, _*_, _≤_, min}
 use native.Mathlib.Omega.{arith}
-use lib.Dec.{ltb}
 use lib.Seq.{sets, length-sets}
 use lib.ListN.{length, take, length-append, length-take}
 use Rattle.octets.proofs.ListLaws.{length-tab}
+use Rattle.octets.proofs.TestLaws.{of-choice}
 use Rattle.site_plan.specs.declared.plan.Plan.{Plan}
 use Rattle.site_plan.specs.Plans.{active, slots}
+use Rattle.site_plan.proofs.PlanLaws.{few-slots}
 use Rattle.book_members.specs.Members.{Row, vacantRow}
 use Rattle.book.specs.Books.{Contents, BookChange, rowsIn}
-use Rattle.book.proofs.ScheduleLaws.{few-slots}
 use Rattle.book_image.specs.Images.{imageBook, acceptedImage, restoreOf}
-use Rattle.book_drawing.specs.Views.{decimal, headLine, memberLine, memberLines, bookText, refusedText, viewOf, ViewFits}
+use Rattle.book_drawing.specs.Views.{headLine, memberLine, memberLines, bookText, refusedText, viewOf, ViewFits}
+use Rattle.book_drawing.proofs.TextLaws.{decimal-short}
 
 module _ (s : List ℕ) (r : BookChange) (e : r ≡ restoreOf s 0) where
   number : r .refused ≡ cond (not (acceptedImage s 0)) 14 0
@@ -50,14 +51,6 @@ viewed out text held n e m =
     (e, m, inside, omega (arith, inside, length-take n held))
 
 -- ---- how long it can be
-decimal-short : (n : ℕ) → length (decimal n) ≤ 3
-decimal-short n = go (ltb n 10) (ltb n 100) _ _ _ (omega arith) (omega arith) (omega arith)
-  where
-    go : (small middle : Bool) (one two three : List ℕ) → length one ≤ 3 → length two ≤ 3 → length three ≤ 3 → length (cond small one (cond middle two three)) ≤ 3
-    go true middle one two three a b c = a
-    go false true one two three a b c = b
-    go false false one two three a b c = c
-
 both-short : (a b : List ℕ) (m n k : ℕ) → length a ≤ m → length b ≤ n → m + n ≤ k → length (a ++ b) ≤ k
 both-short a b m n k h l e = omega (arith, length-append a b, h, l, e)
 
@@ -89,8 +82,4 @@ places s = length-tab 21 _
 
 pub view-fits : ViewFits
 unfolding viewOf
-view-fits s = go (acceptedImage s 0)
-  where
-    go : (t : Bool) → length (cond t (bookText (imageBook s 0)) refusedText) ≤ 2247
-    go true = text-short (imageBook s 0) (places s)
-    go false = omega arith
+view-fits s = of-choice (λ l. length l ≤ 2247) (acceptedImage s 0) {y = refusedText} (text-short (imageBook s 0) (places s)) (omega arith)

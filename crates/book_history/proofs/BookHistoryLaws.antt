@@ -11,12 +11,13 @@ use lib.ListN.{length, drop}
 use Rattle.moments.specs.Moments.{inOrder}
 use Rattle.moments.proofs.ElapsedLaws as elapsed
 use Rattle.octets.specs.Addresses.{address}
+use Rattle.octets.proofs.AddressLaws.{address-some}
 use Rattle.slot_sets.specs.Sets.{Slots, count, noSlots}
 use Rattle.book_members.specs.Members.{Row, vacantRow, placeFor, free}
 use Rattle.book_members.proofs.RowLaws.{row}
 use Rattle.book_members.proofs.LookupLaws.{found-unit}
-use Rattle.book_members.proofs.RowSums.{weigh, one, tally}
-use Rattle.book_members.proofs.RowRuleLaws.{address-some, no-count, ruled-current}
+use Rattle.book_members.proofs.RowSums.{weigh, one, tally, every-many}
+use Rattle.book_members.proofs.RowRuleLaws.{no-count, ruled-current}
 use Rattle.book.specs.Books.{Contents, rowsAt, liveAt}
 use Rattle.book.proofs.WithinLaws.{RowsRuled, within}
 use Rattle.book_joins.specs.Responses.{slotsTold}
@@ -30,7 +31,7 @@ use Rattle.book_history.specs.BookLaws.{bookAfter, JoinsExactly, FullByA
 use Rattle.book_history.proofs.BookRuleLaws.{stays-within-rule, rows-many}
 use Rattle.book_history.proofs.SlotsAtLaws.{no-slots}
 use Rattle.book_history.proofs.KnownLaws.{live-slots, answers-tell}
-use Rattle.book_history.proofs.UnitSums.{sumTo, sum-same, sums, every-many, mine, units-sum, held-by}
+use Rattle.book_history.proofs.UnitSums.{sumTo, sum-same, sums, mine, units-sum, held-by}
 
 -- ---- joining
 pub joins-exactly : JoinsExactly

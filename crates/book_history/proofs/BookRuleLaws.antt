@@ -9,7 +9,7 @@ use borrow.Author.Tests.{eq-eqb, not-false}
 use lib.Dec.{eqb}
 use lib.ListN.{length, take, length-take}
 use Rattle.octets.specs.Answers.{reason, first}
-use Rattle.octets.proofs.AnswerLaws.{numbered, never-given, none-holds, unless-number}
+use Rattle.octets.proofs.AnswerLaws.{never-given, none-holds, unless-number}
 use Rattle.octets.specs.Lists.{every}
 use Rattle.octets.proofs.CallLaws.{after-accepted}
 use Rattle.octets.proofs.ListLaws.{length-tab, every-tab}
@@ -33,13 +33,13 @@ use Rattle.book_image.specs.Images.{sections, planIn, rowIn, imageBook, accepte
 use Rattle.book_image.proofs.AcceptedLaws.{rows-used, good}
 use Rattle.book_history.specs.BookEvents.{Start, fresh, restored, begun, Event, call, image, next, afterEvents, answer}
 use Rattle.book_history.specs.BookLaws.{StaysWithinRule, wrongHop, OnlyForHops, bookAfter}
-use Rattle.frame_kinds.proofs.FourteenLaws.{some-number, in-rule, read-never, only-so}
+use Rattle.frame_kinds.proofs.FourteenLaws.{some-number, read-never, only-so}
 
 -- ---- the rule
 restored-within : (s : List ℕ) (time : ℕ) → restoreOf s time .refused ≡ 0 → withinRule (restoreOf s time .book) ≡ true
 unfolding restoreOf acceptedImage
 restored-within s time z =
-    let good = not-false (acceptedImage s time) (none-holds (reason (not (acceptedImage s time)) 14 ∷ []) (numbered _ 14 (λ e. omega arith), tt) z .0) in
+    let good = not-false (acceptedImage s time) (none-holds (reason (not (acceptedImage s time)) 14 ∷ []) _ z .0) in
     ap withinRule (after-accepted _ noBook (imageBook s time) z) ∙ and-eq-true-iff (fits (sections (planIn s .rows)) s) (withinRule (imageBook s time)) .0 good .1
 
 pub begun-within : (start : Start) → begun start .refused ≡ 0 → withinRule (begun start .book) ≡ true
@@ -64,7 +64,7 @@ pub begun-new : (start : Start) → begun start .refused ≡ 0 → every (λ r. 
 unfolding freshOf restoreOf imageBook
 begun-new (fresh p time) z = rw (after-accepted _ noBook (freshBook p time) z) (fresh-new p time (p .rows))
 begun-new (restored s time) z =
-    let good-image = good s time (not-false (acceptedImage s time) (none-holds (reason (not (acceptedImage s time)) 14 ∷ []) (numbered _ 14 (λ e. omega arith), tt) z .0)) in
+    let good-image = good s time (not-false (acceptedImage s time) (none-holds (reason (not (acceptedImage s time)) 14 ∷ []) _ z .0)) in
     let test : Row → Bool = λ r. vacantRow r || eqb (r .time) time in
     rw (after-accepted _ noBook (imageBook s time) z, rows-used s time (good-image .plan)) (every-tab test (planIn s .rows) (rowIn s time) (λ i h. new-in s time i))
 
@@ -111,46 +111,24 @@ after-more b (e ∷ es) more = after-more (next b e) es more
 
 -- ---- 14
 module _ (b : Contents) (w : withinRule b ≡ true) where
-  within-reason : reason (not (withinRule b)) 14 .number ≡ 14 → reason (not (withinRule b)) 14 .holds ≡ false
-  within-reason = in-rule (withinRule b) w
-
   join-never : (s : List ℕ) (time : ℕ) (noRow short : Bool) → first (joinReasons b s time noRow short) ≡ 14 → ⊥
   join-never s time noRow short =
-      never-given 14 (joinReasons b s time noRow short) some-number (
-        within-reason,
-        (
-          read-never joinRequest s,
-          (numbered _ 6 (λ z. omega arith), (numbered _ 15 (λ z. omega arith), (numbered _ 8 (λ z. omega arith), (numbered _ 12 (λ z. omega arith), (numbered _ 5 (λ z. omega arith), tt))))),
-        ),
-      )
+      never-given 14 (joinReasons b s time noRow short) some-number (ap not w, (read-never joinRequest s, _))
 
   ask-never : (s : List ℕ) (time : ℕ) (live short : Bool) → first (askReasons b s time live short) ≡ 14 → ⊥
   ask-never s time live short =
-      never-given 14 (askReasons b s time live short) some-number (
-        within-reason,
-        (
-          read-never slotRequest s,
-          (numbered _ 6 (λ z. omega arith), (numbered _ 8 (λ z. omega arith), (numbered _ 13 (λ z. omega arith), (numbered _ 5 (λ z. omega arith), tt)))),
-        ),
-      )
+      never-given 14 (askReasons b s time live short) some-number (ap not w, (read-never slotRequest s, _))
 
   member-never : (unit time : ℕ) (found : Bool) → first (memberReasons b unit time found) ≡ 14 → ⊥
   member-never unit time found =
-      never-given 14 (memberReasons b unit time found) some-number
-      (within-reason, (numbered _ 4 (λ z. omega arith), (numbered _ 8 (λ z. omega arith), (numbered _ 13 (λ z. omega arith), tt))))
+      never-given 14 (memberReasons b unit time found) some-number (ap not w, _)
 
   schedule-never : (unit hop time : ℕ) (live : Bool) (room : ℕ) → hopRule (b .plan) unit hop ≡ true → scheduleRefusal b unit hop time live room ≡ 14 → ⊥
   schedule-never unit hop time live room h =
-      never-given 14 (scheduleReasons b unit hop time live room) some-number (
-        within-reason,
-        (
-          numbered _ 4 (λ z. omega arith),
-          (numbered _ 8 (λ z. omega arith), (in-rule (hopRule (b .plan) unit hop) h, (numbered _ 13 (λ z. omega arith), (numbered _ 5 (λ z. omega arith), tt)))),
-        ),
-      )
+      never-given 14 (scheduleReasons b unit hop time live room) some-number (ap not w, (_, (_, (ap not h, _))))
 
   image-never : (time room : ℕ) → first (imageReasons b time room) ≡ 14 → ⊥
-  image-never time room = never-given 14 (imageReasons b time room) some-number (within-reason, (numbered _ 8 (λ z. omega arith), (numbered _ 5 (λ z. omega arith), tt)))
+  image-never time room = never-given 14 (imageReasons b time room) some-number (ap not w, _)
 
   only-hops : (e : Event) → answer b e .refused ≡ 14 → wrongHop b e ≡ true
   unfolding joinOf askOf heardOf leaveOf scheduleOf imageWritten

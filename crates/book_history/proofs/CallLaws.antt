@@ -4,12 +4,11 @@ use mathlib.Core.Path.{_≡_, sym, _∙_}
 use mathlib.Core.Bool.{Bool, true, false}
 use mathlib.Core.List.{List}
 use Prim.Native.Nat.{ℕ}
-use native.Mathlib.Omega.{arith}
 use borrow.Author.Tests.{eqb-true, not-false}
 use lib.Dec.{ltb}
 use lib.ListN.{length}
 use Rattle.octets.specs.Answers.{first}
-use Rattle.octets.proofs.AnswerLaws.{numbered, refusing-numbered, none-holds, unless-number}
+use Rattle.octets.proofs.AnswerLaws.{refusing-numbered, none-holds, unless-number}
 use Rattle.moments.specs.Moments.{inOrder}
 use Rattle.frame_kinds.specs.Reading.{refusalAs}
 use Rattle.octets.specs.Addresses.{address}
@@ -33,8 +32,7 @@ pub record Allowed (b : Contents) (unit time : ℕ) : Type 0 where
 pub member-allowed : (b : Contents) (unit time : ℕ) (found : Bool) → first (memberReasons b unit time found) ≡ 0 → Allowed b unit time × (found ≡ true)
 member-allowed b unit time found e =
     let n =
-    none-holds (memberReasons b unit time found)
-    (numbered _ 14 (λ z. omega arith), (numbered _ 4 (λ z. omega arith), (numbered _ 8 (λ z. omega arith), (numbered _ 13 (λ z. omega arith), tt)))) e in
+    none-holds (memberReasons b unit time found) _ e in
     (record { book = not-false _ (n .0); of-unit = not-false _ (n .1 .0); order = not-false _ (n .1 .1 .0) }, not-false found (n .1 .1 .1 .0))
 
 -- what a unit that joins, and a member that asks, then holds
@@ -60,13 +58,7 @@ unfolding joinOf
 join-allowed b s time out e =
     let noRow = noRowFor b (joinIn s .node) time in
     let n =
-    none-holds (joinReasons b s time noRow (joinShort b s time out)) (
-      numbered _ 14 (λ z. omega arith),
-      (
-        refusing-numbered (refusalAs joinRequest s),
-        (numbered _ 6 (λ z. omega arith), (numbered _ 15 (λ z. omega arith), (numbered _ 8 (λ z. omega arith), (numbered _ 12 (λ z. omega arith), (numbered _ 5 (λ z. omega arith), tt))))),
-      ),
-    ) e in (
+    none-holds (joinReasons b s time noRow (joinShort b s time out)) (_, (refusing-numbered (refusalAs joinRequest s), _)) e in (
       record {
         book = not-false _ (n .0);
         of-unit = passed _ _ _ s (eqb-true (refusalAs joinRequest s) 0 (not-false _ (n .1 .0))) .kept;
@@ -82,13 +74,7 @@ unfolding askOf
 ask-allowed b s time out e =
     let live = liveAt b (askIn s .node) time in
     let n =
-    none-holds (askReasons b s time live (askShort b s time out)) (
-      numbered _ 14 (λ z. omega arith),
-      (
-        refusing-numbered (refusalAs slotRequest s),
-        (numbered _ 6 (λ z. omega arith), (numbered _ 8 (λ z. omega arith), (numbered _ 13 (λ z. omega arith), (numbered _ 5 (λ z. omega arith), tt)))),
-      ),
-    ) e in (
+    none-holds (askReasons b s time live (askShort b s time out)) (_, (refusing-numbered (refusalAs slotRequest s), _)) e in (
       record {
         book = not-false _ (n .0);
         of-unit = passed _ _ _ s (eqb-true (refusalAs slotRequest s) 0 (not-false _ (n .1 .0))) .kept;

@@ -9,11 +9,12 @@ use borrow.Author.Tests.{eq-eqb, ne-eqb, lt-ltb, ltb-true, not-false}
 use lib.Dec.{ltb}
 use lib.ListN.{take, drop, replicate}
 use Rattle.octets.specs.Answers.{reason}
-use Rattle.octets.proofs.AnswerLaws.{numbered, none-holds}
+use Rattle.octets.proofs.AnswerLaws.{none-holds}
 use Rattle.octets.specs.Lists.{every}
 use Rattle.octets.proofs.CallLaws.{after-accepted}
 use Rattle.moments.proofs.MomentLaws.{in-order-self}
 use Rattle.octets.specs.Addresses.{address}
+use Rattle.octets.proofs.AddressLaws.{address-some}
 use Rattle.slot_sets.specs.Sets.{count, Subset, firsts}
 use Rattle.slot_sets.proofs.SetLaws.{firsts-has}
 use Rattle.slot_sets.proofs.LowestLaws.{count-of-firsts}
@@ -23,7 +24,7 @@ use Rattle.site_plan.proofs.PlanLaws.{kept, rule-bounds}
 use Rattle.book_members.specs.Members.{Row, emptyRow, vacantRow}
 use Rattle.book_members.specs.Rules.{emptyIs, rowRule}
 use Rattle.book_members.proofs.RowSums.{weigh, one, ofUnit, owns}
-use Rattle.book_members.proofs.RowRuleLaws.{empty-is, no-count, member-rule, needs, rule-empty, Ruled, units-least, owners-least, address-some}
+use Rattle.book_members.proofs.RowRuleLaws.{empty-is, no-count, member-rule, needs, rule-empty, Ruled, units-least, owners-least}
 use Rattle.book.specs.Books.{withinRule, freshRow, noBook, freshBook, freshOf}
 use Rattle.book.proofs.WithinLaws.{by-parts}
 
@@ -79,7 +80,7 @@ fresh-ruled manager dataSlots time n unit h =
 module _ (p : Plan) (time : ℕ) where
   fresh-plan : freshOf p time .refused ≡ 0 → planRule p ≡ true
   unfolding freshOf
-  fresh-plan e = not-false (planRule p) (none-holds (reason (not (planRule p)) 14 ∷ []) (numbered _ 14 (λ z. omega arith), tt) e .0)
+  fresh-plan e = not-false (planRule p) (none-holds (reason (not (planRule p)) 14 ∷ []) _ e .0)
 
   pub fresh-within : freshOf p time .refused ≡ 0 → withinRule (freshOf p time .book) ≡ true
   unfolding freshOf

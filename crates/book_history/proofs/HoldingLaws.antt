@@ -10,13 +10,14 @@ use lib.ListN.{length, length-set}
 use lib.Seq.{getD-set-other}
 use Rattle.moments.specs.Moments.{inOrder}
 use Rattle.octets.specs.Addresses.{address}
+use Rattle.octets.proofs.AddressLaws.{address-some}
 use Rattle.slot_sets.specs.Sets.{Slots, Apart}
 use Rattle.slot_sets.proofs.SetLaws.{nothing-has, disjoint-is-apart}
 use Rattle.book_members.specs.Members.{Row, emptyRow, placeFor}
 use Rattle.book_members.proofs.RowLaws.{row, Steps, kept-either, kept-later, keptAt, length-current, live-before}
 use Rattle.book_members.proofs.RowSums.{owns, passes-there, only-one}
 use Rattle.book_members.proofs.LookupLaws.{found-unit, found-other, found-same}
-use Rattle.book_members.proofs.RowRuleLaws.{Seat, address-some, ruled-current}
+use Rattle.book_members.proofs.RowRuleLaws.{Seat, ruled-current}
 use Rattle.book_members.proofs.TimedLaws.{timed-rows}
 use Rattle.book.specs.Books.{Contents, rowsIn, rowsAt, liveAt, withRow}
 use Rattle.book_joins.specs.Joins.{askIn, askOf}

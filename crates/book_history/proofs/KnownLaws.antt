@@ -15,6 +15,7 @@ use Rattle.moments.specs.Moments.{ageAt, inOrder}
 use Rattle.moments.specs.Elapsed.{Clock, started, nowAt, moved, clockAfter}
 use Rattle.moments.proofs.MomentLaws.{in-order-self, not-in-order, ages-add}
 use Rattle.octets.specs.Addresses.{address}
+use Rattle.octets.proofs.AddressLaws.{address-some}
 use Rattle.slot_sets.specs.Sets.{Slots}
 use Rattle.site_plan.specs.declared.plan.Plan.{Plan}
 use Rattle.book_members.specs.Members.{Row, emptyRow, vacantRow, placeFor}
@@ -22,7 +23,7 @@ use Rattle.book_members.proofs.RowLaws.{row}
 use Rattle.book_members.proofs.RowSums.{weigh-set, one, tally, ofUnit}
 use Rattle.book_members.proofs.LookupLaws.{found-none, found-unit, found-there}
 use Rattle.book_members.proofs.PairLaws.{led-first}
-use Rattle.book_members.proofs.RowRuleLaws.{address-some, units-least}
+use Rattle.book_members.proofs.RowRuleLaws.{units-least}
 use Rattle.book.specs.Books.{Contents, withinRule, rowsIn, rowsAt, liveAt, heardOf, leaveOf}
 use Rattle.book.proofs.WithinLaws.{within}
 use Rattle.book_joins.specs.Responses.{slotsTold, toldIn}

@@ -1,12 +1,13 @@
 -- Every call keeps the rule and the plan, and one that is refused leaves the book as it was.
 -- Assumes nothing.
 use mathlib.Core.Path.{_≡_, refl, ap, _∙_}
-use mathlib.Core.Bool.{Bool, true, false, cond}
+use mathlib.Core.Bool.{true}
 use Prim.Native.Nat.{ℕ}
 use lib.Dec.{eqb}
 use lib.ListN.{length, length-set}
 use Rattle.octets.specs.Calls.{after}
 use Rattle.octets.proofs.CallLaws.{after-refused}
+use Rattle.octets.proofs.TestLaws.{of-choice}
 use Rattle.book_members.specs.Members.{Row, emptyRow, placeFor}
 use Rattle.book_members.proofs.RowLaws.{length-current}
 use Rattle.book_members.proofs.RowRuleLaws.{ruled-emptied}
@@ -49,11 +50,8 @@ abbrev SamePlan : Contents → Contents → Type 0
 SamePlan b new = (new .plan ≡ b .plan) × (length (new .places) ≡ length (b .places))
 
 written-plan : (b : Contents) (n time at : ℕ) (r : Row) → SamePlan b (after n b (withRow b time at r))
-written-plan b n time at r = go (eqb n 0)
-  where
-    go : (t : Bool) → SamePlan b (cond t (withRow b time at r) b)
-    go true = (refl, length-set (placesAt b time) at r ∙ length-current time (b .places))
-    go false = (refl, refl)
+written-plan b n time at r =
+    of-choice (SamePlan b) (eqb n 0) (refl, length-set (placesAt b time) at r ∙ length-current time (b .places)) (refl, refl)
 
 pub keeps-plan : KeepsPlan
 unfolding joinOf askOf heardOf leaveOf

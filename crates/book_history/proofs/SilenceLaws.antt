@@ -10,6 +10,7 @@ use borrow.Author.Tests.{eq-eqb, ne-eqb, ltb-true, lt-ltb, le-ltb}
 use lib.Dec.{eqb, leb, ltb}
 use lib.ListN.{length}
 use lib.Seq.{getD-set-same}
+use Rattle.octets.proofs.AddressLaws.{address-some}
 use Rattle.moments.specs.Moments.{ageAt}
 use Rattle.slot_sets.specs.Sets.{Slots}
 use Rattle.site_plan.specs.declared.plan.Plan.{Plan}
@@ -17,7 +18,7 @@ use Rattle.book_members.specs.Members.{Row, emptyRow, current, placeFor}
 use Rattle.book_members.proofs.RowLaws.{row, length-current, first-stays, others-kept, still, live-before}
 use Rattle.book_members.proofs.PairLaws.{led-first}
 use Rattle.book_members.proofs.LookupLaws.{found-unit, found-there, found-is}
-use Rattle.book_members.proofs.RowRuleLaws.{address-some, ruled-current}
+use Rattle.book_members.proofs.RowRuleLaws.{ruled-current}
 use Rattle.book_members.proofs.TimedLaws.{timed-rows}
 use Rattle.book.specs.Books.{Contents, withinRule, rowsIn, rowsAt, liveAt}
 use Rattle.book_history.specs.Calls.{Call, join, ask, heard, leave, schedule, timeOf, unitOf, next}

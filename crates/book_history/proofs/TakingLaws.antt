@@ -10,13 +10,14 @@ use lib.Dec.{eqb}
 use lib.ListN.{length, set, length-set}
 use lib.Seq.{getD-set-same}
 use Rattle.octets.proofs.CallLaws.{after-accepted}
+use Rattle.octets.proofs.AddressLaws.{address-some}
 use Rattle.moments.proofs.MomentLaws.{in-order-self}
 use Rattle.slot_sets.specs.Sets.{Slots}
 use Rattle.site_plan.proofs.PlanLaws.{kept}
 use Rattle.book_members.specs.Members.{Row, emptyRow, placeFor, vacant}
-use Rattle.book_members.proofs.RowLaws.{row}
+use Rattle.book_members.proofs.RowLaws.{row, kept-now}
 use Rattle.book_members.proofs.LookupLaws.{found-unit, found-set}
-use Rattle.book_members.proofs.RowRuleLaws.{Seat, Share, address-some, ruled-taken}
+use Rattle.book_members.proofs.RowRuleLaws.{Seat, Share, ruled-taken}
 use Rattle.book_members.proofs.SeatLaws.{live-seat, free-seat}
 use Rattle.book.specs.Books.{Contents, withinRule, rowsAt, liveAt, withRow, heardOf, leaveOf}
 use Rattle.book_joins.specs.Joins.{seat, seated, grantFor, asks, noRowFor, joinIn, joinOf, askIn, askOf}
@@ -24,7 +25,7 @@ use Rattle.book_history.specs.Calls.{Call, join, ask, heard, timeOf, uni
 use Rattle.book_history.specs.Laws.{holding}
 use Rattle.book_history.proofs.CallLaws.{Allowed, joinedSlots, askedSlots, member-allowed, join-allowed, ask-allowed}
 use Rattle.book.proofs.WithinLaws.{RowsRuled, Within, within, rows-then}
-use Rattle.book_history.proofs.WrittenLaws.{rowNow, kept-now, rows-at-written, within-written}
+use Rattle.book_history.proofs.WrittenLaws.{rowNow, rows-at-written, within-written}
 use Rattle.book_history.proofs.ShareLaws.{own-share, asks-share, granted-share}
 
 -- ---- the rows that an allowed call finds
@@ -124,7 +125,7 @@ module _ {b : Contents} {c : Call} {at : ℕ} {own : Slots 64} (t : Taken b c at
   row-taken = found-set unit (rowsAt b time) at (rowNow unit time own) refl (t .place .there) (t .place .first)
 
   now : rowsAt (next b c) time ≡ rowsTaken
-  now = ap (λ (new : Contents). rowsAt new time) (t .book) ∙ rows-at-written b time at (rowNow unit time own) (t .place .there) (kept-now unit time own)
+  now = ap (λ (new : Contents). rowsAt new time) (t .book) ∙ rows-at-written b time at (rowNow unit time own) (t .place .there) (kept-now time (rowNow unit time own) refl)
 
   pub taken-row : placeFor unit (rowsAt (next b c) time) ≡ at
   taken-row = ap (placeFor unit) now ∙ row-taken

@@ -1,14 +1,14 @@
 -- Rows weighed unit by unit: over all units up to one that no row's is above, they weigh what all the rows do, if free rows weigh nothing.
 -- Assumes nothing.
 use mathlib.Core.Path.{_≡_, refl, sym, ap, ap₂, _∙_}
-use mathlib.Core.Bool.{Bool, true, false, _&&_, cond, and-eq-true-iff}
+use mathlib.Core.Bool.{Bool, true, false, cond, and-eq-true-iff}
 use mathlib.Core.List.{List, [], _∷_}
 use Prim.Native.Nat.{ℕ, zero, suc, _+_, _≤_}
 use native.Mathlib.Decide.{ℕ-discrete}
 use native.Mathlib.Numerals.{one-add}
 use native.Mathlib.Omega.{arith}
 use borrow.Author.Tests.{eq-eqb, ne-eqb, eqb-true, leb-true, lt-ltb}
-use lib.Dec.{eqb, leb, ltb, leb·suc-suc, eqb·suc-suc}
+use lib.Dec.{leb, ltb, leb·suc-suc}
 use lib.ListN.{length}
 use Rattle.octets.specs.Lists.{every}
 use Rattle.octets.specs.Addresses.{address}
@@ -44,29 +44,6 @@ sum-none : (f : ℕ → ℕ) (n : ℕ) → ((u : ℕ) → 1 ≤ u → u ≤ n �
 unfolding sumTo
 sum-none f zero h = refl
 sum-none f (suc n) h = omega (arith, h (suc n) (omega arith) (omega arith), sum-none f n (λ u l m. h u l (omega arith)))
-
--- every row passes a test exactly if as many pass it as there are
-module _ (test : Row → Bool) where
-  tally-most : (rs : List Row) → tally test rs ≤ length rs
-  unfolding weigh
-  tally-most [] = omega arith
-  tally-most (r ∷ rs) = go (test r) (tally-most rs)
-    where
-      go : (b : Bool) → tally test rs ≤ length rs → cond b 1 0 + tally test rs ≤ suc (length rs)
-      go true ih = omega (arith, ih)
-      go false ih = omega (arith, ih)
-
-  every-tally : (rs : List Row) → every test rs ≡ eqb (tally test rs) (length rs)
-  unfolding every weigh
-  every-tally [] = refl
-  every-tally (r ∷ rs) = go (test r) (every-tally rs)
-    where
-      go : (b : Bool) → every test rs ≡ eqb (tally test rs) (length rs) → (b && every test rs) ≡ eqb (cond b 1 0 + tally test rs) (suc (length rs))
-      go true ih = rw one-add (ih ∙ sym (eqb·suc-suc (tally test rs) (length rs)))
-      go false ih = sym (ne-eqb (0 + tally test rs) (suc (length rs)) (λ z. omega (arith, z, tally-most rs)))
-
-  pub every-many : (rs : List Row) (m n : ℕ) → m ≡ tally test rs → length rs ≡ n → every test rs ≡ eqb m n
-  every-many rs m n p q = every-tally rs ∙ ap₂ eqb (sym p) q
 
 module _ (weight : Row → ℕ) where
   -- ---- the weight of one row, by its unit

@@ -7,7 +7,6 @@ use Prim.Native.Nat.{ℕ, zero, suc, _<_}
 use native.Mathlib.Omega.{arith}
 use lib.ListN.{length, set, length-take}
 use lib.Seq.{take-set-lt, drop-set-lt}
-use Rattle.moments.proofs.MomentLaws.{no-age}
 use Rattle.slot_sets.specs.Sets.{Slots}
 use Rattle.book_members.specs.Members.{Row, kept, current}
 use Rattle.book_members.specs.Rules.{emptyIs}
@@ -52,6 +51,3 @@ module _ (b : Contents) (time at : ℕ) (r : Row) (there : at < length (rowsAt b
 -- a unit's row of this time, which counts then
 abbrev pub rowNow : ℕ → ℕ → Slots 64 → Row
 rowNow unit time own = record { unit = unit; slots = own; time = time }
-
-pub kept-now : (unit time : ℕ) (own : Slots 64) → kept time (rowNow unit time own) ≡ rowNow unit time own
-kept-now unit time own = rw (no-age time)

@@ -12,6 +12,7 @@ use lib.ListN.{length, getD, drop}
 use Rattle.octets.specs.Layouts.{fields}
 use Rattle.octets.specs.Lists.{tab, every}
 use Rattle.octets.proofs.ListLaws.{length-tab, getD-tab, tab-same, take-tab, map-tab, every-at, every-tab, every-behind-tab}
+use Rattle.octets.proofs.AddressLaws.{address-some}
 use Rattle.moments.proofs.MomentLaws.{in-order-self}
 use Rattle.site_plan.specs.Plans.{planRule}
 use Rattle.site_plan.proofs.PlanLaws.{rule-bounds, kept}
@@ -19,7 +20,7 @@ use Rattle.slot_sets.specs.Sets.{count}
 use Rattle.book_members.specs.Members.{Row, emptyRow, free, vacant}
 use Rattle.book_members.specs.Rules.{emptyIs, rowRule, rowsRule, distinct}
 use Rattle.book_members.proofs.RowSums.{tally-distinct, tally-apart}
-use Rattle.book_members.proofs.RowRuleLaws.{address-some, member-rule, rule-either, rule-zeros, rule-empty, empty-is, Ruled, ruled, vacant-free}
+use Rattle.book_members.proofs.RowRuleLaws.{member-rule, rule-either, rule-zeros, rule-empty, empty-is, Ruled, ruled, vacant-free}
 use Rattle.book_members.proofs.PairLaws.{led-first, first-led, distinct-pairs, pairs-distinct, apart-pairs, pairs-apart}
 use Rattle.book.specs.Books.{rowsIn, withinRule}
 use Rattle.book.proofs.WithinLaws.{within, by-parts}

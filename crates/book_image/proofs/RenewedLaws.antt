@@ -4,10 +4,10 @@ use mathlib.Core.Path.{_≡_, refl}
 use mathlib.Core.Bool.{true, or-true}
 use mathlib.Core.List.{List, [], _∷_, map}
 use Prim.Native.Nat.{ℕ}
+use Rattle.octets.proofs.ListLaws.{every-map}
 use Rattle.moments.proofs.MomentLaws.{in-order-self}
 use Rattle.book_members.specs.Members.{Row}
 use Rattle.book_members.specs.Rules.{rowRule, ledBy}
-use Rattle.book_members.proofs.RowLaws.{every-map}
 use Rattle.book_members.proofs.RowSums.{weigh-map, one, ofUnit, owns}
 use Rattle.book_members.proofs.RowRuleLaws.{member-rule, rule-either, needs, empty-is, Ruled}
 use Rattle.book_image.specs.Laws.{renewed}

@@ -17,7 +17,6 @@ use Rattle.octets.proofs.ListLaws.{getD-tab, length-tab, tab-same, map-tab, eve
 use Rattle.octets.proofs.NumberLaws.{num-lt}
 use Rattle.octets.proofs.RunLaws.{run-length, run-read, run-kept}
 use Rattle.moments.specs.Moments.{inOrder}
-use Rattle.moments.proofs.MomentLaws.{no-age}
 use Rattle.slot_sets.specs.Sets.{slotsOf, maskOf}
 use Rattle.slot_sets.proofs.BitLaws.{set-of-mask}
 use Rattle.slot_sets.proofs.MaskLaws.{mask-back, set-back}
@@ -25,15 +24,15 @@ use Rattle.site_plan.specs.Plans.{planValues}
 use Rattle.site_plan.proofs.PlanLaws.{rule-bounds}
 use Rattle.book_members.specs.Members.{Row, emptyRow, vacantRow, kept, current}
 use Rattle.book_members.specs.Rules.{rowRule}
-use Rattle.book_members.proofs.RowLaws.{length-current, kept-empty}
+use Rattle.book_members.proofs.RowLaws.{length-current, kept-empty, kept-now}
 use Rattle.book_members.proofs.RowRuleLaws.{rule-zeros, rule-either}
 use Rattle.book.specs.Books.{Contents, rowsIn, rowsAt}
 use Rattle.book.proofs.WithinLaws.{RowsRuled, Within, within, rows-then}
 use Rattle.site_plan.specs.PlanBytes.{planWidths, planFrom, planAt, planBytes}
 use Rattle.book_image.specs.Forms.{headWidths, headValues, headBytes, formSize}
-use Rattle.book_image.specs.Images.{rowWidths, sections, rowsBytes, imageOf, planIn, rowIn, imageBook}
+use Rattle.book_image.specs.Images.{rowWidths, rowValues, sections, rowsBytes, imageOf, planIn, rowIn, imageBook}
 use Rattle.book_image.specs.Laws.{WrittenAgain, renewed, Sized, RestoredAs, Restored}
-use Rattle.book_image.proofs.ImageLaws.{rowValues, rows-run, length-head, length-front}
+use Rattle.book_image.proofs.ImageLaws.{rows-run, length-head, length-front}
 use Rattle.book_image.proofs.RenewedLaws.{ruled-renewed}
 use Rattle.book_image.proofs.AcceptedLaws.{fits-parts, parts-fit, rowsFrom, Good, rows-used, good, accepted}
 
@@ -45,9 +44,6 @@ current-tab time zero f h = refl
 current-tab time (suc n) f h =
     let rest : ℕ → Row = λ k. f (suc k) in
     ap (λ (rs : List Row). f 0 ∷ rs) (map-tab (kept time) n rest ∙ tab-same n (λ k. kept time (rest k)) rest (λ k l. h (suc k) (omega (arith, l))))
-
-kept-now : (time : ℕ) (r : Row) → r .time ≡ time → kept time r ≡ r
-kept-now time r e = rw (e, no-age time)
 
 time-in : (s : List ℕ) (time i : ℕ) → vacantRow (rowIn s time i) ≡ false → rowIn s time i .time ≡ time
 unfolding rowIn

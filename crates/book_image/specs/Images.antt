@@ -8,7 +8,7 @@ use lib.ListN.{length, getD}
 use lib.Seq.{sets}
 use Rattle.octets.specs.Answers.{Reason, accepted, reason, first, unless}
 use Rattle.octets.specs.Calls.{after}
-use Rattle.octets.specs.Layouts.{total, fields, bytes}
+use Rattle.octets.specs.Layouts.{total, fields, inTurn}
 use Rattle.octets.specs.Lists.{tab}
 use Rattle.octets.specs.Told.{Wrote}
 use Rattle.moments.specs.Moments.{inOrder}
@@ -36,9 +36,11 @@ abbrev pub rowsPlace : ℕ
 rowsPlace = planPlace + planSize
 
 -- ---- writing
+abbrev pub rowValues : Row → List ℕ
+rowValues r = r .unit ∷ maskOf (r .slots) ∷ []
+
 abbrev pub rowsBytes : List Row → List ℕ
-rowsBytes [] = []
-rowsBytes (r ∷ rs) = bytes rowWidths (r .unit ∷ maskOf (r .slots) ∷ []) ++ rowsBytes rs
+rowsBytes rs = inTurn rowWidths rowValues rs
 
 -- the image of a book at a time: only live members are written, an empty row is zeros
 unfoldable pub imageOf : Contents → ℕ → List ℕ

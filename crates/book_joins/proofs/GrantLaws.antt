@@ -33,11 +33,6 @@ row-within unit (r ∷ rs) = go (eqb (r .unit) unit) (row-within unit rs)
     go true h = omega arith
     go false h = omega arith
 
--- of two numbers that are within, so is the one that is chosen
-pub one-within : (t : Bool) (x y most : ℕ) → x ≤ most → y ≤ most → cond t x y ≤ most
-one-within true x y most h k = h
-one-within false x y most h k = k
-
 -- a holding that is brought to so many slots gets more, or keeps fewer
 module _ (to held : ℕ) (own spaces : Slots 64) (e : held ≡ count own) where
   pub grown : (more all : Slots 64) → held ≤ to → more ≡ lowest (to - held) spaces → all ≡ union own more → all ≡ brought to own spaces

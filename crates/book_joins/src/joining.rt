@@ -15,7 +15,6 @@ use crate::grants::wish;
 use crate::responses::bytes_for;
 use book::book::Book;
 use book_members::census::counted;
-use book_members::census::either;
 use book_members::rows::current;
 use book_members::rows::in_use;
 use frame_reading::refusals::join_request;
@@ -23,6 +22,7 @@ use frame_requests::join_request::JoinRequest;
 use moments::in_order;
 use octets::answers::Refusal;
 use octets::answers::refuse_if;
+use octets::choices::either_size;
 use slot_sets::masks::lowest;
 
 // A newcomer's slots: the lowest of the free ones, and no more than leave one for each other empty row.
@@ -74,7 +74,7 @@ pub fn join(book: Book, frame: &[u8], time: u32, out: &mut [u8]) -> Granted
     let found = census.own;
     let empty = census.vacant;
     let live = found < in_use(plan.rows);
-    let at = either(live, found, census.place);
+    let at = either_size(live, found, census.place);
     let held = slots_in(now, plan.rows, found);
     let own = seated(live, held, census.slots, empty, request.slots);
     let no_row = !live & (empty == 0);

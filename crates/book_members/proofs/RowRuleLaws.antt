@@ -9,17 +9,18 @@ use borrow.Author.Tests.{eq-eqb, ne-eqb, eqb-true, le-leb, leb-true}
 use lib.Dec.{eqb, leb}
 use lib.ListN.{length, set}
 use Rattle.octets.specs.Lists.{every}
-use Rattle.octets.proofs.ListLaws.{every-at}
+use Rattle.octets.proofs.ListLaws.{every-at, every-map}
 use Rattle.moments.specs.Moments.{ageAt, inOrder}
 use Rattle.moments.proofs.MomentLaws.{young-in-order}
 use Rattle.octets.specs.Addresses.{address}
+use Rattle.octets.proofs.AddressLaws.{address-some}
 use Rattle.slot_sets.specs.Sets.{Slots, has, count, isEmpty, Subset, noSlots, union, minus, disjoint, firsts}
 use Rattle.slot_sets.proofs.SetLaws.{nothing-has, empty-is-nothing, subset-by-minus, union-either, in-union, minus-both, meet-subset}
 use Rattle.slot_sets.proofs.CountLaws.{empty-by-count, count-of-union, count-of-minus}
 use Rattle.slot_sets.proofs.LowestLaws.{count-of-firsts}
 use Rattle.book_members.specs.Members.{Row, emptyRow, vacantRow, kept, current, placeFor, heldSlots, free, vacant, spare}
 use Rattle.book_members.specs.Rules.{emptyIs, rowRule, distinct, apart, ledBy, rowsRule}
-use Rattle.book_members.proofs.RowLaws.{row, every-map, every-current, every-set, kept-either}
+use Rattle.book_members.proofs.RowLaws.{row, every-current, every-set, kept-either}
 use Rattle.book_members.proofs.RowSums.{weigh, weigh-set, weigh-current, one, tally, ofUnit, owns, distinct-tally, tally-distinct, held-none, apart-tally, tally-apart}
 
 -- ---- one row
@@ -30,9 +31,6 @@ pub record MemberRow (manager dataSlots last : ℕ) (r : Row) : Type 0 where
   pub most : count (r .slots) ≤ 4
   pub inside : Subset (r .slots) (firsts dataSlots)
   pub past : (eqb (r .unit) manager || inOrder (r .time) last) ≡ true
-
-pub address-some : (unit : ℕ) → address unit ≡ true → unit ≡ 0 → ⊥
-address-some unit e z = omega (arith, leb-true 1 unit (and-eq-true-iff (leb 1 unit) (leb unit 0xFFFE) .0 e .0))
 
 pub no-count : count (noSlots {n = 64}) ≡ 0
 no-count = eqb-true (count (noSlots {n = 64})) 0 (sym (empty-by-count 64 noSlots) ∙ empty-is-nothing 64 noSlots .1 refl)

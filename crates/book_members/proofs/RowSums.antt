@@ -5,11 +5,13 @@ use mathlib.Core.Bool.{Bool, true, false, not, _&&_, _||_, cond, false≢true, a
 use mathlib.Core.List.{List, [], _∷_, map}
 use Prim.Native.Nat.{ℕ, zero, suc, _+_, _≤_, _<_}
 use native.Mathlib.Decide.{ℕ-discrete}
+use native.Mathlib.Numerals.{one-add}
 use native.Mathlib.Omega.{arith}
 use borrow.Author.Tests.{eq-eqb, ne-eqb, eqb-true, eqb-false, not-true, not-false}
-use lib.Dec.{eqb}
+use lib.Dec.{eqb, eqb·suc-suc}
 use lib.ListN.{length, set}
 use Rattle.octets.specs.Lists.{every}
+use Rattle.octets.proofs.TestLaws.{of-choice}
 use Rattle.slot_sets.specs.Sets.{has, Subset, disjoint}
 use Rattle.slot_sets.proofs.SetLaws.{union-has, nothing-has, disjoint-is-apart}
 use Rattle.book_members.specs.Members.{Row, emptyRow, vacantRow, kept, current, heldSlots, vacant}
@@ -100,6 +102,25 @@ module _ (test : Row → Bool) (r : Row) (rs : List Row) where
   pub alone-behind : tally test (r ∷ rs) ≤ 1 → tally test rs ≤ 1
   unfolding weigh
   alone-behind l = omega arith
+
+-- every row passes exactly if as many pass as there are
+module _ (test : Row → Bool) where
+  tally-most : (rs : List Row) → tally test rs ≤ length rs
+  unfolding weigh
+  tally-most [] = omega arith
+  tally-most (r ∷ rs) = omega (arith, tally-most rs, of-choice (λ n. n ≤ 1) (test r) {x = 1} {y = 0} (omega arith) (omega arith))
+
+  every-tally : (rs : List Row) → every test rs ≡ eqb (tally test rs) (length rs)
+  unfolding every weigh
+  every-tally [] = refl
+  every-tally (r ∷ rs) = go (test r) (every-tally rs)
+    where
+      go : (b : Bool) → every test rs ≡ eqb (tally test rs) (length rs) → (b && every test rs) ≡ eqb (cond b 1 0 + tally test rs) (suc (length rs))
+      go true ih = rw one-add (ih ∙ sym (eqb·suc-suc (tally test rs) (length rs)))
+      go false ih = sym (ne-eqb (0 + tally test rs) (suc (length rs)) (λ z. omega (arith, z, tally-most rs)))
+
+  pub every-many : (rs : List Row) (m n : ℕ) → m ≡ tally test rs → length rs ≡ n → every test rs ≡ eqb m n
+  every-many rs m n p q = every-tally rs ∙ ap₂ eqb (sym p) q
 
 -- where no empty row passes, the places that do are rows; and if at most one passes, they are one place
 module _ (test : Row → Bool) (empty : test emptyRow ≡ false) where

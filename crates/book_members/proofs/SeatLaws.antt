@@ -2,24 +2,20 @@
 -- Assumes nothing.
 use mathlib.Core.Path.{_≡_, sym, ap, _∙_}
 use mathlib.Core.Bool.{true, false, false≢true}
-use mathlib.Core.List.{List, [], _∷_}
+use mathlib.Core.List.{List}
 use Prim.Native.Nat.{ℕ, _≤_, _<_}
 use native.Mathlib.Omega.{arith}
-use borrow.Author.Tests.{eq-eqb, eqb-true, ltb-false}
+use borrow.Author.Tests.{eq-eqb, ltb-false}
 use lib.Dec.{ltb}
 use lib.ListN.{length}
 use Rattle.slot_sets.specs.Sets.{Apart, firsts}
 use Rattle.slot_sets.proofs.SetLaws.{minus-both}
 use Rattle.book_members.specs.Members.{Row, vacantRow, placeFor, heldSlots, free, vacant}
-use Rattle.book_members.specs.Rules.{ledBy}
 use Rattle.book_members.proofs.RowLaws.{row}
 use Rattle.book_members.proofs.RowSums.{one, ofUnit, vacant-tally, own-held}
 use Rattle.book_members.proofs.LookupLaws.{found-one, found-none, found-unit}
 use Rattle.book_members.proofs.RowRuleLaws.{Ruled, Seat}
-
-led-first : (manager : ℕ) (rs : List Row) → ledBy manager rs ≡ true → row rs 0 .unit ≡ manager
-led-first manager [] e = absurd (false≢true e)
-led-first manager (r ∷ rs) e = eqb-true (r .unit) manager e
+use Rattle.book_members.proofs.PairLaws.{led-first}
 
 -- what a row has is not free
 pub own-unfree : (dataSlots : ℕ) (rs : List Row) (at : ℕ) → at < length rs → Apart (row rs at .slots) (free dataSlots rs)

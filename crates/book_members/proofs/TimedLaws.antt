@@ -10,13 +10,14 @@ use native.Mathlib.Omega.{arith}
 use borrow.Author.Tests.{eqb-true}
 use lib.Dec.{eqb}
 use lib.ListN.{length, List·getD-eq-default}
+use Rattle.octets.proofs.AddressLaws.{address-some}
 use Rattle.moments.specs.Moments.{inOrder}
 use Rattle.book_members.specs.Members.{Row, emptyRow, vacantRow}
 use Rattle.book_members.specs.Rules.{rowRule}
 use Rattle.book_members.proofs.RowLaws.{row, Timed}
 use Rattle.book_members.proofs.LookupLaws.{found-is}
 use Rattle.book_members.proofs.PairLaws.{led-first}
-use Rattle.book_members.proofs.RowRuleLaws.{Ruled, MemberRow, address-some, rule-zeros, rule-member, rule-at}
+use Rattle.book_members.proofs.RowRuleLaws.{Ruled, MemberRow, rule-zeros, rule-member, rule-at}
 
 pub timed-rows : {manager dataSlots last : ℕ} {rs : List Row} → Ruled manager dataSlots last rs → (i : ℕ) → (i ≡ 0 → ⊥) → Timed last (row rs i)
 timed-rows {manager} {dataSlots} {last} {rs} g i z = there (decLt i (length rs))

@@ -13,22 +13,20 @@ use Rattle.octets.specs.Calls.{stored, writeLeft}
 use Rattle.octets.specs.declared.answers.Refusal.{Refusal}
 use Rattle.octets.specs.declared.answers.Written.{Written}
 use Rattle.octets.specs.Told.{Wrote, wrote}
-use Rattle.octets.proofs.AnswerLaws.{numbered, none-holds, unless-number}
-use Rattle.octets.proofs.CallLaws.{WrittenBack, written-back}
+use Rattle.octets.proofs.AnswerLaws.{none-holds, unless-number}
+use Rattle.octets.proofs.CallLaws.{WrittenBack, written-back, stored-number}
 use Rattle.octets.proofs.AnsweredLaws.{Answered, valued, said-value, answered, told-other, told-done, told-undone}
 use Rattle.site_plan.specs.Plans.{slots}
 use Rattle.book.specs.declared.book.Changed.{Changed}
 use Rattle.book.specs.Books.{Contents, contents, withinRule, BookChange, changeOf, liveAt}
 use Rattle.book.specs.Schedules.{scheduleRefusal, scheduleOf}
-use Rattle.site_plan.proofs.PlanLaws.{rule-bounds}
-use Rattle.book.proofs.ScheduleLaws.{few-slots}
+use Rattle.site_plan.proofs.PlanLaws.{rule-bounds, few-slots}
 use Rattle.book.proofs.WithinLaws.{within}
 use Rattle.book_image.specs.Forms.{formSize}
 use Rattle.book_image.specs.Images.{sections, imageReasons, imageWritten}
 use Rattle.site_plan.specs.PlanBytes.{planSize}
 use Rattle.book_bytes.specs.BookBytes.{bookSize, bookBytes}
 use Rattle.c_book.specs.BookCalls.{bookLeft, leaves, wroteTo}
-use Rattle.c_book.proofs.PlanCallLaws.{stored-number}
 
 -- ---- calls that change a book
 -- the facts are, in order, what `write_back` and `refuse_if` ensure
@@ -65,7 +63,7 @@ image-size b time out size held e =
     let reasons = imageReasons b time (length out) in
     let same = said-value (first reasons) (formSize (sections (b .plan .rows))) size (ap (λ (x : Wrote). x .said) e) in
     let none =
-    none-holds reasons (numbered _ 14 (λ z. omega arith), (numbered _ 8 (λ z. omega arith), (numbered _ 5 (λ z. omega arith), tt)))
+    none-holds reasons _
     (sym (unless-number (first reasons) _) ∙ sym (ap (λ (x : Wrote). x .said .refusal) e)) in
     omega (arith, same, rule-bounds (b .plan) (within b (not-false (withinRule b) (none .0)) .plan) .few-rows)
 

@@ -7,17 +7,19 @@ use Prim.Native.Nat.{ℕ, _+_, _*_, _<_}
 use native.Mathlib.Omega.{arith}
 use lib.Dec.{eqb, ltb}
 use Rattle.octets.specs.Layouts.{total, Fit, Bytes}
+use Rattle.octets.proofs.EachLaws.{each-tab}
 use Rattle.octets.proofs.ListLaws.{length-tab}
 use Rattle.octets.proofs.NumberLaws.{num-lt}
+use Rattle.octets.proofs.TestLaws.{of-choice}
 use Rattle.book_members.specs.Members.{emptyRow}
 use Rattle.book.specs.Books.{Contents, noBook}
 use Rattle.book_history.specs.Calls.{join, ask, heard, leave, schedule}
 use Rattle.book_history.proofs.SizeLaws.{keeps-size}
 use Rattle.site_plan.specs.PlanBytes.{planAt}
 use Rattle.book_bytes.specs.BookBytes.{rowWidths, rowValues}
-use Rattle.book_bytes.specs.Trips.{Sized}
+use Rattle.book_bytes.specs.Trips.{RowFits, Sized}
 use Rattle.site_plan.proofs.PlanByteLaws.{plan-fits}
-use Rattle.book_bytes.proofs.SizeLaws.{row-fits, empty-fits, tab-fits, either-sized, none-sized, fresh-sized}
+use Rattle.book_bytes.proofs.SizeLaws.{row-fits, empty-fits, either-sized, none-sized, fresh-sized}
 use Rattle.book_image.specs.Images as images
 use Rattle.book_image.specs.Images.{planPlace, rowsPlace, rowIn, restoreOf}
 use Rattle.book_history.specs.BookEvents.{begun, Event, call, image, timeOf, next}
@@ -27,11 +29,7 @@ use Rattle.c_history.specs.BookLaws.{SizedKept}
 -- ---- the start
 row-restored : (s : List ℕ) (time i : ℕ) → Bytes s → time < 0x100000000 → Fit rowWidths (rowValues (rowIn s time i))
 unfolding rowIn
-row-restored s time i b t = row-fits _ (rowIn s time i .slots) _ (num-lt s b 2 (rowsPlace + total images.rowWidths * i)) (go (eqb (rowIn s time i .unit) 0))
-  where
-    go : (b : Bool) → cond b 0 time < 0x100000000
-    go true = omega arith
-    go false = t
+row-restored s time i b t = row-fits _ (rowIn s time i .slots) _ (num-lt s b 2 (rowsPlace + total images.rowWidths * i)) (of-choice (λ n. n < 0x100000000) (eqb (rowIn s time i .unit) 0) (omega arith) t)
 
 restored-sized : (s : List ℕ) (time : ℕ) → Bytes s → time < 0x100000000 → Sized (restoreOf s time .book)
 unfolding restoreOf images.imageBook
@@ -41,7 +39,7 @@ restored-sized s time b t =
       places = length-tab 21 _;
       plan = plan-fits s planPlace b;
       time = t;
-      rows = tab-fits 21 _ (λ i. go i (ltb i (planAt s planPlace .rows)));
+      rows = each-tab RowFits 21 _ (λ i. go i (ltb i (planAt s planPlace .rows)));
     }
     )
   where

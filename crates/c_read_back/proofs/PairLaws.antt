@@ -15,7 +15,7 @@ use Rattle.octets.specs.Calls.{after, WriteLeft, writeLeft}
 use Rattle.octets.specs.Layouts.{Fit, Bytes}
 use Rattle.octets.specs.Numbers.{num}
 use Rattle.octets.specs.Told.{Wrote}
-use Rattle.octets.proofs.AnswerLaws.{unless-number, numbered, refusing-numbered, none-holds}
+use Rattle.octets.proofs.AnswerLaws.{unless-number, refusing-numbered, none-holds}
 use Rattle.octets.proofs.CallLaws.{after-accepted}
 use Rattle.octets.proofs.LayoutLaws.{length-fields}
 use Rattle.octets.proofs.StoreLaws.{take-sets}
@@ -47,7 +47,7 @@ module _ (s fields : List ℕ) (place extent : ℕ) (z : readCall s fields place
   unfolding showRefusal
   none =
       let n = readFrame s .refusal in
-      let k = none-holds (refusing n ∷ reason (ltb (length fields) (length (readFrame s .values))) 5 ∷ []) (refusing-numbered n, (numbered _ 5 (λ y. omega arith), tt)) accepts in
+      let k = none-holds (refusing n ∷ reason (ltb (length fields) (length (readFrame s .values))) 5 ∷ []) (refusing-numbered n, _) accepts in
       (eqb-true n 0 (not-false _ (k .0)), ltb-false (length fields) (length (readFrame s .values)) (k .1 .0))
 
   numbers-are : readCall s fields place extent .fields ≡ sets fields 0 (readFrame s .values)

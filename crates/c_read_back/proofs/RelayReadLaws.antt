@@ -14,6 +14,7 @@ use Rattle.octets.specs.Told.{Wrote}
 use Rattle.octets.proofs.CallLaws.{stored-none}
 use Rattle.frame_kinds.specs.Shape.{placeOf}
 use Rattle.octets.proofs.AnsweredLaws.{said-none}
+use Rattle.octets.proofs.AddressLaws.{address-some}
 use Rattle.frame_traffic.specs.Traffic.{dataKind}
 use Rattle.frames.proofs.KindLaws.{a-data}
 use Rattle.frames.proofs.TripLaws.{accepted-read}
@@ -23,7 +24,7 @@ use Rattle.route_table.specs.Rows.{rowFor, rowRule}
 use Rattle.route_table.specs.Tables.{rowsOf, leadsTo}
 use Rattle.route_table.proofs.LookupLaws.{lookup-leads}
 use Rattle.route_table.proofs.RuleLaws.{ruled}
-use Rattle.route_table.proofs.TableLaws.{within, address-some}
+use Rattle.route_table.proofs.TableLaws.{within}
 use Rattle.route_merges.proofs.LearnLaws.{row-for-every}
 use Rattle.route_relays.specs.Relays.{dataIn, forUs, copyOf, relayRefusal, relayOf}
 use Rattle.route_relays.proofs.RelayLaws.{read-destination, relayed-read, onward, onto}

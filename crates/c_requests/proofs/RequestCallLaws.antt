@@ -1,7 +1,6 @@
 -- The calls on a request to join and on one for slots, from what the core answers.
 -- Assumes nothing.
 use mathlib.Core.Path.{_≡_, ap, _∙_}
-use mathlib.Core.Bool.{Bool, true, false, cond}
 use mathlib.Core.List.{List}
 use Prim.Native.Nat.{ℕ, _≤_}
 use native.Mathlib.Omega.{arith}
@@ -10,12 +9,12 @@ use lib.Dec.{eqb}
 use lib.ListN.{length}
 use Rattle.octets.specs.Calls.{after}
 use Rattle.octets.proofs.CallLaws.{after-refused, WrittenBack, filled}
+use Rattle.octets.proofs.TestLaws.{of-choice}
 use Rattle.slot_sets.specs.Sets.{Slots}
 use Rattle.slot_sets.proofs.CountLaws.{count-fits}
 use Rattle.book.specs.Books.{Contents, contents}
 use Rattle.book_joins.specs.declared.grants.Granted.{Granted}
 use Rattle.book_joins.specs.Joins.{Answered, answeredBy, grants, joinOf, askOf}
-use Rattle.book_joins.specs.Responses.{responses}
 use Rattle.book_joins.proofs.ResponseLaws.{length-responses}
 use Rattle.book_bytes.specs.BookBytes.{bookSize, bookBytes}
 use Rattle.c_requests.specs.RequestCalls.{requestLeft, answeredTo}
@@ -26,11 +25,11 @@ pub record Short (out : List ℕ) (a : Answered) : Type 0 where
   pub written : a .written ≤ 845
 
 grants-short : (refused : ℕ) (b : Contents) (unit time at : ℕ) (own : Slots 64) (out : List ℕ) → Short out (grants refused b unit time at own out)
-grants-short refused b unit time at own out = record { kept = λ z. after-refused refused out _ z; written = go (eqb refused 0) }
-  where
-    go : (t : Bool) → cond t (length (responses (b .plan) unit time at own)) 0 ≤ 845
-    go true = omega (arith, length-responses (b .plan) unit time at own, count-fits 64 own)
-    go false = omega arith
+grants-short refused b unit time at own out =
+    record {
+      kept = λ z. after-refused refused out _ z;
+      written = of-choice (λ n. n ≤ 845) (eqb refused 0) (omega (arith, length-responses (b .plan) unit time at own, count-fits 64 own)) (omega arith);
+    }
 
 module _ (b : Contents) (frame : List ℕ) (time : ℕ) (out : List ℕ) where
   pub join-short : Short out (joinOf b frame time out)

@@ -11,13 +11,13 @@ use lib.ListN.{length}
 use Rattle.octets.specs.Answers.{Said}
 use Rattle.octets.specs.Calls.{stored}
 use Rattle.octets.specs.declared.answers.Refusal.{Refusal}
-use Rattle.octets.proofs.CallLaws.{after-refused, stored-none}
+use Rattle.octets.proofs.CallLaws.{after-refused, stored-none, stored-number}
 use Rattle.route_table.specs.declared.table.Changed.{Changed}
 use Rattle.route_table.specs.declared.table.Found.{Found}
 use Rattle.route_table.specs.declared.table.Head.{Head}
 use Rattle.route_table.specs.declared.table.Hop.{Hop}
 use Rattle.route_table.specs.declared.table.Table.{Table}
-use Rattle.route_table.specs.Rows.{inUse, pad, rowFor}
+use Rattle.route_table.specs.Rows.{pad, rowFor}
 use Rattle.route_table.specs.Tables.{rowsOf, headOf, tableOf, lookupRefusal, freshOf, lookupOf}
 use Rattle.route_table.specs.Told.{toldFound}
 use Rattle.route_bytes.specs.StoredTables.{tableLeft}
@@ -64,11 +64,7 @@ module _ (s : List ℕ) (destination time nextHop hops : ℕ) (found : Found) (e
 -- ---- a fresh table
 module _ (s : List ℕ) (own time : ℕ) (fresh : Changed) (e : fresh ≡ freshOf own time) (n : ℕ) (f : n ≡ cond (not (eqb (length s) 539)) 14 (fresh .refused)) where
   status : n ≡ stored 539 s (freshOf own time .refused)
-  status = f ∙ (rw e (go (eqb (length s) 539)))
-    where
-      go : (b : Bool) → cond (not b) 14 (freshOf own time .refused) ≡ cond b (freshOf own time .refused) 14
-      go true = refl
-      go false = refl
+  status = f ∙ rw e (stored-number 539 s (freshOf own time .refused))
 
   pub fresh-refused : (n ≡ 0 → ⊥) → tableLeft n s ≡ freshCall s own time
   unfolding freshCall

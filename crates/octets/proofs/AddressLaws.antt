@@ -14,6 +14,9 @@ address-least n e =
     let h = leb-true 1 n (and-eq-true-iff (leb 1 n) (leb n 0xFFFE) .0 e .0) in
     omega (arith, h)
 
+pub address-some : (n : ℕ) → address n ≡ true → n ≡ 0 → ⊥
+address-some n e z = omega (arith, address-least n e)
+
 pub address-fits : (n : ℕ) → address n ≡ true → n < 0x10000
 address-fits n e =
     let h = leb-true n 0xFFFE (and-eq-true-iff (leb 1 n) (leb n 0xFFFE) .0 e .1) in

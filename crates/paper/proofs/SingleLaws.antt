@@ -6,7 +6,7 @@ use Prim.Native.Nat.{ℕ}
 use Rattle.octets.specs.Answers.{Said, OneToOne}
 use Rattle.octets.specs.Told.{Wrote, toldWritten}
 use Rattle.slot_sets.specs.Sets.{slotsOf, maskOf}
-use Rattle.slot_sets.proofs.BitLaws.{mask-of-set}
+use Rattle.slot_sets.proofs.MaskLaws.{mask-back}
 use Rattle.frame_traffic.specs.Traffic.{dataFrom, updateFrom}
 use Rattle.frame_requests.specs.Requests.{joinRequestFrom, joinResponseFrom, slotRequestFrom, discoveryRequestFrom, discoveryResponseFrom}
 use Rattle.frame_beacons.specs.Beacons.{beaconFrom}
@@ -43,10 +43,6 @@ with-buffer {A} said one a a′ p p′ e =
     (ap {B = Said × List ℕ} (λ (w : Wrote). (w .said, w .held)) e)
 
 -- ---- masks
-mask-back : (m : ℕ) → mask m → maskOf (slotsOf m) ≡ m
-unfolding slotsOf
-mask-back m p = mask-of-set 64 m p
-
 rowBack : Row → Member
 rowBack r = record { unit = r .unit; slots = maskOf (r .slots); time = r .time }
 

@@ -10,7 +10,7 @@ use lib.Dec.{eqb, leb, ltb}
 use lib.ListN.{length}
 use lib.Seq.{sets}
 use Rattle.octets.specs.Answers.{Reason, reason, refusing, first}
-use Rattle.octets.proofs.AnswerLaws.{Numbered, numbered, refusing-numbered, none-holds}
+use Rattle.octets.proofs.AnswerLaws.{Numbered, refusing-numbered, none-holds}
 use Rattle.moments.specs.Moments.{inOrder}
 use Rattle.frame_kinds.specs.Reading.{refusalAs}
 use Rattle.octets.specs.Addresses as rules
@@ -70,7 +70,7 @@ module _ (t : Table) (network : ℕ) (s : List ℕ) (delay time room : ℕ) wher
   onward e =
       let n = refusalAs beacon s in
       let none = none-holds reasons
-      (numbered _ 14 (λ z. omega arith), (refusing-numbered n, (numbered _ 4 (λ z. omega arith), (numbered _ 6 (λ z. omega arith), (numbered _ 15 (λ z. omega arith), (numbered _ 8 (λ z. omega arith), (numbered _ 11 (λ z. omega arith), (numbered _ 16 (λ z. omega arith), (numbered _ 4 (λ z. omega arith), (numbered _ 5 (λ z. omega arith), tt)))))))))) e in
+      (_, (refusing-numbered n, _)) e in
       let found = lookupOf t (p .«original_source») time in
       let ours = not-false (toForward (headOf t) found p) (none .1 .1 .1 .1 .1 .1 .1 .0) in
       let (near, fresh) = and-eq-true-iff (eqb (ownHop found) (p .hop + 1) && ltb (p .hop) (p .«max_hops»)) (not (again (headOf t) p)) .0 ours in
@@ -131,7 +131,7 @@ module _ (t : Table) (network : ℕ) (s : List ℕ) (delay time room before behi
   last-reason = first-behind own (refusing behind ∷ []) (reason (ltb room 34) 5 ∷ []) (λ n. first-refusing behind ∙ r)
 
   front-numbered : Numbered front
-  front-numbered = (refusing-numbered (refusalAs beacon s), (numbered _ 4 (λ z. omega arith), tt))
+  front-numbered = (refusing-numbered (refusalAs beacon s), _)
 
   forward-number : first (passReasons t before network p delay time behind) ≡ forwardRefusal t network s delay time room
   unfolding forwardRefusal

@@ -9,6 +9,7 @@ use native.Mathlib.Omega.{arith}
 use borrow.Author.Tests.{eq-eqb, le-leb, leb-true, not-true}
 use lib.Dec.{eqb, leb}
 use Rattle.octets.specs.Lists.{every}
+use Rattle.octets.proofs.AddressLaws.{address-some}
 use Rattle.moments.specs.Elapsed.{nowAt}
 use Rattle.moments.specs.Moments.{ageAt, inOrder}
 use Rattle.moments.proofs.MomentLaws.{ages-add}
@@ -18,7 +19,7 @@ use Rattle.route_table.specs.Rows.{rowRule, forgotten}
 use Rattle.route_table.specs.Tables.{rowsOf}
 use Rattle.route_table.proofs.KeepLaws.{by-forgotten}
 use Rattle.route_table.proofs.RuleLaws.{ruled}
-use Rattle.route_table.proofs.TableLaws.{within, address-some}
+use Rattle.route_table.proofs.TableLaws.{within}
 use Rattle.route_merges.specs.declared.candidate.Candidate.{Candidate}
 use Rattle.route_merges.specs.Learning.{rowBy}
 use Rattle.route_merges.proofs.LearnLaws.{Kept, row-for-every}

@@ -1,16 +1,13 @@
 -- What a lookup that is accepted rests on, and a relay that passes a frame on.
 -- Assumes nothing.
-use mathlib.Core.Path.{_≡_, sym, ap, _∙_}
+use mathlib.Core.Path.{_≡_, sym, _∙_}
 use mathlib.Core.Bool.{true, and-eq-true-iff}
-use mathlib.Core.List.{List, [], _∷_}
+use mathlib.Core.List.{[], _∷_}
 use Prim.Native.Nat.{ℕ}
-use native.Mathlib.Decide.{ℕ-discrete}
-use native.Mathlib.Omega.{arith}
 use borrow.Author.Tests.{eqb-true, not-false}
 use lib.Dec.{eqb}
-use lib.ListN.{length}
-use Rattle.octets.specs.Answers.{Said, accepted, first, unless}
-use Rattle.octets.proofs.AnswerLaws.{unless-none, unless-some, unless-number, numbered, none-holds}
+use Rattle.octets.specs.Answers.{accepted, first}
+use Rattle.octets.proofs.AnswerLaws.{unless-none, unless-number, none-holds}
 use Rattle.moments.specs.Moments.{inOrder}
 use Rattle.octets.specs.Addresses.{address}
 use Rattle.route_table.specs.declared.row.Row.{Row}
@@ -36,7 +33,7 @@ found t d time e =
     let r = answering t d in
     let reasons = lookupReasons t d time in
     let z : first reasons ≡ 0 = sym (unless-number (first reasons) (r .«next_hop» ∷ r .hops ∷ [])) ∙ e in
-    let n = none-holds reasons (numbered _ 14 (λ q. omega arith), (numbered _ 4 (λ q. omega arith), (numbered _ 8 (λ q. omega arith), (numbered _ 11 (λ q. omega arith), tt)))) z in
+    let n = none-holds reasons _ z in
     let (same, carries) = and-eq-true-iff (eqb (r .destination) d) (usable time r) .0 (not-false _ (n .1 .1 .1 .0)) in
     record {
       within = not-false (withinRule t) (n .0);
@@ -46,13 +43,3 @@ found t d time e =
       carries = carries;
       said = unless-none (first reasons) (accepted (r .«next_hop» ∷ r .hops ∷ [])) z;
     }
-
--- what has values is accepted
-pub with-values : (n v : ℕ) (vs : List ℕ) (said : Said) → unless n said ≡ accepted (v ∷ vs) → n ≡ 0
-with-values n v vs said e = go (ℕ-discrete n 0)
-  where
-    go : Dec (n ≡ 0) → n ≡ 0
-    go (yes z) = z
-    go (no z) =
-        let l : _≡_ {A = ℕ} 0 (length (v ∷ vs)) = ap (λ (x : Said). length (x .values)) (sym (unless-some n said z) ∙ e) in
-        absurd (omega arith)

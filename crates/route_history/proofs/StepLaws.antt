@@ -12,7 +12,7 @@ use lib.ListN.{length}
 use Rattle.octets.specs.Answers.{accepted, unless}
 use Rattle.octets.specs.Lists.{every}
 use Rattle.octets.proofs.AnswerLaws.{unless-number}
-use Rattle.octets.proofs.ListLaws.{every-on, every-both}
+use Rattle.octets.proofs.ListLaws.{every-on, every-both, every-map}
 use Rattle.octets.proofs.EachLaws.{each-all}
 use Rattle.moments.specs.Elapsed.{Clock, nowAt, moved}
 use Rattle.moments.specs.Moments.{ageAt, inOrder}
@@ -22,7 +22,7 @@ use Rattle.route_table.specs.declared.row.Row.{Row}
 use Rattle.route_table.specs.declared.table.Table.{Table}
 use Rattle.route_table.specs.Rows.{rowRule, forgotten, inUse, pad, standing}
 use Rattle.route_table.specs.Tables.{rowsOf, withinRule, freshOf, forgetOf}
-use Rattle.route_table.proofs.KeepLaws.{every-map, standing-rules, forgotten-rules, fresh-within, forget-within}
+use Rattle.route_table.proofs.KeepLaws.{standing-rules, forgotten-rules, fresh-within, forget-within}
 use Rattle.route_table.proofs.RuleLaws.{ruled, rows-of-pad}
 use Rattle.route_table.proofs.StandingLaws.{standing-every}
 use Rattle.route_table.proofs.TableLaws.{within, forgettable}

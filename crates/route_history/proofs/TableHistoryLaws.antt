@@ -11,7 +11,8 @@ use lib.Dec.{eqb}
 use lib.ListN.{length, getD}
 use Rattle.octets.specs.Answers.{Said, accepted, first, unless}
 use Rattle.octets.specs.Told.{Wrote}
-use Rattle.octets.proofs.AnswerLaws.{unless-number, numbered, refusing-numbered, none-holds}
+use Rattle.octets.proofs.AnswerLaws.{unless-number, refusing-numbered, none-holds}
+use Rattle.octets.proofs.AnsweredLaws.{said-none}
 use Rattle.frame_kinds.specs.Reading.{refusalAs}
 use Rattle.frame_traffic.specs.Traffic.{dataKind}
 use Rattle.route_table.specs.declared.table.Table.{Table}
@@ -28,7 +29,7 @@ use Rattle.route_forwards.proofs.ForwardLaws.{forward-within}
 use Rattle.route_history.specs.TableCalls.{Call, merge, forget, forward, lookup, relay, page, next, answers, newTable, answer, Past, afterCalls, fresh}
 use Rattle.route_history.specs.TableLaws.{AnswersHeard, Freshness, Accounts, FreshnessFrom, KeepsRule, RefusedKeeps, StaysWithinRule, GoneRowsDoNotMatter}
 use Rattle.route_history.proofs.FreshLaws.{heard}
-use Rattle.route_history.proofs.LookupLaws.{answering, Found, found, with-values}
+use Rattle.route_history.proofs.LookupLaws.{answering, Found, found}
 use Rattle.route_history.proofs.StepLaws.{good-after, good-fresh, merge-kept, forget-kept, forward-kept}
 
 -- ---- a relay that is not refused
@@ -40,13 +41,7 @@ relayable : (t : Table) (s : List ℕ) (time room : ℕ) → relayRefusal t s ti
 unfolding relayRefusal
 relayable t s time room e =
     let n =
-    none-holds (relayReasons t s time room) (
-      numbered _ 14 (λ q. omega arith),
-      (
-        refusing-numbered (refusalAs dataKind s),
-        (numbered _ 6 (λ q. omega arith), (numbered _ 8 (λ q. omega arith), (numbered _ 10 (λ q. omega arith), (numbered _ 11 (λ q. omega arith), (numbered _ 5 (λ q. omega arith), tt))))),
-      ),
-    ) e in
+    none-holds (relayReasons t s time room) (_, (refusing-numbered (refusalAs dataKind s), _)) e in
     record { within = not-false (withinRule t) (n .0); way = n .1 .1 .1 .1 .1 .0 }
 
 -- a relay that answers a next hop looked it up
@@ -56,7 +51,7 @@ module _ (t : Table) (s : List ℕ) (time : ℕ) (out : List ℕ) (hop more : �
 
   unrefused : relayRefusal t s time (length out) ≡ 0
   unfolding relayOf
-  unrefused = with-values _ hop (more ∷ []) _ e
+  unrefused = said-none _ _ (ap (λ (x : Said). x .refusal) e) .0
 
   onward : (us : Bool) → forUs t s ≡ us → Found t d time × (answering t d .«next_hop» ≡ hop)
   unfolding relayOf
@@ -100,7 +95,7 @@ unfolding pageOf
 paged t p time out e =
     let reasons = pageReasons t p time (length out) in
     let z : first reasons ≡ 0 = sym (unless-number (first reasons) (length (pageFrame t p time) ∷ [])) ∙ e in
-    not-false (withinRule t) (none-holds reasons (numbered _ 14 (λ q. omega arith), (numbered _ 8 (λ q. omega arith), (numbered _ 14 (λ q. omega arith), (numbered _ 5 (λ q. omega arith), tt)))) z .0)
+    not-false (withinRule t) (none-holds reasons _ z .0)
 
 -- the number of a relay
 pub relay-number : (t : Table) (s : List ℕ) (time : ℕ) (out : List ℕ) → relayOf t s time out .said .refusal ≡ relayRefusal t s time (length out)

@@ -10,7 +10,7 @@ use lib.Dec.{eqb}
 use lib.ListN.{length}
 use Rattle.octets.specs.Answers.{first}
 use Rattle.octets.specs.Lists.{every}
-use Rattle.octets.proofs.AnswerLaws.{numbered, refusing-numbered, none-holds}
+use Rattle.octets.proofs.AnswerLaws.{refusing-numbered, none-holds}
 use Rattle.moments.specs.Moments.{inOrder}
 use Rattle.frame_kinds.specs.Reading.{refusalAs}
 use Rattle.octets.specs.Addresses.{address}
@@ -49,7 +49,7 @@ unfolding mergeRefusal
 mergeable t s quality time e =
     let n =
     none-holds (mergeReasons t s quality time)
-    (numbered _ 14 (λ z. omega arith), (refusing-numbered (refusalAs update s), (numbered _ 6 (λ z. omega arith), (numbered _ 8 (λ z. omega arith), (numbered _ 9 (λ z. omega arith), tt))))) e in
+    (_, (refusing-numbered (refusalAs update s), _)) e in
     let others = n .1 .1 in
     let p = passed (update .code) (lengthOf update (update .extent (valuesIn update s))) (update .rule (valuesIn update s) (partIn update s)) s (eqb-true (refusalAs update s) 0 (not-false (eqb (refusalAs update s) 0) (n .1 .0))) in
     let (origin, entries) = and-eq-true-iff (address (updateIn s .origin)) (every entryRule (entriesOf (updateIn s .count) (partIn update s))) .0 (p .kept) in

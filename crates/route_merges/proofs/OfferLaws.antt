@@ -10,6 +10,7 @@ use borrow.Author.Tests.{ne-eqb, lt-ltb}
 use lib.ListN.{getD}
 use Rattle.octets.specs.Lists.{tab, every}
 use Rattle.octets.proofs.ListLaws.{length-tab, getD-tab, every-at, every-tab}
+use Rattle.octets.proofs.TestLaws.{of-choice}
 use Rattle.frame_traffic.specs.declared.entry.Entry.{Entry}
 use Rattle.frame_traffic.specs.Traffic.{entryRule, entryAt, entriesOf}
 use Rattle.route_table.specs.Rows.{none, usable}
@@ -28,11 +29,7 @@ fair-for c h = rw (lt-ltb 0 (c .destination) h) (or-true (bad c))
 
 module _ (own origin quality : ℕ) where
   offer-fair : (e : Entry) → entryRule e ≡ true → fair (offerOf own origin quality e) ≡ true
-  offer-fair e r = go (passedOver own origin e)
-    where
-      go : (b : Bool) → fair (cond b nothing (offered quality e)) ≡ true
-      go true = refl
-      go false = fair-for (offered quality e) (entry-some e r)
+  offer-fair e r = of-choice (λ c. fair c ≡ true) (passedOver own origin e) refl (fair-for (offered quality e) (entry-some e r))
 
   pub walked-fair : (count : ℕ) (part : List ℕ) → 0 < origin → every entryRule (entriesOf count part) ≡ true → every fair (walked own origin quality count part) ≡ true
   unfolding candidateNo offerAt

@@ -7,13 +7,13 @@ use Prim.Native.Nat.{ℕ}
 use borrow.Author.Tests.{eqb-true, eqb-false, not-true}
 use lib.Dec.{eqb}
 use Rattle.octets.specs.Lists.{Each}
+use Rattle.octets.proofs.AddressLaws.{address-some}
 use Rattle.frame_kinds.specs.Shape.{partIn}
 use Rattle.frame_traffic.specs.Traffic.{update, entriesOf}
 use Rattle.route_table.specs.declared.row.Row.{Row}
 use Rattle.route_table.specs.Rows.{withdrawnAt, standing, rowFor}
 use Rattle.route_table.specs.Tables.{rowsOf}
 use Rattle.route_table.proofs.RuleLaws.{rows-of-pad}
-use Rattle.route_table.proofs.TableLaws.{address-some}
 use Rattle.route_merges.specs.declared.candidate.Candidate.{Candidate}
 use Rattle.route_merges.specs.Candidates.{candidates}
 use Rattle.route_merges.specs.Laws.{OthersUnchanged}

@@ -68,7 +68,3 @@ entry-quality time x e = rw e
 pub entry-destination : (time : ℕ) (x : Row) → entryFor time x .destination ≡ x .destination
 unfolding entryFor
 entry-destination time x = refl
-
-pub entry-next : (time : ℕ) (x : Row) → entryFor time x .«next_hop» ≡ x .«next_hop»
-unfolding entryFor
-entry-next time x = refl

@@ -15,7 +15,7 @@ use Rattle.octets.specs.Layouts.{bytes}
 use Rattle.octets.specs.Sums.{xors}
 use Rattle.octets.specs.declared.answers.Written.{Written}
 use Rattle.octets.specs.Told.{wrote}
-use Rattle.octets.proofs.AnswerLaws.{numbered, none-holds}
+use Rattle.octets.proofs.AnswerLaws.{none-holds}
 use Rattle.frame_traffic.specs.Traffic.{update}
 use Rattle.frame_kinds.proofs.StoredLaws.{frame-length, frame-put}
 use Rattle.route_table.specs.declared.row.Row.{Row}
@@ -75,7 +75,7 @@ module _ {t : Table} {p time : ℕ} {out : List ℕ} {count refused : ℕ} (k : 
     pub page-room : 9 + 10 * count ≤ length out
     page-room =
         let none = none-holds (unpagedReasons (k .last) (eqb p 0 || ltb 0 count) (9 + 10 * count) time (length out))
-        (numbered _ 8 (λ y. omega arith), (numbered _ 14 (λ y. omega arith), (numbered _ 5 (λ y. omega arith), tt)))
+        _
         (sym (k .why) ∙ z) in
         ltb-false (length out) (9 + 10 * count) (none .1 .1 .0)
 

@@ -1,6 +1,6 @@
 // The entry for a row, and why a page is not written.
 ghost use mathlib.Core.Path.{_≡_};
-ghost use mathlib.Core.Bool.{cond, _||_};
+ghost use mathlib.Core.Bool.{_||_};
 ghost use mathlib.Core.List.{[], _∷_};
 ghost use Prim.Native.Nat.{_+_, _*_, _≤_};
 ghost use lib.Dec.{eqb, ltb};
@@ -10,13 +10,8 @@ use frame_traffic::entry::Entry;
 use moments::in_order;
 use octets::answers::Refusal;
 use octets::answers::refuse_if;
+use octets::choices::either;
 use route_table::row::Row;
-
-fn either(test: bool, first: u8, second: u8) -> u8
-    ensures { λ r. ⌜ r ≡ cond test first second ⌝ }
-{
-    if test { first } else { second }
-}
 
 // The entry for a row: a dead one is unreachable.
 pub(crate) fn entry_for(row: Row, time: u32) -> Entry

@@ -12,7 +12,7 @@ use lib.Seq.{sets}
 use Rattle.octets.specs.Answers.{Said, accepted, refused, Reason, first, unless}
 use Rattle.octets.specs.Parts.{Lent, partOf}
 use Rattle.octets.specs.Told.{Wrote}
-use Rattle.octets.proofs.AnswerLaws.{Numbered, numbered, refusing-numbered, none-holds}
+use Rattle.octets.proofs.AnswerLaws.{Numbered, refusing-numbered, none-holds}
 use Rattle.moments.specs.Moments.{inOrder}
 use Rattle.frame_kinds.specs.Reading.{refusalAs}
 use Rattle.octets.specs.Addresses.{address}
@@ -48,7 +48,7 @@ read-destination s e = and-eq-true-iff (address (dataIn s .source)) (address (da
 module _ (own last : ℕ) (found : Said) (s : List ℕ) (time room : ℕ) where
   pub numbers : Numbered (unrelayedReasons own last found s time room)
   numbers =
-      (refusing-numbered (refusalAs dataKind s), (numbered _ 6 (λ z. omega arith), (numbered _ 8 (λ z. omega arith), (numbered _ 10 (λ z. omega arith), (numbered _ 11 (λ z. omega arith), (numbered _ 5 (λ z. omega arith), tt))))))
+      (refusing-numbered (refusalAs dataKind s), _)
 
   -- what is known of a frame that is passed on
   record OnwardBy : Type 0 where
@@ -79,7 +79,7 @@ module _ (t : Table) (s : List ℕ) (time room : ℕ) where
   unrefused : relayRefusal t s time room ≡ 0 → (withinRule t ≡ true) × (first reasons ≡ 0)
   unfolding relayRefusal
   unrefused e =
-      let none = none-holds (relayReasons t s time room) (numbered _ 14 (λ z. omega arith), numbers (t .own) (t .time) (lookupOf t (dataIn s .destination) time) s time room) e in
+      let none = none-holds (relayReasons t s time room) (_, numbers (t .own) (t .time) (lookupOf t (dataIn s .destination) time) s time room) e in
       let right = not-false (withinRule t) (none .0) in
       (right, rw right at e)
 

@@ -11,14 +11,15 @@ use Rattle.octets.specs.Answers.{accepted, reason, first, unless}
 use Rattle.octets.specs.Lists.{every}
 use Rattle.moments.specs.Moments.{ageAt, inOrder}
 use Rattle.octets.specs.Addresses.{address}
+use Rattle.octets.proofs.AddressLaws.{address-some}
+use Rattle.octets.proofs.OrderLaws.{ascending-rest, ascending-above}
 use Rattle.route_table.specs.declared.row.Row.{Row}
 use Rattle.route_table.specs.declared.table.Table.{Table}
-use Rattle.route_table.specs.Rows.{none, usable, leads, stands, rowRule, forgotten, ascending, standing, rowFor}
+use Rattle.route_table.specs.Rows.{leadingTo, none, usable, leads, stands, rowRule, forgotten, ascending, standing, rowFor}
 use Rattle.route_table.specs.Tables.{rowsOf, withinRule, withRows, dropped, lookupOf, forgetOf}
-use Rattle.route_table.proofs.KeepLaws.{ascending-above}
 use Rattle.route_table.proofs.RuleLaws.{within-pad}
-use Rattle.route_table.proofs.StandingLaws.{used, in-use-used, in-use-pad, standing-every, standing-ascending, ascending-rest}
-use Rattle.route_table.proofs.TableLaws.{within, few-stand, address-some}
+use Rattle.route_table.proofs.StandingLaws.{used, in-use-used, in-use-pad, standing-every, standing-ascending}
+use Rattle.route_table.proofs.TableLaws.{within, few-stand}
 
 -- ---- the rows
 pub standing-again : (time : ℕ) (rs : List Row) → standing time (standing time rs) ≡ standing time rs
@@ -69,8 +70,8 @@ alike-none time d h = rw (ne-eqb 0 d (λ z. h (sym z)))
 alike : (time d : ℕ) → (d ≡ 0 → ⊥) → (rs : List Row) → ascending rs ≡ true → Alike time d (standing time rs) rs
 alike time d h [] e = record { test = refl; row = λ f. refl }
 alike time d h (r ∷ rs) e =
-    go (eqb (r .destination) d) (stands time r) refl refl (alike time d h rs (ascending-rest r rs e))
-    (standing-every (λ s. ltb (r .destination) (s .destination)) time rs (ascending-above r rs e))
+    go (eqb (r .destination) d) (stands time r) refl refl (alike time d h rs (ascending-rest leadingTo r rs e))
+    (standing-every (λ s. ltb (r .destination) (s .destination)) time rs (ascending-above leadingTo r rs e))
   where
     go : (same stays : Bool) → eqb (r .destination) d ≡ same → stands time r ≡ stays → Alike time d (standing time rs) rs
         → every (λ s. ltb (r .destination) (s .destination)) (standing time rs) ≡ true

@@ -6,6 +6,7 @@ use mathlib.Core.List.{List, [], _∷_, map}
 use lib.Dec.{eqb, leb}
 use lib.ListN.{length, drop, replicate}
 use Rattle.octets.specs.Answers.{Said, accepted, Reason, reason, first, unless}
+use Rattle.octets.specs.Calls.{after}
 use Rattle.octets.specs.Lists.{every}
 use Rattle.moments.specs.Moments.{inOrder}
 use Rattle.octets.specs.Addresses.{address}
@@ -47,7 +48,7 @@ dropped time t = withRows t (t .time) (standing time (rowsOf t))
 
 -- a changing call: the number that refuses it with the table as it was, or the new table
 abbrev pub settled : ℕ → Table → Table → Changed
-settled number t new = record { refused = number; table = cond (eqb number 0) new t }
+settled number t new = record { refused = number; table = after number t new }
 
 -- the row for a destination, if there is one, may carry traffic there at this time
 abbrev pub leadsTo : Table → ℕ → ℕ → Bool

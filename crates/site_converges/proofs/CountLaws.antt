@@ -10,10 +10,9 @@ use lib.Dec.{eqb, ltb}
 use lib.ListN.{length}
 use Rattle.octets.specs.Lists.{every, Each, some}
 use Rattle.octets.proofs.TestLaws.{or-left, or-right, or-elim}
+use Rattle.octets.proofs.OrderLaws.{ascending-rest, ascending-above}
 use Rattle.route_table.specs.declared.row.Row.{Row}
-use Rattle.route_table.specs.Rows.{ascending}
-use Rattle.route_table.proofs.KeepLaws.{ascending-above}
-use Rattle.route_table.proofs.StandingLaws.{ascending-rest}
+use Rattle.route_table.specs.Rows.{leadingTo, ascending}
 use Rattle.route_table.proofs.HasLaws.{row-first, Has, row-behind}
 use Rattle.site_converges.specs.Sites.{among}
 
@@ -58,7 +57,7 @@ pub no-more : (rs : List Row) (l : List ℕ) → ascending rs ≡ true → Each 
 no-more [] l a e = omega arith
 no-more (r ∷ rs) l a e =
     let n = r .destination in
-    let ih = no-more rs (without n l) (ascending-rest r rs a) (behind-first n l rs (ascending-above r rs a) (e .1)) in
+    let ih = no-more rs (without n l) (ascending-rest leadingTo r rs a) (behind-first n l rs (ascending-above leadingTo r rs a) (e .1)) in
     omega (arith, ih, without-shorter n l (e .0))
 
 -- a destination that has no row is that of none

@@ -1,7 +1,7 @@
 -- Three units in a line, computed.
 -- Assumes nothing.
 use mathlib.Core.Path.{_≡_, refl}
-use mathlib.Core.Bool.{Bool, true, false, _&&_, _||_, and-eq-true-iff}
+use mathlib.Core.Bool.{true, false, _&&_, _||_, and-eq-true-iff, or-comm}
 use Prim.Native.Nat.{ℕ}
 use native.Mathlib.Decide.{ℕ-discrete}
 use native.Mathlib.Omega.{arith}
@@ -24,12 +24,6 @@ use Rattle.site_converges.specs.Sites.{Sited, among, within}
 use Rattle.site_converges.specs.Rounds.{pastAfter}
 use Rattle.site_converges.specs.Line.{line, LineTells}
 use Rattle.site_converges.proofs.SiteLaws.{among-every, within-more}
-
-either-way : (x y : Bool) → (x || y) ≡ (y || x)
-either-way true true = refl
-either-way true false = refl
-either-way false true = refl
-either-way false false = refl
 
 line-inside : (a b : ℕ) → line .linked a b ≡ true → among b (line .units) ≡ true
 unfolding among some
@@ -60,7 +54,7 @@ line-sited =
       addresses = refl;
       inside = line-inside;
       apart = line-apart;
-      both = λ a b. either-way (eqb a 2 && (eqb b 1 || eqb b 3)) (eqb b 2 && (eqb a 1 || eqb a 3));
+      both = λ a b. or-comm (eqb a 2 && (eqb b 1 || eqb b 3)) (eqb b 2 && (eqb a 1 || eqb a 3));
       across =
           λ a b m n.
           within-more line 2 _ a b (omega arith)

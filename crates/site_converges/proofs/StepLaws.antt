@@ -14,13 +14,13 @@ use Rattle.octets.proofs.TestLaws.{of-cond, or-elim, by-bool}
 use Rattle.moments.specs.Moments.{ageAt}
 use Rattle.moments.proofs.MomentLaws.{age-between}
 use Rattle.octets.specs.Addresses.{address}
+use Rattle.octets.proofs.OrderLaws.{put-ascending}
 use Rattle.route_table.specs.declared.row.Row.{Row}
-use Rattle.route_table.specs.Rows.{usable, stands, ascending, rowFor}
+use Rattle.route_table.specs.Rows.{leadingTo, usable, stands, ascending, rowFor}
 use Rattle.route_table.proofs.HasLaws.{Has, each-row}
 use Rattle.route_merges.specs.declared.candidate.Candidate.{Candidate}
 use Rattle.route_merges.specs.Candidates.{bad}
 use Rattle.route_merges.specs.Learning.{put, rowBy, givesWay, takenBack, Learned, met, newTo, learn, learnAll}
-use Rattle.route_merges.proofs.PutLaws.{put-ascending}
 use Rattle.route_merges.proofs.HasLaws.{put-has, row-put, each-put, learn-all-has}
 use Rattle.site_converges.specs.Sites.{Site, Sited, Fewest, among, within}
 use Rattle.site_converges.specs.Courses.{Course, span, sinceBegan, InTime}
@@ -193,7 +193,7 @@ module _ (s : Site) (c : Course) (z : Sited s) (u : ℕ) (m : among u (s .units)
       put-right : Good s c u now (suc r) (rowBy via time x) → Right s c u now r (suc r) (put (rowBy via time x) (l .rows))
       put-right g =
           record {
-            up = put-ascending (rowBy via time x) (l .rows) (h .up);
+            up = put-ascending leadingTo (rowBy via time x) (l .rows) (h .up);
             good = each-put (Good s c u now (suc r)) (rowBy via time x) g (l .rows) (h .good);
             known = λ k n w. put-has k (rowBy via time x) (l .rows) (h .known k n w);
           }

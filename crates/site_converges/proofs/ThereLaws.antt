@@ -12,7 +12,7 @@ use lib.Dec.{eqb, ltb}
 use lib.ListN.{length}
 use Rattle.octets.specs.Lists.{Some, Each, some}
 use Rattle.octets.proofs.EachLaws.{each-append, each-also, some-behind, some-first}
-use Rattle.octets.proofs.TestLaws.{or-elim}
+use Rattle.octets.proofs.TestLaws.{or-elim, of-cond}
 use Rattle.moments.specs.Moments.{ageAt, inOrder}
 use Rattle.moments.proofs.MomentLaws.{in-order-self, young-in-order, age-between}
 use Rattle.route_table.specs.declared.row.Row.{Row}
@@ -81,20 +81,14 @@ module _ (s : Site) (u : ℕ) (before : ℕ → Table) (timely : (o : ℕ) → s
   )
 
   pages-fine : (o : ℕ) → s .linked u o ≡ true → Each Fine (pages before o)
-  pages-fine o l = (fine o 0 l refl, go (pageThere (rowsOf (before o)) 1) refl)
-    where
-      go : (b : Bool) → pageThere (rowsOf (before o)) 1 ≡ b → Each Fine (cond b (call o 1 ∷ []) [])
-      go true q = (fine o 1 l q, tt)
-      go false q = tt
+  pages-fine o l = (fine o 0 l refl, of-cond (Each Fine) (pageThere (rowsOf (before o)) 1) (call o 1 ∷ []) [] (λ q. (fine o 1 l q, tt)) (λ q. tt))
 
   hearing-fine : (os : List ℕ) → Each Fine (hearing s before u os)
   unfolding hearing
   hearing-fine [] = tt
-  hearing-fine (o ∷ os) = go (s .linked u o) refl (hearing-fine os)
-    where
-      go : (b : Bool) → s .linked u o ≡ b → Each Fine (hearing s before u os) → Each Fine (cond b (pages before o ++ hearing s before u os) (hearing s before u os))
-      go true q later = each-append Fine (pages before o) (hearing s before u os) (pages-fine o q) later
-      go false q later = later
+  hearing-fine (o ∷ os) =
+      let later = hearing-fine os in
+      of-cond (Each Fine) (s .linked u o) _ _ (λ q. each-append Fine (pages before o) (hearing s before u os) (pages-fine o q) later) (λ q. later)
 
   in-order : (n : ℕ) → inOrder n 300000 ≡ true → (hs : List Heard) → Each Fine hs → ordered n hs ≡ true
   in-order n e [] f = refl

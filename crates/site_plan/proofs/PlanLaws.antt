@@ -14,7 +14,7 @@ use Rattle.octets.specs.Lists.{tab}
 use Rattle.octets.proofs.ListLaws.{getD-tab}
 use Rattle.octets.specs.Addresses.{address, network}
 use Rattle.site_plan.specs.declared.plan.Plan.{Plan}
-use Rattle.site_plan.specs.Plans.{planRule, discoverySlots, active, slotsIn, superframeMs}
+use Rattle.site_plan.specs.Plans.{slots, planRule, discoverySlots, active, slotsIn, superframeMs}
 use Rattle.site_plan.specs.Laws.{LengthsByTable, RuleBounds}
 
 -- ---- the length of a superframe and its time
@@ -27,17 +27,20 @@ unfolding slotsIn
 past-table active h = omega (arith, h)
 
 -- no superframe is longer than 100 slots
-few-slots : (active : ℕ) → slotsIn active ≤ 100
+few-length : (active : ℕ) → slotsIn active ≤ 100
 unfolding slotsIn
-few-slots active = omega arith
+few-length active = omega arith
+
+pub few-slots : (p : Plan) → slots p ≤ 100
+few-slots p = few-length (active p)
 
 pub length-fits : (lengths : List ℕ) → lengths ≡ tab 51 slotsIn → (active : ℕ) → active ≤ 50 → getD lengths active 0 < 2 ^ 32
-length-fits lengths e active h = omega (arith, lengths-by-table lengths e active h, few-slots active)
+length-fits lengths e active h = omega (arith, lengths-by-table lengths e active h, few-length active)
 
 -- so its time fits into 32 bits
 pub superframe-fits : (active slots ms : ℕ) → slots ≡ slotsIn active → ms < 2 ^ 16 → slots * ms < 2 ^ 32
 superframe-fits active slots ms e h =
-    let few : slots ≤ 100 = omega (arith, e, few-slots active) in
+    let few : slots ≤ 100 = omega (arith, e, few-length active) in
     let short : ms ≤ 65535 = omega (arith, h) in
     omega (arith, mul-le-mul few short)
 
@@ -109,7 +112,7 @@ rule-bounds p e =
     record {
       few-rows = omega (arith, k .hops, k .rows, k .data-slots, k .few);
       few-data-slots = omega (arith, k .hops, k .rows, k .data-slots, k .few);
-      few-slots = few-slots (active p);
+      few-slots = few-slots p;
       inside = room (active p) (k .few);
     }
 

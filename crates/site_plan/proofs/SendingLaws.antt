@@ -8,7 +8,7 @@ use borrow.Author.Tests.{eqb-true}
 use lib.Dec.{eqb, ltb}
 use Rattle.octets.proofs.TestLaws.{or-elim}
 use Rattle.slot_sets.specs.Sets.{has}
-use Rattle.slot_sets.proofs.SetLaws.{disjoint-is-apart}
+use Rattle.slot_sets.proofs.SetLaws.{disjoint-is-apart, never-both}
 use Rattle.site_plan.specs.Plans.{dataAt}
 use Rattle.site_plan.specs.Schedules.{tx, rx, beaconTx, beaconRx, controlTx, controlRx, sleep, sends, inControls, inData, controlSlot}
 use Rattle.site_plan.specs.Laws.{UnitsSendInOwn, OneSender, OneHop, OneSenderOfUnits, OneHopOfUnits}
@@ -44,15 +44,9 @@ units-send-in-own p row hop own =
     }
 
 -- ---- two units
--- two tests that do not hold together
-not-both : (a b : Bool) → (a ≡ true → b ≡ true → ⊥) → (a && b) ≡ false
-not-both true true h = absurd (h refl refl)
-not-both true false h = refl
-not-both false b h = refl
-
 pub one-sender : OneSender
 one-sender p row row′ hop hop′ own own′ kinds kinds′ u v rows apart s e =
-    not-both (sends (kinds s)) (sends (kinds′ s))
+    never-both (sends (kinds s)) (sends (kinds′ s))
     (λ x y.
     or-elim ⊥ (inControls p s) (inData p s) e
     (λ i. rows (omega (arith, u .controls s i x, v .controls s i y)))

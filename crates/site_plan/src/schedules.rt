@@ -4,13 +4,8 @@ ghost use mathlib.Core.Bool.{cond};
 ghost use Rattle.slot_sets.specs.Sets.{slotsOf, has};
 ghost use Rattle.site_plan.specs.Schedules.{tx, rx, beaconSlotKind, controlSlotKind, discoverySlotKind, kindOf};
 use crate::plan::Plan;
+use octets::choices::either;
 use slot_sets::masks::holds;
-
-fn either(test: bool, yes: u8, no: u8) -> u8
-    ensures { λ r. ⌜ r ≡ cond test yes no ⌝ }
-{
-    if test { yes } else { no }
-}
 
 // Each unit sends at its hop and hears the hop before it; all but the manager hear the manager too.
 fn beacon_kind(hop: u8, slot: u8) -> u8

@@ -9,7 +9,7 @@ use borrow.Author.Tests.{eq-eqb, eqb-true, eqb-false}
 use lib.Dec.{eqb}
 use Rattle.octets.specs.Answers.{Reason, reason, first}
 use Rattle.octets.specs.Lists.{every}
-use Rattle.octets.proofs.AnswerLaws.{numbered, never-given}
+use Rattle.octets.proofs.AnswerLaws.{Where, never-given}
 use Rattle.octets.proofs.CallLaws.{after-refused}
 use Rattle.octets.proofs.TestLaws.{of-cond}
 use Rattle.moments.specs.Elapsed.{Clock, started, nowAt}
@@ -107,16 +107,16 @@ unfolding onEvent kindAfter movedOn ageAt inOrder
 leaves-rule = refl
 
 -- 14 is then the call's own
-never-fourteen : (s : State) (time : ℕ) (own : Reason) → withinRule s ≡ true → (own .number ≡ 14 → own .holds ≡ false) → first (reasons s time own) ≡ 14 → ⊥
-never-fourteen s time own w h = never-given 14 (reasons s time own) (λ z. omega arith) (λ e. ap not w, (numbered _ 8 (λ z. omega arith), (h, tt)))
+never-fourteen : (s : State) (time : ℕ) (own : Reason) → withinRule s ≡ true → Where (eqb (own .number) 14) (own .holds ≡ false) → first (reasons s time own) ≡ 14 → ⊥
+never-fourteen s time own w h = never-given 14 (reasons s time own) (λ z. omega arith) (ap not w, (_, (h, _)))
 
 only-superframes : (s : State) (c : Call) → withinRule s ≡ true → answer s c .refused ≡ 14 → wrongSuperframe c ≡ true
 unfolding onEvent onTick
-only-superframes s (event number time) w e = absurd (never-fourteen s time (reason (eqb (kindAfter (s .kind) number) Nowhere) 7) w (numbered _ 7 (λ z. omega arith)) e)
+only-superframes s (event number time) w e = absurd (never-fourteen s time (reason (eqb (kindAfter (s .kind) number) Nowhere) 7) w _ e)
 only-superframes s (tick ms time) w e = go (superframeRule ms) refl
   where
     go : (b : Bool) → superframeRule ms ≡ b → not b ≡ true
-    go true q = absurd (never-fourteen s time (reason (not (superframeRule ms)) 14) w (λ z. ap not q) e)
+    go true q = absurd (never-fourteen s time (reason (not (superframeRule ms)) 14) w (ap not q) e)
     go false q = refl
 
 pub only-for-superframes : OnlyForSuperframes

@@ -7,8 +7,8 @@ use native.Mathlib.Omega.{arith}
 use borrow.Author.Tests.{eq-eqb, eqb-true, leb-true, not-false}
 use lib.Dec.{eqb, leb}
 use Rattle.octets.specs.Answers.{Reason, reason, first}
-use Rattle.octets.proofs.AnswerLaws.{numbered, none-holds}
-use Rattle.octets.proofs.TestLaws.{of-cond}
+use Rattle.octets.proofs.AnswerLaws.{Where, none-holds}
+use Rattle.octets.proofs.TestLaws.{implied, implies, of-cond}
 use Rattle.moments.specs.Moments.{ageAt, inOrder}
 use Rattle.moments.proofs.MomentLaws.{in-order-self, young-in-order}
 use Rattle.unit_life.specs.declared.state.State.{State}
@@ -18,14 +18,6 @@ use Rattle.unit_life.specs.Histories.{Call, event, tick, timeOf, answer}
 use Rattle.unit_life.proofs.TableLaws.{leads-known, tick-known, stays-normal, loops, in-time, heard-in-time}
 
 -- ---- the rule
-implied : (a b : Bool) → (not a || b) ≡ true → a ≡ true → b ≡ true
-implied true b e h = e
-implied false b e h = absurd (false≢true h)
-
-implies : (a b : Bool) → (a ≡ true → b ≡ true) → (not a || b) ≡ true
-implies true b f = f refl
-implies false b f = refl
-
 -- what the rule says of a state
 pub record Within (s : State) : Type 0 where
   pub known : leb (s .kind) Stopped ≡ true
@@ -106,9 +98,9 @@ pub record Taken (s : State) (c : Call) : Type 0 where
   pub right : own s c .holds ≡ false
   pub gives : answer s c .state ≡ movedOn s (target s c) (hears c) (timeOf c)
 
-own-numbered : (s : State) (c : Call) → own s c .number ≡ 0 → own s c .holds ≡ false
-own-numbered s (event number time) = numbered _ 7 (λ z. omega arith)
-own-numbered s (tick ms time) = numbered _ 14 (λ z. omega arith)
+own-numbered : (s : State) (c : Call) → Where (eqb (own s c .number) 0) (own s c .holds ≡ false)
+own-numbered s (event number time) = _
+own-numbered s (tick ms time) = _
 
 given : (s : State) (c : Call) → answer s c .refused ≡ 0
     → (first (reasons s (timeOf c) (own s c)) ≡ 0) × (answer s c .state ≡ movedOn s (target s c) (hears c) (timeOf c))
@@ -120,7 +112,7 @@ pub taken : (s : State) (c : Call) → answer s c .refused ≡ 0 → Taken s c
 taken s c z =
     let (number, gives) = given s c z in
     let (rule, (ordered, (right, _))) =
-    none-holds (reasons s (timeOf c) (own s c)) (numbered _ 14 (λ z. omega arith), (numbered _ 8 (λ z. omega arith), (own-numbered s c, tt))) number in
+    none-holds (reasons s (timeOf c) (own s c)) (_, (_, (own-numbered s c, _))) number in
     record { rule = not-false _ rule; ordered = not-false _ ordered; right = right; gives = gives }
 
 -- a superframe that is named right is not long

@@ -5,6 +5,7 @@ use mathlib.Core.Bool.{Bool, not, _&&_, _||_, cond}
 use mathlib.Core.List.{List, [], _∷_}
 use lib.Dec.{eqb, leb}
 use Rattle.octets.specs.Answers.{Reason, reason, first}
+use Rattle.octets.specs.Calls.{after}
 use Rattle.moments.specs.Moments.{ageAt, inOrder}
 use Rattle.unit_life.specs.declared.state.State.{State}
 use Rattle.unit_life.specs.declared.state.Lived.{Lived}
@@ -39,7 +40,7 @@ movedOn s to heard time =
 
 -- the first refusal with the state as it was, or the next state
 abbrev pub lived : List Reason → State → State → Lived
-lived rs s next = record { refused = first rs; state = cond (eqb (first rs) 0) next s }
+lived rs s next = record { refused = first rs; state = after (first rs) s next }
 
 -- why a call is refused: a state out of rule is 14, a time before the last accepted one 8; then the call's own reason
 abbrev pub reasons : State → ℕ → Reason → List Reason

@@ -2,10 +2,10 @@
 ghost use mathlib.Core.Path.{_≡_};
 ghost use Rattle.octets.specs.Answers.{reason, first};
 ghost use Rattle.unit_life.specs.Calls.{withinRule, freshState, movedOn, reasons, stepped};
-use crate::choices::either;
-use crate::choices::either_time;
 use moments::in_order;
 use octets::answers::Refusal;
+use octets::answers::refuse_if;
+use octets::choices::either32;
 
 // The kind is one of seven numbers; the times are the last accepted one, that of entry into the kind, and that of the last beacon.
 pub struct State {
@@ -56,8 +56,8 @@ impl State {
         State {
             kind: to,
             last: time,
-            entered: either_time(changed, time, self.entered),
-            beacon: either_time(beacon, time, self.beacon),
+            entered: either32(changed, time, self.entered),
+            beacon: either32(beacon, time, self.beacon),
         }
     }
 
@@ -67,9 +67,9 @@ impl State {
     {
         let known = self.within_rule();
         let ordered = in_order(self.last, time);
-        let refused = either(wrong, number, 0);
-        let refused = either(!ordered, Refusal::EARLIER, refused);
-        either(!known, Refusal::RULE, refused)
+        let refused = refuse_if(wrong, number, 0);
+        let refused = refuse_if(!ordered, Refusal::EARLIER, refused);
+        refuse_if(!known, Refusal::RULE, refused)
     }
 
     // What an event and a tick share: a refusal with the state as it was, or the state that goes to a kind.

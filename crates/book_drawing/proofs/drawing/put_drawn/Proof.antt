@@ -10,7 +10,7 @@ use borrow.Author.Needs.{fits-under}
 use Rattle.octets.specs.Lists.{tab}
 use Rattle.slot_sets.specs.Sets.{slotsOf}
 use Rattle.site_plan.specs.Schedules.{kindOf}
-use Rattle.book.proofs.ScheduleLaws.{few-slots}
+use Rattle.site_plan.proofs.PlanLaws.{few-slots}
 use Rattle.book_drawing.specs.Views.{letter}
 use Rattle.book_drawing.proofs.TextLaws.{none-put, one-more}
 use Rattle.book_drawing.proofs.LineLaws.{all-drawn}

@@ -5,11 +5,11 @@ use Prim.Native.Nat.{_<_}
 use native.Mathlib.Omega.{arith}
 use denote.Ref.{now}
 use borrow.Author.Needs.{fits-under}
-use Rattle.book.proofs.ScheduleLaws.{few-slots}
 use Rattle.book_drawing.specs.Views.{slotsWord, activeWord, decimal, newline}
 use Rattle.book_drawing.proofs.LineLaws.{head-told}
 use Rattle.book_drawing.proofs.TextLaws.{put, done, all-put}
 use borrow.Author.Needs.{needs}
+use Rattle.site_plan.proofs.PlanLaws.{few-slots}
 use Rattle.book_drawing.proofs.drawing.put_head_line.Statement.{statement}
 use Rattle.book_drawing.proofs.drawing.put_head_line.Tie as tie
 

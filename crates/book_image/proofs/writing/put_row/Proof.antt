@@ -7,8 +7,7 @@ use denote.Ref.{now}
 use Rattle.octets.proofs.StoreLaws.{all-put, put, done}
 use Rattle.slot_sets.proofs.MaskLaws.{mask-back}
 use Rattle.book_members.specs.Members.{rowOf}
-use Rattle.book_image.specs.Images.{rowWidths}
-use Rattle.book_image.proofs.ImageLaws.{rowValues}
+use Rattle.book_image.specs.Images.{rowWidths, rowValues}
 use borrow.Author.Needs.{needs}
 use Rattle.book_image.proofs.writing.put_row.Statement.{statement}
 use Rattle.book_image.proofs.writing.put_row.Tie as tie

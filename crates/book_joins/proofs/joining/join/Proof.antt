@@ -7,10 +7,11 @@ use borrow.Author.Needs.{fits-under}
 use denote.Ref.{now}
 use lib.Dec.{ltb}
 use lib.ListN.{take}
+use Rattle.octets.proofs.TestLaws.{of-choice}
 use Rattle.slot_sets.specs.Sets.{slotsOf}
 use Rattle.book_members.specs.Members.{rowsOf}
 use Rattle.book_joins.proofs.AnswerLaws.{joined}
-use Rattle.book_joins.proofs.GrantLaws.{row-within, one-within, is-seated}
+use Rattle.book_joins.proofs.GrantLaws.{row-within, is-seated}
 use borrow.Author.Needs.{needs}
 use Rattle.book_joins.proofs.joining.join.Statement.{statement}
 use Rattle.book_joins.proofs.joining.join.Tie as tie
@@ -27,7 +28,7 @@ cast-settle c =
     let own : census .counted .result .own ≤ 21 = omega (arith, found, long, row-within (request .of .result .node) rows) in
     let free : census .counted .result .place ≤ 21 = omega (arith, place, long, row-within 0 rows) in
     fits-under _ _ 22
-    (omega (arith, chosen .either .ensures, one-within (ltb (census .counted .result .own) (used .in-use .result)) (census .counted .result .own) (census .counted .result .place) 21 own free)) _
+    (omega (arith, chosen .either-size .ensures, of-choice (λ n. n ≤ 21) (ltb (census .counted .result .own) (used .in-use .result)) own free)) _
 
 returns : tie.Need-returns
 returns c =
@@ -48,8 +49,8 @@ returns c =
     settled .settle .ensures ∙
     joined (a .book) (a .time) (current .current .result) (current .current .ensures) (census .counted .result .own) (used .in-use .result) (used .in-use .ensures) long
     (now (a .frame)) (now (a .out)) (slotsOf (own .seated .result)) (bytes .bytes-for .result) (refused .refusal .result) (bytes .bytes-for .ensures)
-    (request .of .result) (chosen .either .result) (census .counted .result .place) (census .counted .result .vacant) (request .of .ensures) found place
-    (chosen .either .ensures) empty slots (refused .refusal .ensures)
+    (request .of .result) (chosen .either-size .result) (census .counted .result .place) (census .counted .result .vacant) (request .of .ensures) found place
+    (chosen .either-size .ensures) empty slots (refused .refusal .ensures)
 
 pub join-spec : {M : Type 1} → statement M
 join-spec =

@@ -41,8 +41,8 @@ loop-again c =
     let l = turn .before .loop in
     let more = turn .loop-test .taken in (
       counted-turn (l .inv .0) more _ (c .before .joined .ensures),
-      found-turn (l .inv .0) more _ _ _ (l .inv .1) (c .before .before .before .before .either .ensures),
-      found-turn (l .inv .0) more 0 _ _ (l .inv .2) (c .before .before .either2 .ensures),
+      found-turn (l .inv .0) more _ _ _ (l .inv .1) (c .before .before .before .before .either-size .ensures),
+      found-turn (l .inv .0) more 0 _ _ (l .inv .2) (c .before .before .either-size2 .ensures),
     )
 
 returns : tie.Need-returns Inv-loop μ-loop

@@ -1,19 +1,19 @@
 -- `Book::schedule`: the kinds of the slots, or the number that refuses it.
 -- Assumes nothing.
 use mathlib.Core.Path.{_≡_, sym, ap, _∙_}
-use Prim.Native.Nat.{_<_, _≤_}
 use native.Mathlib.Omega.{arith}
 use borrow.Author.Needs.{fits-under}
 use lib.ListN.{length}
 use lib.Dec.{ltb}
-use mathlib.Core.Bool.{Bool, true}
+use mathlib.Core.Bool.{Bool}
 use denote.Ref.{now}
 use borrow.Author.Tests.{ltb-true}
 use Rattle.book.specs.Books.{contents, liveAt}
 use Rattle.book.specs.Schedules.{scheduleRefusal}
-use Rattle.book.proofs.ScheduleLaws.{few-slots, Schedulable, schedulable, unscheduled, scheduled}
+use Rattle.book.proofs.ScheduleLaws.{Schedulable, schedulable, unscheduled, scheduled}
 use Rattle.book.proofs.VisitLaws.{live-now, found-at, slots-there}
 use borrow.Author.Needs.{needs}
+use Rattle.site_plan.proofs.PlanLaws.{few-slots}
 use Rattle.book.proofs.book.Book.schedule.Statement.{statement}
 use Rattle.book.proofs.book.Book.schedule.Tie as tie
 

@@ -22,6 +22,7 @@ use Rattle.book.specs.Schedules.{scheduleRefusal, scheduleOf}
 use Rattle.book.proofs.ScheduleLaws.{Schedulable, schedulable}
 use Rattle.book_joins.specs.Joins.{joinIn, seat, seated, noRowFor, joinReasons, joinOf, askIn, asks, askReasons, askOf}
 use Rattle.book_joins.specs.Responses.{responses}
+use Rattle.book_image.specs.Images.{imageReasons, imageWritten}
 use Rattle.book_history.specs.Laws.{holding}
 
 -- what all calls that write a row rest on
@@ -105,3 +106,11 @@ module _ (b : Contents) (unit hop time : ℕ) (out : List ℕ) (e : scheduleOf b
 
   pub schedule-allowed : Schedulable b unit hop time (liveAt b unit time) (length out)
   schedule-allowed = schedulable b unit hop time (liveAt b unit time) (length out) schedule-unrefused
+
+pub image-allowed : (b : Contents) (time : ℕ) (out : List ℕ) → imageWritten b time out .said .refusal ≡ 0 → withinRule b ≡ true
+unfolding imageWritten
+image-allowed b time out e =
+    not-false _ (
+    none-holds (imageReasons b time (length out)) (numbered _ 14 (λ z. omega arith), (numbered _ 8 (λ z. omega arith), (numbered _ 5 (λ z. omega arith), tt)))
+    (sym (unless-number _ _) ∙ e) .0
+    )

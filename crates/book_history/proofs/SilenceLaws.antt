@@ -20,7 +20,7 @@ use Rattle.book_members.proofs.LookupLaws.{found-unit, found-there, found-is}
 use Rattle.book_members.proofs.RowRuleLaws.{address-some, ruled-current}
 use Rattle.book_members.proofs.TimedLaws.{timed-rows}
 use Rattle.book.specs.Books.{Contents, withinRule, rowsIn, rowsAt, liveAt}
-use Rattle.book_history.specs.Calls.{Call, join, ask, heard, leave, schedule, timeOf, unitOf, next}
+use Rattle.book_history.specs.Calls.{Call, join, ask, heard, leave, schedule, image, next, unitOf, timeOf}
 use Rattle.book_history.specs.Laws.{StaysWhileLive, LiveFor, holding}
 use Rattle.book.proofs.WithinLaws.{within}
 use Rattle.book_history.proofs.WrittenLaws.{rowNow, rows-written}
@@ -121,3 +121,4 @@ live-for b (ask s time out) later z r n = live-taken (ask-taken b s time out z) 
 live-for b (heard unit time) later z r n = live-taken (heard-taken b unit time z) later n
 live-for b (leave unit time) later z r n = absurd (false≢true r)
 live-for b (schedule unit hop time out) later z r n = absurd (false≢true r)
+live-for b (image time out) later z r n = absurd (false≢true r)

@@ -8,7 +8,7 @@ use Rattle.book_members.specs.Members.{emptyRow, placeFor}
 use Rattle.book.specs.Books.{Contents, rowsAt}
 use Rattle.book_bytes.specs.Trips.{Sized}
 use Rattle.book_bytes.proofs.SizeLaws.{row-fits, empty-fits, sized-written}
-use Rattle.book_history.specs.Calls.{Call, join, ask, heard, leave, schedule, timeOf, unitOf, refusalOf, next}
+use Rattle.book_history.specs.Calls.{Call, join, ask, heard, leave, schedule, image, refusalOf, next, unitOf, timeOf}
 use Rattle.book_history.specs.Laws.{KeepsSize}
 use Rattle.book_history.proofs.HoldingLaws.{by-refusal}
 use Rattle.book_history.proofs.TakingLaws.{Taken, join-taken, ask-taken, heard-taken, leave-freed}
@@ -26,6 +26,7 @@ accepted-sized b (heard unit time) h z e = taken-sized (heard-taken b unit time 
 accepted-sized b (leave unit time) h z e =
     subst Sized (sym (leave-freed b unit time e .book)) (sized-written b time (placeFor unit (rowsAt b time)) emptyRow z h empty-fits)
 accepted-sized b (schedule unit hop time out) h z e = z
+accepted-sized b (image time out) h z e = z
 
 pub keeps-size : KeepsSize
 keeps-size b c h z = by-refusal Sized b c z (accepted-sized b c h z)

@@ -24,7 +24,7 @@ use Rattle.book.proofs.WithinLaws.{within}
 use Rattle.book_joins.specs.Responses.{slotsTold}
 use Rattle.book_history.specs.Laws.{SameHolding, holding}
 use Rattle.book_history.proofs.SilenceLaws.{lasts, live-lasts, row-lasts, slots-last}
-use Rattle.book_history.specs.BookEvents.{Grant, grant, counts}
+use Rattle.book_history.specs.Histories.{Grant, grant, counts}
 use Rattle.book_history.specs.BookLaws.{slotsAt}
 
 -- the same in two books where it holds the same

@@ -18,11 +18,7 @@ use Rattle.book_members.specs.Rules.{rowRule}
 use Rattle.book_members.proofs.RowLaws.{row}
 use Rattle.book_members.proofs.RowSums.{weigh, tally, tally-pass, tally-skip, ofUnit, alone-here, alone-behind}
 use Rattle.book_members.proofs.RowRuleLaws.{rule-either}
-
--- f 1 + .. + f n
-unfoldable pub sumTo : (ℕ → ℕ) → ℕ → ℕ
-sumTo f zero = 0
-sumTo f (suc n) = f (suc n) + sumTo f n
+use Rattle.book_history.specs.Histories.{sumTo}
 
 pub sum-same : (f g : ℕ → ℕ) (n : ℕ) → ((u : ℕ) → 1 ≤ u → u ≤ n → f u ≡ g u) → sumTo f n ≡ sumTo g n
 unfolding sumTo
@@ -33,12 +29,6 @@ sum-add : (f g : ℕ → ℕ) (n : ℕ) → sumTo (λ u. f u + g u) n ≡ sumTo 
 unfolding sumTo
 sum-add f g zero = refl
 sum-add f g (suc n) = omega (arith, sum-add f g n)
-
--- what grows so is such a sum
-pub sums : (f g : ℕ → ℕ) → g 0 ≡ 0 → ((n : ℕ) → g (suc n) ≡ f (suc n) + g n) → (n : ℕ) → g n ≡ sumTo f n
-unfolding sumTo
-sums f g e h zero = e
-sums f g e h (suc n) = h n ∙ ap (λ (k : ℕ). f (suc n) + k) (sums f g e h n)
 
 sum-none : (f : ℕ → ℕ) (n : ℕ) → ((u : ℕ) → 1 ≤ u → u ≤ n → f u ≡ 0) → sumTo f n ≡ 0
 unfolding sumTo

@@ -16,7 +16,7 @@ use Rattle.slot_sets.proofs.MaskLaws.{mask-back, set-back}
 use Rattle.site_plan.specs.declared.plan.Plan.{Plan}
 use Rattle.site_plan.specs.Plans.{planValues}
 use Rattle.site_plan.proofs.PlanByteLaws.{length-plan, plan-read}
-use Rattle.book_members.specs.Members.{Row}
+use Rattle.book_members.specs.Members.{Row, memberWith}
 use Rattle.book.specs.Books.{Contents}
 use Rattle.site_plan.specs.PlanBytes.{planWidths, planFrom, planAt, planBytes}
 use Rattle.book_bytes.specs.BookBytes.{rowWidths, rowValues, rowFrom, rowAt, rowsBytes, bookIn, bookBytes}
@@ -26,7 +26,7 @@ use Rattle.book_bytes.proofs.BookByteLaws.{rows-run, length-front, leng
 
 -- ---- what was written, read
 row-back : (r : Row) → rowFrom (rowValues r) ≡ r
-row-back r = ap (λ (s : Slots 64). record { unit = r .unit; slots = s; time = r .time }) (set-back (r .slots))
+row-back r = ap (λ (s : Slots 64). memberWith (r .unit) s (r .time)) (set-back (r .slots))
 
 rows-back : (rs : List Row) → map (λ r. rowFrom (rowValues r)) rs ≡ rs
 rows-back [] = refl

@@ -17,11 +17,10 @@ use Rattle.book_members.proofs.RowLaws.{row}
 use Rattle.book_members.proofs.LookupLaws.{found-unit}
 use Rattle.book_members.proofs.RowSums.{weigh, one, tally}
 use Rattle.book_members.proofs.RowRuleLaws.{address-some, no-count, ruled-current}
-use Rattle.book.specs.Books.{Contents, rowsAt, liveAt}
+use Rattle.book.specs.Books.{Contents, rowsAt, liveAt, ownRow, holding}
 use Rattle.book.proofs.WithinLaws.{RowsRuled, within}
 use Rattle.book_joins.specs.Responses.{slotsTold}
 use Rattle.book_joins.proofs.ResponseLaws.{slots-told}
-use Rattle.book_history.specs.Laws.{holding}
 use Rattle.book_history.proofs.JoinLaws.{refused-if-full, granted-else}
 use Rattle.book_history.proofs.CountingLaws.{held-sum, all-accounted}
 use Rattle.book_history.proofs.SendingLaws.{one-sender-in-book, one-hop-in-book}
@@ -47,10 +46,6 @@ one-sender start cs time unit unit′ hop hop′ out out′ z e e′ n s =
     (one-sender-in-book b time unit unit′ hop hop′ out out′ e e′ n s, one-hop-in-book b time unit unit′ hop hop′ out out′ e e′ s)
 
 -- ---- counting
--- the row of a unit at a time
-abbrev ownRow : Contents → ℕ → ℕ → Row
-ownRow b unit time = row (rowsAt b time) (placeFor unit (rowsAt b time))
-
 -- what a unit's slots count for, by a weight of its row, sums up over all units to what the rows weigh, if a free row weighs nothing
 module _ (start : Start) (cs : List Call) (time : ℕ) (z : begun start .refused ≡ 0) (o : inOrder (bookAfter start cs .time) time ≡ true)
     (value : List ℕ → ℕ) (weight : Row → ℕ) (free-row : (r : Row) → vacantRow r ≡ true → r .slots ≡ noSlots → weight r ≡ 0) where

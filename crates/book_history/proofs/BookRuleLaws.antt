@@ -18,7 +18,8 @@ use Rattle.site_plan.specs.declared.plan.Plan.{Plan}
 use Rattle.site_plan.proofs.PlanLaws.{rule-bounds}
 use Rattle.book_members.specs.Members.{Row, vacantRow}
 use Rattle.book_members.proofs.RowLaws.{length-current}
-use Rattle.book.specs.Books.{Contents, withinRule, rowsIn, rowsAt, liveAt, noBook, freshBook, freshOf, memberReasons, heardOf, leaveOf}
+use Rattle.book.specs.Books.{Contents, withinRule, rowsIn, rowsAt, liveAt, noBook, freshBook, freshOf, heardOf, leaveOf}
+use Rattle.book.proofs.VisitLaws.{memberReasons}
 use Rattle.book.proofs.WithinLaws.{within}
 use Rattle.book.specs.Schedules.{hopRule, scheduleReasons, scheduleRefusal, scheduleOf}
 use Rattle.book_joins.specs.Joins.{joinIn, noRowFor, joinReasons, joinOf, askIn, askReasons, askOf}
@@ -125,9 +126,9 @@ module _ (b : Contents) (w : withinRule b ≡ true) where
       never-given 14 (memberReasons b unit time found) some-number
       (within-reason, (numbered _ 4 (λ z. omega arith), (numbered _ 8 (λ z. omega arith), (numbered _ 13 (λ z. omega arith), tt))))
 
-  schedule-never : (unit hop time : ℕ) (live : Bool) (room : ℕ) → hopRule (b .plan) unit hop ≡ true → scheduleRefusal b unit hop time live room ≡ 14 → ⊥
-  schedule-never unit hop time live room h =
-      never-given 14 (scheduleReasons b unit hop time live room) some-number (
+  schedule-never : (unit hop time room : ℕ) → hopRule (b .plan) unit hop ≡ true → scheduleRefusal b unit hop time room ≡ 14 → ⊥
+  schedule-never unit hop time room h =
+      never-given 14 (scheduleReasons b unit hop time room) some-number (
         within-reason,
         (
           numbered _ 4 (λ z. omega arith),
@@ -145,7 +146,7 @@ module _ (b : Contents) (w : withinRule b ≡ true) where
   only-hops (heard unit time) e = absurd (member-never unit time (liveAt b unit time) e)
   only-hops (leave unit time) e = absurd (member-never unit time (liveAt b unit time && not (eqb unit (b .plan .manager))) e)
   only-hops (schedule unit hop time out) e =
-      only-so (hopRule (b .plan) unit hop) (λ h. schedule-never unit hop time (liveAt b unit time) (length out) h (sym (unless-number _ _) ∙ e))
+      only-so (hopRule (b .plan) unit hop) (λ h. schedule-never unit hop time (length out) h (sym (unless-number _ _) ∙ e))
   only-hops (image time out) e = absurd (image-never time (length out) (sym (unless-number _ _) ∙ e))
 
 pub only-for-hops : OnlyForHops

@@ -17,13 +17,13 @@ use Rattle.frame_kinds.proofs.ReadingLaws.{passed}
 use Rattle.frame_requests.specs.Requests.{joinRequest, slotRequest}
 use Rattle.slot_sets.specs.Sets.{Slots}
 use Rattle.book_members.specs.Members.{placeFor}
-use Rattle.book.specs.Books.{Contents, withinRule, memberReasons, rowsAt, liveAt}
+use Rattle.book.specs.Books.{Contents, withinRule, rowsAt, liveAt, holding}
+use Rattle.book.proofs.VisitLaws.{memberReasons}
 use Rattle.book.specs.Schedules.{scheduleRefusal, scheduleOf}
 use Rattle.book.proofs.ScheduleLaws.{Schedulable, schedulable}
 use Rattle.book_joins.specs.Joins.{joinIn, seat, seated, noRowFor, joinReasons, joinOf, askIn, asks, askReasons, askOf}
 use Rattle.book_joins.specs.Responses.{responses}
 use Rattle.book_image.specs.Images.{imageReasons, imageWritten}
-use Rattle.book_history.specs.Laws.{holding}
 
 -- what all calls that write a row rest on
 pub record Allowed (b : Contents) (unit time : ℕ) : Type 0 where
@@ -100,12 +100,12 @@ ask-allowed b s time out e =
     )
 
 module _ (b : Contents) (unit hop time : ℕ) (out : List ℕ) (e : scheduleOf b unit hop time out .said .refusal ≡ 0) where
-  pub schedule-unrefused : scheduleRefusal b unit hop time (liveAt b unit time) (length out) ≡ 0
+  pub schedule-unrefused : scheduleRefusal b unit hop time (length out) ≡ 0
   unfolding scheduleOf
   schedule-unrefused = sym (unless-number _ _) ∙ e
 
-  pub schedule-allowed : Schedulable b unit hop time (liveAt b unit time) (length out)
-  schedule-allowed = schedulable b unit hop time (liveAt b unit time) (length out) schedule-unrefused
+  pub schedule-allowed : Schedulable b unit hop time (length out)
+  schedule-allowed = schedulable b unit hop time (length out) schedule-unrefused
 
 pub image-allowed : (b : Contents) (time : ℕ) (out : List ℕ) → imageWritten b time out .said .refusal ≡ 0 → withinRule b ≡ true
 unfolding imageWritten

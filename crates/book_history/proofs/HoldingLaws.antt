@@ -18,10 +18,10 @@ use Rattle.book_members.proofs.RowSums.{owns, passes-there, only-one}
 use Rattle.book_members.proofs.LookupLaws.{found-unit, found-other, found-same}
 use Rattle.book_members.proofs.RowRuleLaws.{Seat, address-some, ruled-current}
 use Rattle.book_members.proofs.TimedLaws.{timed-rows}
-use Rattle.book.specs.Books.{Contents, rowsIn, rowsAt, liveAt, withRow}
+use Rattle.book.specs.Books.{Contents, rowsIn, rowsAt, liveAt, withRow, holding}
 use Rattle.book_joins.specs.Joins.{askIn, askOf}
 use Rattle.book_history.specs.Calls.{Call, join, ask, heard, leave, schedule, image, refusalOf, next, unitOf, timeOf}
-use Rattle.book_history.specs.Laws.{SameHolding, OthersStay, repeats, KeepsOwn, holding, HoldApart}
+use Rattle.book_history.specs.Laws.{SameHolding, OthersStay, repeats, KeepsOwn, HoldApart}
 use Rattle.book_history.proofs.CallLaws.{Allowed}
 use Rattle.book.proofs.WithinLaws.{within}
 use Rattle.book_history.proofs.WrittenLaws.{rows-later}

@@ -14,10 +14,10 @@ use Rattle.octets.specs.Lists.{every}
 use Rattle.slot_sets.specs.Sets.{Slots, count}
 use Rattle.book_members.specs.Members.{Row, vacantRow, placeFor, vacant, spare}
 use Rattle.book_members.proofs.RowRuleLaws.{vacant-free, ruled-current}
-use Rattle.book.specs.Books.{Contents, withinRule, rowsAt}
+use Rattle.book.specs.Books.{Contents, withinRule, rowsAt, holding}
 use Rattle.book_joins.specs.Joins.{grantFor, joinIn, seat, noRowFor, joinReasons, joinOf, askIn}
 use Rattle.book_joins.proofs.ResponseLaws.{length-responses}
-use Rattle.book_history.specs.Laws.{full, Newcomer, RefusedIfFull, holding, due, Admitted, GrantedElse, AskedFor}
+use Rattle.book_history.specs.Laws.{full, Newcomer, RefusedIfFull, due, Admitted, GrantedElse, AskedFor}
 use Rattle.book.proofs.WithinLaws.{within}
 use Rattle.book_history.proofs.CallLaws.{joinedSlots, joinShort}
 use Rattle.book_history.proofs.GrantLaws.{lesser, count-granted}

@@ -23,11 +23,10 @@ use Rattle.book_members.proofs.RowSums.{weigh-set, one, tally, ofUnit}
 use Rattle.book_members.proofs.LookupLaws.{found-none, found-unit, found-there}
 use Rattle.book_members.proofs.PairLaws.{led-first}
 use Rattle.book_members.proofs.RowRuleLaws.{address-some, units-least}
-use Rattle.book.specs.Books.{Contents, withinRule, rowsIn, rowsAt, liveAt, heardOf, leaveOf}
+use Rattle.book.specs.Books.{Contents, withinRule, rowsIn, rowsAt, liveAt, heardOf, leaveOf, holding}
 use Rattle.book.proofs.WithinLaws.{within}
 use Rattle.book_joins.specs.Responses.{slotsTold, toldIn}
 use Rattle.book_history.specs.Calls.{Call, join, ask, heard, leave, schedule, image, refusalOf, next, unitOf, timeOf}
-use Rattle.book_history.specs.Laws.{holding}
 use Rattle.book_history.proofs.WrittenLaws.{rows-written}
 use Rattle.book_history.proofs.TakingLaws.{ruled-rows, some-unit, Taken, join-taken, ask-taken, heard-taken, taken-within, leave-freed}
 use Rattle.book_history.proofs.RuleLaws.{keeps-rule, refused-keeps, keeps-plan}

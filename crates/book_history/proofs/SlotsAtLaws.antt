@@ -19,10 +19,10 @@ use Rattle.book_members.proofs.LookupLaws.{found-tally, found-unit}
 use Rattle.book_members.proofs.PairLaws.{led-first}
 use Rattle.book_members.proofs.RowRuleLaws.{units-least}
 use Rattle.book_members.proofs.TimedLaws.{timed-rows}
-use Rattle.book.specs.Books.{Contents, withinRule, rowsIn, rowsAt, liveAt}
+use Rattle.book.specs.Books.{Contents, withinRule, rowsIn, rowsAt, liveAt, holding}
 use Rattle.book.proofs.WithinLaws.{within}
 use Rattle.book_joins.specs.Responses.{slotsTold}
-use Rattle.book_history.specs.Laws.{SameHolding, holding}
+use Rattle.book_history.specs.Laws.{SameHolding}
 use Rattle.book_history.proofs.SilenceLaws.{lasts, live-lasts, row-lasts, slots-last}
 use Rattle.book_history.specs.Histories.{Grant, grant, counts}
 use Rattle.book_history.specs.BookLaws.{slotsAt}

@@ -9,7 +9,7 @@ use lib.ListN.{length, set, length-take}
 use lib.Seq.{take-set-lt, drop-set-lt}
 use Rattle.moments.proofs.MomentLaws.{no-age}
 use Rattle.slot_sets.specs.Sets.{Slots}
-use Rattle.book_members.specs.Members.{Row, kept, current}
+use Rattle.book_members.specs.Members.{Row, kept, current, memberWith}
 use Rattle.book_members.specs.Rules.{emptyIs}
 use Rattle.book_members.proofs.RowLaws.{row, DroppedOn, kept-again, length-current, every-behind, keptAt, current-set}
 use Rattle.book_members.proofs.RowRuleLaws.{empty-is}
@@ -49,9 +49,6 @@ module _ (b : Contents) (time at : ℕ) (r : Row) (there : at < length (rowsAt b
             (every-behind emptyIs empty-is time (b .plan .rows) (b .places) (w .behind));
       })
 
--- a unit's row of this time, which counts then
-abbrev pub rowNow : ℕ → ℕ → Slots 64 → Row
-rowNow unit time own = record { unit = unit; slots = own; time = time }
-
-pub kept-now : (unit time : ℕ) (own : Slots 64) → kept time (rowNow unit time own) ≡ rowNow unit time own
+-- a unit's row of this time counts then
+pub kept-now : (unit time : ℕ) (own : Slots 64) → kept time (memberWith unit own time) ≡ memberWith unit own time
 kept-now unit time own = rw (no-age time)

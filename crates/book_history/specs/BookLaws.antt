@@ -14,12 +14,12 @@ use Rattle.octets.specs.Addresses.{address}
 use Rattle.slot_sets.specs.Sets.{count}
 use Rattle.site_plan.specs.Schedules.{sends, inBeacons, inControls, inData}
 use Rattle.book_members.specs.Members.{placeFor, free}
-use Rattle.book.specs.Books.{Contents, withinRule, rowsAt, liveAt}
+use Rattle.book.specs.Books.{Contents, withinRule, rowsAt, liveAt, holding}
 use Rattle.book.specs.Schedules.{hopRule, scheduleOf}
 use Rattle.book_joins.specs.Joins.{joinOf}
 use Rattle.book_joins.specs.Responses.{slotsTold}
 use Rattle.book_history.specs.Calls.{Call, join, ask, heard, leave, schedule, image, refusalOf, about, unitOf}
-use Rattle.book_history.specs.Laws.{full, Newcomer, due, Admitted, holding, kindIn}
+use Rattle.book_history.specs.Laws.{full, Newcomer, due, Admitted, kindIn}
 use Rattle.book_history.specs.Histories.{Start, begun, afterCalls, Happened, recorded, stepOf, clockOf, recentAt, grantedAt, dataGranted, unitsGranted}
 
 -- the book after a history

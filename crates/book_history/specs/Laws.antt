@@ -15,7 +15,7 @@ use Rattle.slot_sets.specs.Sets.{Slots, count, disjoint}
 use Rattle.site_plan.specs.declared.plan.Plan.{Plan}
 use Rattle.site_plan.specs.Schedules.{sleep, sends, inBeacons, inControls, inData}
 use Rattle.book_members.specs.Members.{Row, emptyRow, vacantRow, placeFor, free, spare}
-use Rattle.book.specs.Books.{Contents, withinRule, rowsAt, liveAt, freshOf}
+use Rattle.book.specs.Books.{Contents, withinRule, rowsAt, liveAt, holding, freshOf}
 use Rattle.book.specs.Schedules.{scheduleOf}
 use Rattle.book_joins.specs.Joins.{wish, grantFor, joinIn, joinOf, askIn, askOf}
 use Rattle.book_bytes.specs.Trips.{Sized}
@@ -58,10 +58,6 @@ abbrev pub RefusedIfFull : Type 0
 RefusedIfFull =
     (b : Contents) (s : List ℕ) (time : ℕ) (out : List ℕ) → withinRule b ≡ true → Newcomer b s time
     → (full b time ≡ true → joinOf b s time out .refused ≡ 12) × (joinOf b s time out .refused ≡ 12 → full b time ≡ true)
-
--- the slots that a unit holds at a time
-abbrev pub holding : Contents → ℕ → ℕ → Slots 64
-holding b unit time = getD (rowsAt b time) (placeFor unit (rowsAt b time)) emptyRow .slots
 
 -- how many a newcomer gets: min(max(1, asked), 4, spare+1)
 abbrev pub due : Contents → List ℕ → ℕ → ℕ

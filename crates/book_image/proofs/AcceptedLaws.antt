@@ -16,7 +16,7 @@ use Rattle.moments.proofs.MomentLaws.{in-order-self}
 use Rattle.site_plan.specs.Plans.{planRule}
 use Rattle.site_plan.proofs.PlanLaws.{rule-bounds, kept}
 use Rattle.slot_sets.specs.Sets.{count}
-use Rattle.book_members.specs.Members.{Row, emptyRow, free, vacant}
+use Rattle.book_members.specs.Members.{Row, emptyRow, free, vacant, restoredAt}
 use Rattle.book_members.specs.Rules.{emptyIs, rowRule, rowsRule, distinct}
 use Rattle.book_members.proofs.RowSums.{tally-distinct, tally-apart}
 use Rattle.book_members.proofs.RowRuleLaws.{address-some, member-rule, rule-either, rule-zeros, rule-empty, empty-is, Ruled, ruled, vacant-free}
@@ -25,7 +25,7 @@ use Rattle.book.specs.Books.{rowsIn, withinRule}
 use Rattle.book.proofs.WithinLaws.{within, by-parts}
 use Rattle.book_image.specs.Forms.{headWidths, headValues, formSize, same, fits}
 use Rattle.book_image.specs.Images.{sections, planIn, rowIn, imageBook, acceptedImage}
-use Rattle.book_image.specs.Laws.{renewed, Used, Acceptable, AcceptedExactly}
+use Rattle.book_image.specs.Laws.{Used, Acceptable, AcceptedExactly}
 use Rattle.book_image.proofs.RestoringLaws.{placeIn}
 use Rattle.book_image.proofs.RenewedLaws.{ruled-renewed}
 
@@ -102,9 +102,9 @@ module _ (s : List ℕ) (time : ℕ) where
       }))
 
   -- at another time
-  rows-then : (then : ℕ) → map (renewed then) (rowsFrom s time) ≡ rowsFrom s then
+  rows-then : (then : ℕ) → map (restoredAt then) (rowsFrom s time) ≡ rowsFrom s then
   unfolding rowIn
-  rows-then then = map-tab (renewed then) (planIn s .rows) (rowIn s time)
+  rows-then then = map-tab (restoredAt then) (planIn s .rows) (rowIn s time)
 
   good-then : (then : ℕ) → Good s time → Good s then
   good-then then g = record { fit = g .fit; plan = g .plan; rows = rw (rows-then then) at (ruled-renewed then (g .rows)) }

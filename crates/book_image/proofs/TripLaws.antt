@@ -23,7 +23,7 @@ use Rattle.slot_sets.proofs.BitLaws.{set-of-mask}
 use Rattle.slot_sets.proofs.MaskLaws.{mask-back, set-back}
 use Rattle.site_plan.specs.Plans.{planValues}
 use Rattle.site_plan.proofs.PlanLaws.{rule-bounds}
-use Rattle.book_members.specs.Members.{Row, emptyRow, vacantRow, kept, current}
+use Rattle.book_members.specs.Members.{Row, emptyRow, vacantRow, kept, current, restoredAt, memberWith}
 use Rattle.book_members.specs.Rules.{rowRule}
 use Rattle.book_members.proofs.RowLaws.{length-current, kept-empty}
 use Rattle.book_members.proofs.RowRuleLaws.{rule-zeros, rule-either}
@@ -32,7 +32,7 @@ use Rattle.book.proofs.WithinLaws.{RowsRuled, Within, within, rows-then}
 use Rattle.site_plan.specs.PlanBytes.{planWidths, planFrom, planAt, planBytes}
 use Rattle.book_image.specs.Forms.{headWidths, headValues, headBytes, formSize}
 use Rattle.book_image.specs.Images.{rowWidths, sections, rowsBytes, imageOf, planIn, rowIn, imageBook}
-use Rattle.book_image.specs.Laws.{WrittenAgain, renewed, Sized, RestoredAs, Restored}
+use Rattle.book_image.specs.Laws.{WrittenAgain, Sized, RestoredAs, Restored}
 use Rattle.book_image.proofs.ImageLaws.{rowValues, rows-run, length-head, length-front}
 use Rattle.book_image.proofs.RenewedLaws.{ruled-renewed}
 use Rattle.book_image.proofs.AcceptedLaws.{fits-parts, parts-fit, rowsFrom, Good, rows-used, good, accepted}
@@ -114,9 +114,9 @@ each-fits manager dataSlots last r rs e =
     (row-fits manager dataSlots last r here, later)
 
 abbrev rowFrom : ℕ → List ℕ → Row
-rowFrom time vs = record { unit = getD vs 0 0; slots = slotsOf (getD vs 1 0); time = cond (eqb (getD vs 0 0) 0) 0 time }
+rowFrom time vs = restoredAt time (memberWith (getD vs 0 0) (slotsOf (getD vs 1 0)) 0)
 
-rows-back : (time : ℕ) (rs : List Row) → map (λ r. rowFrom time (rowValues r)) rs ≡ map (renewed time) rs
+rows-back : (time : ℕ) (rs : List Row) → map (λ r. rowFrom time (rowValues r)) rs ≡ map (restoredAt time) rs
 rows-back time [] = refl
 rows-back time (r ∷ rs) = rw (set-back (r .slots), rows-back time rs)
 
@@ -155,7 +155,7 @@ module _ (b : Contents) (time : ℕ) (z : Sized b) (w : Within b) (h : inOrder (
   size-read =
       rw (length-append (headBytes (sections count) ++ planBytes (b .plan)) (rowsBytes rows), length-front (b .plan), run-length rows-run rows, length-rows) (omega arith)
 
-  rows-read : tab count (rowIn image time) ≡ map (renewed time) rows
+  rows-read : tab count (rowIn image time) ≡ map (restoredAt time) rows
   unfolding imageOf rowIn
   rows-read =
       let rule = rowRule (b .plan .manager) (b .plan .«data_slots») time in

@@ -4,7 +4,7 @@ use Prim.Native.Nat.{ℕ, _+_, _-_, min, max}
 use mathlib.Core.Bool.{Bool, not, _&&_, cond}
 use mathlib.Core.List.{List, [], _∷_}
 use lib.Dec.{eqb, leb, ltb}
-use lib.ListN.{length, getD}
+use lib.ListN.{length}
 use lib.Seq.{sets}
 use Rattle.octets.specs.Answers.{Reason, reason, refusing, first}
 use Rattle.octets.specs.Calls.{after}
@@ -15,15 +15,15 @@ use Rattle.frame_requests.specs.declared.join_request.JoinRequest.{JoinRequest}
 use Rattle.frame_requests.specs.declared.slot_request.SlotRequest.{SlotRequest}
 use Rattle.frame_requests.specs.Requests.{joinRequest, joinRequestFrom, slotRequest, slotRequestFrom}
 use Rattle.slot_sets.specs.Sets.{Slots, union, count, lowest, withoutHighest}
-use Rattle.book_members.specs.Members.{Row, emptyRow, placeFor, free, vacant, spare}
-use Rattle.book.specs.Books.{Contents, contents, withinRule, rowsAt, liveAt, withRow}
+use Rattle.book_members.specs.Members.{Row, memberWith, fewestSlots, mostSlots, placeFor, free, vacant, spare}
+use Rattle.book.specs.Books.{Contents, contents, withinRule, rowsAt, liveAt, holding, withRow}
 use Rattle.book_joins.specs.declared.grants.Granted.{Granted}
 use Rattle.book_joins.specs.Responses.{responses}
 
 -- ---- how many slots, and which
--- what a unit may ask for: at least 1, at most 4
+-- what a unit may ask for
 abbrev pub wish : ℕ → ℕ
-wish asked = min (max 1 asked) 4
+wish asked = min (max fewestSlots asked) mostSlots
 
 -- a newcomer's slots: the lowest min(max(1, asked), 4, spare+1) free ones
 abbrev pub grantFor : ℕ → List Row → ℕ → Slots 64
@@ -56,7 +56,7 @@ grants refused b unit time at own out =
     record {
       refused = refused;
       written = after refused 0 (length bytes);
-      book = after refused b (withRow b time at (record { unit = unit; slots = own; time = time }));
+      book = after refused b (withRow b time at (memberWith unit own time));
       held = after refused out (sets out 0 bytes);
     }
 
@@ -72,7 +72,7 @@ seat b unit time = cond (liveAt b unit time) (placeFor unit (rowsAt b time)) (pl
 abbrev pub seated : Contents → ℕ → ℕ → ℕ → Slots 64
 seated b unit time asked =
     cond (liveAt b unit time)
-    (getD (rowsAt b time) (placeFor unit (rowsAt b time)) emptyRow .slots)
+    (holding b unit time)
     (grantFor (b .plan .«data_slots») (rowsAt b time) asked)
 
 -- no row is free, and the unit has none
@@ -118,6 +118,6 @@ unfoldable pub askOf : Contents → List ℕ → ℕ → List ℕ → Answered
 askOf b s time out =
     let unit = askIn s .node in
     let at = placeFor unit (rowsAt b time) in
-    let own = asks (b .plan .«data_slots») (rowsAt b time) (getD (rowsAt b time) at emptyRow .slots) (askIn s .slots) in
+    let own = asks (b .plan .«data_slots») (rowsAt b time) (holding b unit time) (askIn s .slots) in
     let short = ltb (length out) (length (responses (b .plan) unit time at own)) in
     grants (first (askReasons b s time (liveAt b unit time) short)) b unit time at own out

@@ -17,7 +17,7 @@ use Rattle.slot_sets.specs.Sets.{Slots, has, count, isEmpty, Subset, noSlots, u
 use Rattle.slot_sets.proofs.SetLaws.{nothing-has, empty-is-nothing, subset-by-minus, union-either, in-union, minus-both, meet-subset}
 use Rattle.slot_sets.proofs.CountLaws.{empty-by-count, count-of-union, count-of-minus}
 use Rattle.slot_sets.proofs.LowestLaws.{count-of-firsts}
-use Rattle.book_members.specs.Members.{Row, emptyRow, vacantRow, kept, current, placeFor, heldSlots, free, vacant, spare}
+use Rattle.book_members.specs.Members.{Row, emptyRow, vacantRow, kept, current, placeFor, heldSlots, free, vacant, spare, memberWith}
 use Rattle.book_members.specs.Rules.{emptyIs, rowRule, distinct, apart, ledBy, rowsRule}
 use Rattle.book_members.proofs.RowLaws.{row, every-map, every-current, every-set, kept-either}
 use Rattle.book_members.proofs.RowSums.{weigh, weigh-set, weigh-current, one, tally, ofUnit, owns, distinct-tally, tally-distinct, held-none, apart-tally, tally-apart}
@@ -37,7 +37,7 @@ address-some unit e z = omega (arith, leb-true 1 unit (and-eq-true-iff (leb 1 un
 pub no-count : count (noSlots {n = 64}) ≡ 0
 no-count = eqb-true (count (noSlots {n = 64})) 0 (sym (empty-by-count 64 noSlots) ∙ empty-is-nothing 64 noSlots .1 refl)
 
-row-zeros : (unit : ℕ) (slots : Slots 64) (time : ℕ) → unit ≡ 0 → slots ≡ noSlots → time ≡ 0 → _≡_ {A = Row} (record { unit = unit; slots = slots; time = time }) emptyRow
+row-zeros : (unit : ℕ) (slots : Slots 64) (time : ℕ) → unit ≡ 0 → slots ≡ noSlots → time ≡ 0 → memberWith unit slots time ≡ emptyRow
 row-zeros unit slots time a b c = rw (a, b, c)
 
 module _ (manager dataSlots last : ℕ) (r : Row) where

@@ -8,7 +8,7 @@ use Rattle.octets.specs.Lists.{every}
 use Rattle.moments.specs.Moments.{inOrder}
 use Rattle.octets.specs.Addresses.{address}
 use Rattle.slot_sets.specs.Sets.{minus, count, isEmpty, disjoint, firsts}
-use Rattle.book_members.specs.Members.{Row, vacantRow, heldSlots, free, vacant}
+use Rattle.book_members.specs.Members.{Row, vacantRow, fewestSlots, mostSlots, heldSlots, free, vacant}
 
 -- a row is zeros
 abbrev pub emptyIs : Row → Bool
@@ -18,7 +18,7 @@ emptyIs r = vacantRow r && isEmpty (r .slots) && eqb (r .time) 0
 abbrev pub rowRule : ℕ → ℕ → ℕ → Row → Bool
 rowRule manager dataSlots last r =
     cond (vacantRow r) (emptyIs r)
-    (address (r .unit) && (leb 1 (count (r .slots)) && leb (count (r .slots)) 4) && isEmpty (minus (r .slots) (firsts dataSlots)) && (eqb (r .unit) manager || inOrder (r .time) last))
+    (address (r .unit) && (leb fewestSlots (count (r .slots)) && leb (count (r .slots)) mostSlots) && isEmpty (minus (r .slots) (firsts dataSlots)) && (eqb (r .unit) manager || inOrder (r .time) last))
 
 -- a unit has no other row among these
 abbrev pub unknownIn : ℕ → List Row → Bool

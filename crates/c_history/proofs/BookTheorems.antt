@@ -9,11 +9,11 @@ use Rattle.octets.specs.Lists.{every}
 use Rattle.octets.proofs.EachLaws.{each-append}
 use Rattle.moments.specs.Moments.{inOrder}
 use Rattle.slot_sets.specs.Sets.{count}
-use Rattle.book.specs.Books.{Contents, rowsAt, liveAt}
+use Rattle.book.specs.Books.{Contents, rowsAt, liveAt, holding}
 use Rattle.book.specs.Schedules.{scheduleOf}
 use Rattle.book_joins.specs.Joins.{wish, grantFor, joinIn, joinOf}
 use Rattle.book_history.specs.Calls.{Call, join, ask, schedule, next, about, unitOf}
-use Rattle.book_history.specs.Laws.{due, Admitted, holding}
+use Rattle.book_history.specs.Laws.{due, Admitted}
 use Rattle.book_history.proofs.JoinLaws.{asked-for}
 use Rattle.book_history.proofs.TakingLaws.{ask-taken, taken-live}
 use Rattle.book_bytes.specs.BookBytes.{bookIn, bookBytes}

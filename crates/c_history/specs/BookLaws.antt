@@ -14,10 +14,10 @@ use Rattle.octets.specs.Addresses.{address}
 use Rattle.slot_sets.specs.Sets.{count}
 use Rattle.site_plan.specs.Schedules.{sends, inBeacons, inControls, inData}
 use Rattle.book_members.specs.Members.{free, spare}
-use Rattle.book.specs.Books.{Contents, withinRule, rowsAt, liveAt}
+use Rattle.book.specs.Books.{Contents, withinRule, rowsAt, liveAt, holding}
 use Rattle.book_joins.specs.Joins.{wish, grantFor, joinIn, askIn}
 use Rattle.book_history.specs.Calls.{Call, join, ask, next}
-use Rattle.book_history.specs.Laws.{full, Newcomer, due, holding, kindIn}
+use Rattle.book_history.specs.Laws.{full, Newcomer, due, kindIn}
 use Rattle.book_bytes.specs.BookBytes.{bookSize, bookIn, bookBytes}
 use Rattle.book_bytes.specs.Trips.{Sized}
 use Rattle.book_history.specs.Histories.{begun, afterCalls, stepOf, clockOf, dataGranted, unitsGranted}

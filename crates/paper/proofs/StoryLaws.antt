@@ -12,7 +12,7 @@ use Rattle.frame_kinds.specs.Reading.{isSealed, readRefusal}
 use Rattle.frame_kinds.specs.Shape.{sealed}
 use Rattle.slot_sets.specs.Sets.{has, count, isEmpty, fill, slotwise, noSlots, allSlots, union, meet, minus, lowest, withoutHighest, bits, slotsOf, firsts}
 use Rattle.site_plan.specs.Plans.{slotsIn}
-use Rattle.book_members.specs.Members.{Row, emptyRow, current, placeFor, heldSlots, vacant}
+use Rattle.book_members.specs.Members.{Row, emptyRow, current, placeFor, heldSlots, vacant, memberWith}
 use Rattle.book_members.specs.Rules.{rowsRule}
 use Rattle.book.specs.Books.{Contents, withinRule, freshBook, leaveOf}
 use Rattle.book_joins.specs.Joins.{joinOf, askOf}
@@ -30,7 +30,7 @@ step b c said after cs h = rw (h .says, h .leaves)
 -- ---- the books, at time 0
 -- a member with the data slots whose bits are set in a mask: 14 is 1 to 3, 16 is 4, 32 is 5, 22 is 1, 2 and 4, 8 is 3
 unfoldable pub member : ℕ → ℕ → Row
-member unit mask = record { unit = unit; slots = slotsOf mask; time = 0 }
+member unit mask = memberWith unit (slotsOf mask) 0
 
 unfoldable pub nobody : Row
 nobody = emptyRow

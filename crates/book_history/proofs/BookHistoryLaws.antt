@@ -13,7 +13,6 @@ use Rattle.moments.proofs.ElapsedLaws as elapsed
 use Rattle.octets.specs.Addresses.{address}
 use Rattle.slot_sets.specs.Sets.{Slots, count, noSlots}
 use Rattle.book_members.specs.Members.{Row, vacantRow, placeFor, free}
-use Rattle.book_members.proofs.RowLaws.{row}
 use Rattle.book_members.proofs.LookupLaws.{found-unit}
 use Rattle.book_members.proofs.RowSums.{weigh, one, tally}
 use Rattle.book_members.proofs.RowRuleLaws.{address-some, no-count, ruled-current}
@@ -63,7 +62,7 @@ module _ (start : Start) (cs : List Call) (time : ℕ) (z : begun start .refused
     granted-all : (n : ℕ) → n ≡ lastAddress → sumTo (λ u. value (grantedAt start cs u time)) n ≡ weigh weight rows
     granted-all n e =
         sum-same (λ u. value (grantedAt start cs u time)) (λ u. weigh (mine weight u) rows) n each
-        ∙ units-sum weight (b .plan .manager) (b .plan .«data_slots») (b .time) n most free-row rows (ruled .each)
+        ∙ units-sum weight (b .plan .«data_slots») n most free-row rows (ruled .each)
       where
         most : (u : ℕ) → address u ≡ true → u ≤ n
         most u a = omega (arith, e, leb-true u 0xFFFE (and-eq-true-iff (leb 1 u) (leb u 0xFFFE) .0 a .1))

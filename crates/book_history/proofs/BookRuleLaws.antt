@@ -22,9 +22,8 @@ use Rattle.book.specs.Books.{Contents, withinRule, rowsIn, rowsAt, liveAt, noBo
 use Rattle.book.proofs.VisitLaws.{memberReasons}
 use Rattle.book.proofs.WithinLaws.{within}
 use Rattle.book.specs.Schedules.{hopRule, scheduleReasons, scheduleRefusal, scheduleOf}
-use Rattle.book_joins.specs.Joins.{joinIn, noRowFor, joinReasons, joinOf, askIn, askReasons, askOf}
+use Rattle.book_joins.specs.Joins.{joinReasons, joinOf, askReasons, askOf}
 use Rattle.book_history.specs.Calls.{Call, join, ask, heard, leave, schedule, image, refusalOf, next}
-use Rattle.book_history.proofs.CallLaws.{joinShort, askShort}
 use Rattle.book_history.proofs.RuleLaws.{keeps-rule, keeps-plan}
 use Rattle.book_history.proofs.FreshLaws.{every-empty}
 use Rattle.book_history.proofs.HoldingLaws.{by-refusal}
@@ -101,9 +100,9 @@ module _ (b : Contents) (w : withinRule b ≡ true) where
   within-reason : reason (not (withinRule b)) 14 .number ≡ 14 → reason (not (withinRule b)) 14 .holds ≡ false
   within-reason = in-rule (withinRule b) w
 
-  join-never : (s : List ℕ) (time : ℕ) (noRow short : Bool) → first (joinReasons b s time noRow short) ≡ 14 → ⊥
-  join-never s time noRow short =
-      never-given 14 (joinReasons b s time noRow short) some-number (
+  join-never : (s : List ℕ) (time room : ℕ) → first (joinReasons b s time room) ≡ 14 → ⊥
+  join-never s time room =
+      never-given 14 (joinReasons b s time room) some-number (
         within-reason,
         (
           read-never joinRequest s,
@@ -111,9 +110,9 @@ module _ (b : Contents) (w : withinRule b ≡ true) where
         ),
       )
 
-  ask-never : (s : List ℕ) (time : ℕ) (live short : Bool) → first (askReasons b s time live short) ≡ 14 → ⊥
-  ask-never s time live short =
-      never-given 14 (askReasons b s time live short) some-number (
+  ask-never : (s : List ℕ) (time room : ℕ) → first (askReasons b s time room) ≡ 14 → ⊥
+  ask-never s time room =
+      never-given 14 (askReasons b s time room) some-number (
         within-reason,
         (
           read-never slotRequest s,
@@ -141,8 +140,8 @@ module _ (b : Contents) (w : withinRule b ≡ true) where
 
   only-hops : (c : Call) → refusalOf b c ≡ 14 → wrongHop b c ≡ true
   unfolding joinOf askOf heardOf leaveOf scheduleOf imageWritten
-  only-hops (join s time out) e = absurd (join-never s time (noRowFor b (joinIn s .node) time) (joinShort b s time out) e)
-  only-hops (ask s time out) e = absurd (ask-never s time (liveAt b (askIn s .node) time) (askShort b s time out) e)
+  only-hops (join s time out) e = absurd (join-never s time (length out) e)
+  only-hops (ask s time out) e = absurd (ask-never s time (length out) e)
   only-hops (heard unit time) e = absurd (member-never unit time (liveAt b unit time) e)
   only-hops (leave unit time) e = absurd (member-never unit time (liveAt b unit time && not (eqb unit (b .plan .manager))) e)
   only-hops (schedule unit hop time out) e =

@@ -24,22 +24,16 @@ use Rattle.book_history.proofs.KnownLaws.{heard-counts, chosen, Known, 
 
 -- what counts wholly at a time counts so at each before it
 sooner : (p : Plan) (unit now then : ℕ) (g : Grant) → now ≤ then → counts p unit then g ≡ g .told → counts p unit now g ≡ g .told
-sooner p unit now then g h e = go (recent p unit then g) refl
+sooner p unit now then g h e = go (recent p unit now g) (recent p unit then g) (before (eqb unit (p .manager))) e
   where
-    so : (t : Bool) → t ≡ true → cond t (g .told) [] ≡ g .told
-    so t q = ap (λ (x : Bool). cond x (g .told) []) q
-
-    nothing : (t : Bool) → [] ≡ g .told → cond t (g .told) [] ≡ g .told
-    nothing true q = refl
-    nothing false q = q
-
     before : (m : Bool) → (m || leb then (g .at + 300000)) ≡ true → (m || leb now (g .at + 300000)) ≡ true
     before true q = refl
     before false q = le-leb now _ (omega (arith, h, leb-true then (g .at + 300000) q))
 
-    go : (t : Bool) → recent p unit then g ≡ t → counts p unit now g ≡ g .told
-    go true q = so (recent p unit now g) (before (eqb unit (p .manager)) q)
-    go false q = nothing (recent p unit now g) (sym (ap (λ (x : Bool). cond x (g .told) []) q) ∙ e)
+    go : (s t : Bool) → (t ≡ true → s ≡ true) → cond t (g .told) [] ≡ g .told → cond s (g .told) [] ≡ g .told
+    go true t on q = refl
+    go false true on q = absurd (false≢true (on refl))
+    go false false on q = q
 
 module _ (unit : ℕ) (a : address unit ≡ true) where
   -- a unit was told the same before, and then all of that counted

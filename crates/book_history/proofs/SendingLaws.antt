@@ -19,7 +19,7 @@ use Rattle.site_plan.proofs.PlanLaws.{rule-bounds}
 use Rattle.site_plan.proofs.SendingLaws.{one-sender-of-units, one-hop-of-units}
 use Rattle.book_members.specs.Members.{placeFor}
 use Rattle.book_members.proofs.LookupLaws.{found-same}
-use Rattle.book.specs.Books.{Contents, rowsAt, liveAt, holding}
+use Rattle.book.specs.Books.{Contents, rowsAt, holding}
 use Rattle.book.specs.Schedules.{scheduleRefusal, scheduleOf}
 use Rattle.book.proofs.ScheduleLaws.{Schedulable}
 use Rattle.book_history.specs.Laws.{kindIn, OneSenderInBook, OneHopInBook}

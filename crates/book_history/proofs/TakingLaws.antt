@@ -19,9 +19,9 @@ use Rattle.book_members.proofs.LookupLaws.{found-unit, found-set}
 use Rattle.book_members.proofs.RowRuleLaws.{Seat, Share, address-some, ruled-taken}
 use Rattle.book_members.proofs.SeatLaws.{live-seat, free-seat}
 use Rattle.book.specs.Books.{Contents, withinRule, rowsAt, liveAt, withRow, heardOf, leaveOf, holding}
-use Rattle.book_joins.specs.Joins.{seat, seated, grantFor, asks, noRowFor, joinIn, joinOf, askIn, askOf}
+use Rattle.book_joins.specs.Joins.{seat, seated, grantFor, asks, noRowFor, joinIn, joinOf, askIn, askOf, askedSlots}
 use Rattle.book_history.specs.Calls.{Call, join, ask, heard, timeOf, unitOf, next}
-use Rattle.book_history.proofs.CallLaws.{Allowed, joinedSlots, askedSlots, member-allowed, join-allowed, ask-allowed}
+use Rattle.book_history.proofs.CallLaws.{Allowed, joinedSlots, member-allowed, join-allowed, ask-allowed}
 use Rattle.book.proofs.WithinLaws.{RowsRuled, Within, within, rows-then}
 use Rattle.book_history.proofs.WrittenLaws.{kept-now, rows-at-written, within-written}
 use Rattle.book_history.proofs.ShareLaws.{own-share, asks-share, granted-share}

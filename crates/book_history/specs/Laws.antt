@@ -11,10 +11,10 @@ use Rattle.moments.specs.Moments.{ageAt, inOrder}
 use Rattle.frame_kinds.specs.Reading.{refusalAs}
 use Rattle.octets.specs.Addresses.{address}
 use Rattle.frame_requests.specs.Requests.{joinRequest}
-use Rattle.slot_sets.specs.Sets.{Slots, count, disjoint}
+use Rattle.slot_sets.specs.Sets.{count, disjoint}
 use Rattle.site_plan.specs.declared.plan.Plan.{Plan}
 use Rattle.site_plan.specs.Schedules.{sleep, sends, inBeacons, inControls, inData}
-use Rattle.book_members.specs.Members.{Row, emptyRow, vacantRow, placeFor, free, spare}
+use Rattle.book_members.specs.Members.{Row, vacantRow, placeFor, free, spare}
 use Rattle.book.specs.Books.{Contents, withinRule, rowsAt, liveAt, holding, freshOf}
 use Rattle.book.specs.Schedules.{scheduleOf}
 use Rattle.book_joins.specs.Joins.{wish, grantFor, joinIn, joinOf, askIn, askOf}

@@ -1,19 +1,18 @@
 -- What holds of images, as statements.
 -- Assumes nothing.
 use mathlib.Core.Path.{_≡_}
-use mathlib.Core.Bool.{true, cond}
+use mathlib.Core.Bool.{true}
 use mathlib.Core.List.{List, [], _∷_, map}
 use mathlib.Core.Logic.{_⊎_}
-use Prim.Native.Nat.{ℕ, _+_, _*_, _^_, _<_, _≤_}
-use lib.ListN.{length, getD}
+use Prim.Native.Nat.{ℕ, _+_, _*_, _<_, _≤_}
+use lib.ListN.{length}
 use Rattle.octets.specs.Layouts.{Fit, Bytes, fields}
 use Rattle.octets.specs.Lists.{tab}
-use Rattle.octets.specs.Numbers.{num}
 use Rattle.moments.specs.Moments.{inOrder}
-use Rattle.octets.specs.Addresses.{address}
-use Rattle.slot_sets.specs.Sets.{Slots, Subset, Apart, count, noSlots, firsts}
+use Rattle.slot_sets.specs.Sets.{Apart, count}
 use Rattle.site_plan.specs.Plans.{planRule, planValues}
-use Rattle.book_members.specs.Members.{Row, emptyRow, fewestSlots, mostSlots, restoredAt, free, vacant}
+use Rattle.book_members.specs.Members.{emptyRow, restoredAt, free, vacant}
+use Rattle.book_members.specs.Rules.{Used}
 use Rattle.book.specs.Books.{Contents, withinRule, rowsAt, rowsIn}
 use Rattle.site_plan.specs.PlanBytes.{planWidths}
 use Rattle.book_image.specs.Images.{planIn, rowIn, imageBook, imageOf, acceptedImage}
@@ -36,13 +35,6 @@ pub record RestoredAs (b : Contents) (time : ℕ) : Type 0 where
 
 abbrev pub Restored : Type 0
 Restored = (b : Contents) (time : ℕ) → Sized b → withinRule b ≡ true → inOrder (b .time) time ≡ true → RestoredAs b time
-
--- a row that is in use: an address, with 1 to 4 of the data slots
-pub record Used (dataSlots : ℕ) (r : Row) : Type 0 where
-  pub unit : address (r .unit) ≡ true
-  pub least : fewestSlots ≤ count (r .slots)
-  pub most : count (r .slots) ≤ mostSlots
-  pub inside : Subset (r .slots) (firsts dataSlots)
 
 -- document 01's list of what an accepted image keeps
 pub record Acceptable (s : List ℕ) : Type 0 where

@@ -79,45 +79,50 @@ seated b unit time asked =
 abbrev pub noRowFor : Contents → ℕ → ℕ → Bool
 noRowFor b unit time = not (liveAt b unit time) && eqb (vacant (rowsAt b time)) 0
 
--- 14 1 2 1 3 4 6 15 8 12 5, where there is no row or is one, and the responses do not fit or do; a request for network 0 is for any
-abbrev pub joinReasons : Contents → List ℕ → ℕ → Bool → Bool → List Reason
-joinReasons b s time noRow short =
+-- what it is told
+unfoldable pub joinResponses : Contents → List ℕ → ℕ → List ℕ
+joinResponses b s time = let unit = joinIn s .node in responses (b .plan) unit time (seat b unit time) (seated b unit time (joinIn s .slots))
+
+-- 14 1 2 1 3 4 6 15 8 12 5, in a buffer with this room; a request for network 0 is for any
+abbrev pub joinReasons : Contents → List ℕ → ℕ → ℕ → List Reason
+joinReasons b s time room =
     reason (not (withinRule b)) 14 ∷
     refusing (refusalAs joinRequest s) ∷
     reason (eqb (joinIn s .node) (b .plan .manager)) 6 ∷
     reason (not (eqb (joinIn s .network) 0) && not (eqb (joinIn s .network) (b .plan .network))) 15 ∷
     reason (not (inOrder (b .time) time)) 8 ∷
-    reason noRow 12 ∷
-    reason short 5 ∷
+    reason (noRowFor b (joinIn s .node) time) 12 ∷
+    reason (ltb room (length (joinResponses b s time))) 5 ∷
     []
 
 unfoldable pub joinOf : Contents → List ℕ → ℕ → List ℕ → Answered
 joinOf b s time out =
     let unit = joinIn s .node in
-    let at = seat b unit time in
-    let own = seated b unit time (joinIn s .slots) in
-    let short = ltb (length out) (length (responses (b .plan) unit time at own)) in
-    grants (first (joinReasons b s time (noRowFor b unit time) short)) b unit time at own out
+    grants (first (joinReasons b s time (length out))) b unit time (seat b unit time) (seated b unit time (joinIn s .slots)) out
 
 -- ---- slot request
 abbrev pub askIn : List ℕ → SlotRequest
 askIn s = slotRequestFrom (valuesIn slotRequest s)
 
--- 14 1 2 1 3 4 6 8 13 5, where the unit is a live member or not, and the responses do not fit or do
-abbrev pub askReasons : Contents → List ℕ → ℕ → Bool → Bool → List Reason
-askReasons b s time live short =
+-- what a member then holds, and what it is told
+abbrev pub askedSlots : Contents → List ℕ → ℕ → Slots 64
+askedSlots b s time = asks (b .plan .«data_slots») (rowsAt b time) (holding b (askIn s .node) time) (askIn s .slots)
+
+unfoldable pub askResponses : Contents → List ℕ → ℕ → List ℕ
+askResponses b s time = let unit = askIn s .node in responses (b .plan) unit time (placeFor unit (rowsAt b time)) (askedSlots b s time)
+
+-- 14 1 2 1 3 4 6 8 13 5, in a buffer with this room
+abbrev pub askReasons : Contents → List ℕ → ℕ → ℕ → List Reason
+askReasons b s time room =
     reason (not (withinRule b)) 14 ∷
     refusing (refusalAs slotRequest s) ∷
     reason (eqb (askIn s .node) (b .plan .manager)) 6 ∷
     reason (not (inOrder (b .time) time)) 8 ∷
-    reason (not live) 13 ∷
-    reason short 5 ∷
+    reason (not (liveAt b (askIn s .node) time)) 13 ∷
+    reason (ltb room (length (askResponses b s time))) 5 ∷
     []
 
 unfoldable pub askOf : Contents → List ℕ → ℕ → List ℕ → Answered
 askOf b s time out =
     let unit = askIn s .node in
-    let at = placeFor unit (rowsAt b time) in
-    let own = asks (b .plan .«data_slots») (rowsAt b time) (holding b unit time) (askIn s .slots) in
-    let short = ltb (length out) (length (responses (b .plan) unit time at own)) in
-    grants (first (askReasons b s time (liveAt b unit time) short)) b unit time at own out
+    grants (first (askReasons b s time (length out))) b unit time (placeFor unit (rowsAt b time)) (askedSlots b s time) out

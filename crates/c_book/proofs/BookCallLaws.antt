@@ -18,7 +18,7 @@ use Rattle.octets.proofs.CallLaws.{WrittenBack, written-back}
 use Rattle.octets.proofs.AnsweredLaws.{Answered, valued, said-value, answered, told-other, told-done, told-undone}
 use Rattle.site_plan.specs.Plans.{slots}
 use Rattle.book.specs.declared.book.Changed.{Changed}
-use Rattle.book.specs.Books.{Contents, contents, withinRule, BookChange, changeOf, liveAt}
+use Rattle.book.specs.Books.{Contents, contents, withinRule, BookChange, changeOf}
 use Rattle.book.specs.Schedules.{scheduleRefusal, scheduleOf}
 use Rattle.site_plan.proofs.PlanLaws.{rule-bounds}
 use Rattle.book.proofs.ScheduleLaws.{few-slots}

@@ -61,20 +61,20 @@ abbrev pub reading : List ℕ → WriteLeft → RequestLeft
 reading s r = requestLeft (r .status) s (r .out) (r .written)
 
 -- the status, the book's buffer after the call, accepted or refused, the other buffer, and the number of bytes written
-abbrev pub leftBy : List ℕ → Call → ℕ → RequestLeft
-leftBy s (join frame time out) filled = joinCall s frame time out filled
-leftBy s (ask frame time out) filled = slotRequestCall s frame time out filled
-leftBy s (heard unit time) filled = changing (heardCall s unit time)
-leftBy s (leave unit time) filled = changing (leaveCall s unit time)
-leftBy s (schedule unit hop time out) filled = reading s (scheduleCall s unit hop time out filled)
-leftBy s (image time out) filled = reading s (imageCall s time out filled)
+abbrev pub returned : List ℕ → Call → ℕ → RequestLeft
+returned s (join frame time out) filled = joinCall s frame time out filled
+returned s (ask frame time out) filled = slotRequestCall s frame time out filled
+returned s (heard unit time) filled = changing (heardCall s unit time)
+returned s (leave unit time) filled = changing (leaveCall s unit time)
+returned s (schedule unit hop time out) filled = reading s (scheduleCall s unit hop time out filled)
+returned s (image time out) filled = reading s (imageCall s time out filled)
 
 abbrev pub leaves : List ℕ → Call → ℕ → List ℕ
-leaves s c filled = leftBy s c filled .book
+leaves s c filled = returned s c filled .book
 
 -- what the caller sees
 abbrev pub answerInC : List ℕ → Call → ℕ → Answer
-answerInC s c filled = let r = leftBy s c filled in answers (r .status) (r .written) (r .out)
+answerInC s c filled = let r = returned s c filled in answers (r .status) (r .written) (r .out)
 
 -- ---- calls one after the other
 abbrev pub bufferAfter : List ℕ → List InC → List ℕ

@@ -16,7 +16,7 @@ use Rattle.site_plan.specs.Plans.{slotsIn}
 use Rattle.book_members.specs.Members.{current, placeFor, heldSlots, vacant}
 use Rattle.book_members.specs.Rules.{rowsRule}
 use Rattle.book.specs.Books.{Contents, withinRule, freshBook, freshOf, leaveOf}
-use Rattle.book_joins.specs.Joins.{joinOf, askOf}
+use Rattle.book_joins.specs.Joins.{joinResponses, joinOf, askResponses, askOf}
 use Rattle.book_joins.specs.Responses.{toldIn}
 use Rattle.book_history.specs.Calls.{Call, leave, next, timeOf}
 use Rattle.book_history.specs.Histories.{answer, recorded, stepOf, Grant, grant, changedBy, granted, granting, counts}
@@ -87,7 +87,7 @@ happened :
     × Happens full (leave 0x0201 0) left (told (4 ∷ 8 ∷ []) (5 ∷ 9 ∷ 10 ∷ 11 ∷ []) (6 ∷ 12 ∷ []) (7 ∷ 13 ∷ []) []) (told (4 ∷ 8 ∷ []) [] (6 ∷ 12 ∷ []) (7 ∷ 13 ∷ []) [])
     × Happens left (asks 0x0202 3) grown (told (4 ∷ 8 ∷ []) [] (6 ∷ 12 ∷ []) (7 ∷ 13 ∷ []) []) (told (4 ∷ 8 ∷ []) [] (6 ∷ 9 ∷ 10 ∷ 12 ∷ []) (7 ∷ 13 ∷ []) [])
     × Happens grown (joins 0x0204 4) settled (told (4 ∷ 8 ∷ []) [] (6 ∷ 9 ∷ 10 ∷ 12 ∷ []) (7 ∷ 13 ∷ []) []) (told (4 ∷ 8 ∷ []) [] (6 ∷ 9 ∷ 10 ∷ 12 ∷ []) (7 ∷ 13 ∷ []) (5 ∷ 11 ∷ []))
-unfolding member site nobody one two full left grown settled joinOf askOf leaveOf withinRule rowsRule every placeFor current heldSlots vacant count isEmpty has fill slotwise noSlots allSlots union meet minus lowest withoutHighest bits slotsOf firsts slotsIn num digits xors isSealed readRefusal sealed ageAt inOrder
+unfolding member site nobody one two full left grown settled joinResponses joinOf askResponses askOf leaveOf withinRule rowsRule every placeFor current heldSlots vacant count isEmpty has fill slotwise noSlots allSlots union meet minus lowest withoutHighest bits slotsOf firsts slotsIn num digits xors isSealed readRefusal sealed ageAt inOrder
 happened = (record { leaves = refl; grants = refl; passes = refl }, record { leaves = refl; grants = refl; passes = refl }, record { leaves = refl; grants = refl; passes = refl }, record { leaves = refl; grants = refl; passes = refl }, record { leaves = refl; grants = refl; passes = refl }, record { leaves = refl; grants = refl; passes = refl }, record { leaves = refl; grants = refl; passes = refl })
 
 -- all of them, one after the other

@@ -15,7 +15,7 @@ use Rattle.site_plan.specs.Plans.{slotsIn}
 use Rattle.book_members.specs.Members.{Row, emptyRow, current, placeFor, heldSlots, vacant, memberWith}
 use Rattle.book_members.specs.Rules.{rowsRule}
 use Rattle.book.specs.Books.{Contents, withinRule, freshBook, leaveOf}
-use Rattle.book_joins.specs.Joins.{joinOf, askOf}
+use Rattle.book_joins.specs.Joins.{joinResponses, joinOf, askResponses, askOf}
 use Rattle.book_history.specs.Calls.{Call, leave, next}
 use Rattle.paper.specs.Story.{told, run, sitePlan, joins, asks, story}
 
@@ -66,7 +66,7 @@ happened :
     × Happens full (leave 0x0201 0) (0 ∷ []) left
     × Happens left (asks 0x0202 3) (0 ∷ 6 ∷ 9 ∷ 10 ∷ 12 ∷ []) grown
     × Happens grown (joins 0x0204 4) (0 ∷ 5 ∷ 11 ∷ []) settled
-unfolding member site nobody one two full left grown settled joinOf askOf leaveOf withinRule rowsRule every placeFor current heldSlots vacant count isEmpty has fill slotwise noSlots allSlots union meet minus lowest withoutHighest bits slotsOf firsts slotsIn num digits xors isSealed readRefusal sealed ageAt inOrder
+unfolding member site nobody one two full left grown settled joinResponses joinOf askResponses askOf leaveOf withinRule rowsRule every placeFor current heldSlots vacant count isEmpty has fill slotwise noSlots allSlots union meet minus lowest withoutHighest bits slotsOf firsts slotsIn num digits xors isSealed readRefusal sealed ageAt inOrder
 happened = (record { says = refl; leaves = refl }, record { says = refl; leaves = refl }, record { says = refl; leaves = refl }, record { says = refl; leaves = refl }, record { says = refl; leaves = refl }, record { says = refl; leaves = refl }, record { says = refl; leaves = refl })
 
 pub story-told :

@@ -72,26 +72,26 @@ hop-below p unit hop = go (eqb unit (p .manager))
     go false e = leb-true hop (p .«max_hops») (and-eq-true-iff (leb 1 hop) (leb hop (p .«max_hops»)) .0 e .1)
 
 -- what holds where there is a schedule
-pub record Schedulable (b : Contents) (unit hop time : ℕ) (live : Bool) (room : ℕ) : Type 0 where
+pub record Schedulable (b : Contents) (unit hop time room : ℕ) : Type 0 where
   pub book : withinRule b ≡ true
   pub near : hop ≤ 10
-  pub member : live ≡ true
+  pub member : liveAt b unit time ≡ true
   pub fits : slots (b .plan) ≤ room
 
-pub schedulable : (b : Contents) (unit hop time : ℕ) (live : Bool) (room : ℕ) → scheduleRefusal b unit hop time live room ≡ 0 → Schedulable b unit hop time live room
-schedulable b unit hop time live room e =
+pub schedulable : (b : Contents) (unit hop time room : ℕ) → scheduleRefusal b unit hop time room ≡ 0 → Schedulable b unit hop time room
+schedulable b unit hop time room e =
     let none =
-    none-holds (scheduleReasons b unit hop time live room) _ e in
+    none-holds (scheduleReasons b unit hop time room) _ e in
     let ruled = not-false (withinRule b) (none .0) in
     let below = hop-below (b .plan) unit hop (not-false (hopRule (b .plan) unit hop) (none .1 .1 .1 .0)) in
     record {
       book = ruled;
       near = omega (arith, below, kept (b .plan) (within b ruled .plan) .few-hops);
-      member = not-false live (none .1 .1 .1 .1 .0);
+      member = not-false (liveAt b unit time) (none .1 .1 .1 .1 .0);
       fits = ltb-false room (slots (b .plan)) (none .1 .1 .1 .1 .1 .0);
     }
 
-module _ (b : Contents) (unit hop time n : ℕ) (out : List ℕ) (e : n ≡ scheduleRefusal b unit hop time (liveAt b unit time) (length out)) where
+module _ (b : Contents) (unit hop time n : ℕ) (out : List ℕ) (e : n ≡ scheduleRefusal b unit hop time (length out)) where
   pub unscheduled : (n ≡ 0 → ⊥) → wrote (Written.Refused (record { number = n })) out ≡ scheduleOf b unit hop time out
   unfolding scheduleOf
   unscheduled z = rw (← e, ne-eqb n 0 z)

@@ -10,14 +10,22 @@ use borrow.Author.Tests.{ne-eqb, ltb-true, not-false}
 use lib.Dec.{eqb, ltb}
 use lib.ListN.{length, getD, take, set}
 use lib.Seq.{getD-take}
-use Rattle.octets.specs.Answers.{first}
+use Rattle.octets.specs.Answers.{first, Reason, reason}
 use Rattle.octets.proofs.AnswerLaws.{none-holds}
+use Rattle.octets.specs.Addresses.{address}
+use Rattle.moments.specs.Moments.{inOrder}
 use Rattle.slot_sets.specs.Sets.{Slots, slotsOf}
 use Rattle.slot_sets.proofs.MaskLaws.{mask-nothing}
 use Rattle.book_members.specs.declared.member.Member.{Member}
-use Rattle.book_members.specs.Members.{Row, rowsOf, emptyRow, kept, current, placeFor}
+use Rattle.book_members.specs.Members.{Row, memberWith, rowsOf, emptyRow, kept, current, placeFor}
+use Rattle.book_members.proofs.LookupLaws.{found-unit}
 use Rattle.book.specs.declared.book.Book.{Book}
-use Rattle.book.specs.Books.{Contents, contents, rowsAt, liveAt, withRow, changeTo, memberReasons, heardOf, leaveOf}
+use Rattle.book.specs.Books.{Contents, contents, withinRule, rowsAt, liveAt, ownRow, holding, withRow, changeTo, heardReasons, heardOf, leaveReasons, leaveOf}
+
+-- the reasons of a call on a member that is found or not, whichever that is for the call
+abbrev pub memberReasons : Contents → ℕ → ℕ → Bool → List Reason
+memberReasons b unit time found =
+    reason (not (withinRule b)) 14 ∷ reason (not (address unit)) 4 ∷ reason (not (inOrder (b .time) time)) 8 ∷ reason (not found) 13 ∷ []
 
 -- only an accepted call shows the new book
 pub left-same : (n : ℕ) (b x y : Contents) → (n ≡ 0 → x ≡ y) → changeTo n b x ≡ changeTo n b y
@@ -74,19 +82,22 @@ module _ (b : Book) (unit time : ℕ) (now : List Member) (e : rowsOf now ≡ cu
     written r r′ rows w q = rw (w, e, found-at, q)
 
     pub heards : (n mask : ℕ) (rows : List Member) → n ≡ first (memberReasons (contents b) unit time (ltb at places)) → slotsOf mask ≡ getD (rowsOf now) at emptyRow .slots
-        → rowsOf rows ≡ set (rowsOf now) at (record { unit = unit; slots = slotsOf mask; time = time })
+        → rowsOf rows ≡ set (rowsOf now) at (memberWith unit (slotsOf mask) time)
         → changeTo n (contents b) (record { plan = b .plan; time = time; places = rowsOf rows }) ≡ heardOf (contents b) unit time
     unfolding heardOf
     heards n mask rows q m w =
-        let number : n ≡ first (memberReasons (contents b) unit time (liveAt (contents b) unit time)) = rw (← live-now) q in
-        let row : n ≡ 0 → slotsOf mask ≡ getD (rowsAt (contents b) time) (placeFor unit (rowsAt (contents b) time)) emptyRow .slots =
-        λ z. m ∙ (slots-there (found-true n (liveAt (contents b) unit time) number z) ∙ ap (λ (k : ℕ). getD (rowsAt (contents b) time) k emptyRow .slots) found-at) in
-        left-same n (contents b) _ _ (λ z. written _ _ rows w (ap (λ (s : Slots 64). record { unit = unit; slots = s; time = time }) (row z))) ∙ rw number
+        let s = contents b in
+        let number : n ≡ first (heardReasons s unit time) = q ∙ ap (λ (found : Bool). first (memberReasons s unit time found)) live-now in
+        let live : n ≡ 0 → liveAt s unit time ≡ true = found-true n (liveAt s unit time) number in
+        let own : n ≡ 0 → ownRow s unit time .unit ≡ unit = λ z. found-unit unit (rowsAt s time) (ltb-true (placeFor unit (rowsAt s time)) (length (rowsAt s time)) (live z)) in
+        let slots : n ≡ 0 → slotsOf mask ≡ holding s unit time = λ z. m ∙ (slots-there (live z) ∙ ap (λ (k : ℕ). getD (rowsAt s time) k emptyRow .slots) found-at) in
+        left-same n s _ _ (λ z. written _ _ rows w (λ i. memberWith (sym (own z) i) (slots z i) time)) ∙ rw number
 
     pub leaves : (n : ℕ) (rows : List Member) → n ≡ first (memberReasons (contents b) unit time (ltb at places && not (eqb unit (b .plan .manager))))
-        → rowsOf rows ≡ set (rowsOf now) at (record { unit = 0; slots = slotsOf 0; time = 0 })
+        → rowsOf rows ≡ set (rowsOf now) at (memberWith 0 (slotsOf 0) 0)
         → changeTo n (contents b) (record { plan = b .plan; time = time; places = rowsOf rows }) ≡ leaveOf (contents b) unit time
     unfolding leaveOf
     leaves n rows q w =
-        let number : n ≡ first (memberReasons (contents b) unit time (liveAt (contents b) unit time && not (eqb unit (b .plan .manager)))) = rw (← live-now) q in
-        left-same n (contents b) _ _ (λ z. written _ _ rows w (ap (λ (s : Slots 64). record { unit = 0; slots = s; time = 0 }) mask-nothing)) ∙ rw number
+        let number : n ≡ first (leaveReasons (contents b) unit time) =
+        q ∙ ap (λ (live : Bool). first (memberReasons (contents b) unit time (live && not (eqb unit (b .plan .manager))))) live-now in
+        left-same n (contents b) _ _ (λ z. written _ _ rows w (ap (λ (s : Slots 64). memberWith 0 s 0) mask-nothing)) ∙ rw number

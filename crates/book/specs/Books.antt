@@ -10,10 +10,10 @@ use Rattle.octets.specs.Calls.{after}
 use Rattle.octets.specs.Lists.{every}
 use Rattle.moments.specs.Moments.{inOrder}
 use Rattle.octets.specs.Addresses.{address}
-use Rattle.slot_sets.specs.Sets.{firsts}
+use Rattle.slot_sets.specs.Sets.{Slots, firsts}
 use Rattle.site_plan.specs.declared.plan.Plan.{Plan}
 use Rattle.site_plan.specs.Plans.{planRule}
-use Rattle.book_members.specs.Members.{Row, rowsOf, emptyRow, current, placeFor}
+use Rattle.book_members.specs.Members.{Row, memberWith, rowsOf, emptyRow, heardAt, current, placeFor}
 use Rattle.book_members.specs.Rules.{rowsRule, emptyIs}
 use Rattle.book.specs.declared.book.Book.{Book}
 use Rattle.book.specs.declared.book.Changed.{Changed}
@@ -49,6 +49,13 @@ placesAt b time = current time (b .places)
 abbrev pub liveAt : Contents → ℕ → ℕ → Bool
 liveAt b unit time = ltb (placeFor unit (rowsAt b time)) (length (rowsAt b time))
 
+-- its row then, an empty one where it has none, and the slots that it holds
+abbrev pub ownRow : Contents → ℕ → ℕ → Row
+ownRow b unit time = getD (rowsAt b time) (placeFor unit (rowsAt b time)) emptyRow
+
+abbrev pub holding : Contents → ℕ → ℕ → Slots 64
+holding b unit time = ownRow b unit time .slots
+
 -- the book after an accepted call: silent members are dropped, and one row is written
 abbrev pub withRow : Contents → ℕ → ℕ → Row → Contents
 withRow b time at r = record { plan = b .plan; time = time; places = set (placesAt b time) at r }
@@ -68,7 +75,7 @@ changeOf c = record { refused = c .refused; book = contents (c .book) }
 
 -- fresh: the manager in row 0 with the lowest data slot, the time as last accepted; a plan out of rule is 14, and then all is zeros
 abbrev pub freshRow : ℕ → ℕ → Row
-freshRow manager time = record { unit = manager; slots = firsts 1; time = time }
+freshRow manager time = memberWith manager (firsts 1) time
 
 abbrev pub noBook : Contents
 noBook =
@@ -84,24 +91,27 @@ freshBook p time = record { plan = p; time = time; places = freshRow (p .manager
 unfoldable pub freshOf : Plan → ℕ → BookChange
 freshOf p time = changeTo (first (reason (not (planRule p)) 14 ∷ [])) noBook (freshBook p time)
 
--- 14 4 8, then 13 where the call does not find the member it wants
-abbrev pub memberReasons : Contents → ℕ → ℕ → Bool → List Reason
-memberReasons b unit time found =
+-- heard: a live member's time is renewed; 14 4 8 13
+abbrev pub heardReasons : Contents → ℕ → ℕ → List Reason
+heardReasons b unit time =
     reason (not (withinRule b)) 14 ∷
     reason (not (address unit)) 4 ∷
     reason (not (inOrder (b .time) time)) 8 ∷
-    reason (not found) 13 ∷
+    reason (not (liveAt b unit time)) 13 ∷
     []
 
--- heard: a live member's time is renewed
 unfoldable pub heardOf : Contents → ℕ → ℕ → BookChange
 heardOf b unit time =
-    let at = placeFor unit (rowsAt b time) in
-    let r = getD (rowsAt b time) at emptyRow in
-    changeTo (first (memberReasons b unit time (liveAt b unit time))) b (withRow b time at (record { unit = unit; slots = r .slots; time = time }))
+    changeTo (first (heardReasons b unit time)) b (withRow b time (placeFor unit (rowsAt b time)) (heardAt time (ownRow b unit time)))
 
--- leave: a live member other than the manager frees its row and its slots
+-- leave: a live member other than the manager frees its row and its slots; 14 4 8 13
+abbrev pub leaveReasons : Contents → ℕ → ℕ → List Reason
+leaveReasons b unit time =
+    reason (not (withinRule b)) 14 ∷
+    reason (not (address unit)) 4 ∷
+    reason (not (inOrder (b .time) time)) 8 ∷
+    reason (not (liveAt b unit time && not (eqb unit (b .plan .manager)))) 13 ∷
+    []
+
 unfoldable pub leaveOf : Contents → ℕ → ℕ → BookChange
-leaveOf b unit time =
-    changeTo (first (memberReasons b unit time (liveAt b unit time && not (eqb unit (b .plan .manager))))) b
-    (withRow b time (placeFor unit (rowsAt b time)) emptyRow)
+leaveOf b unit time = changeTo (first (leaveReasons b unit time)) b (withRow b time (placeFor unit (rowsAt b time)) emptyRow)

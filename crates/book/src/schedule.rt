@@ -7,7 +7,7 @@ ghost use Rattle.octets.specs.Lists.{tab};
 ghost use Rattle.octets.specs.Told.{wrote};
 ghost use Rattle.slot_sets.specs.Sets.{slotsOf};
 ghost use Rattle.site_plan.specs.Schedules.{sleep, kindOf};
-ghost use Rattle.book.specs.Books.{contents};
+ghost use Rattle.book.specs.Books.{contents, liveAt};
 ghost use Rattle.book.specs.Schedules.{hopRule, scheduleRefusal, scheduleOf};
 use crate::book::Book;
 use book_members::rows::current;
@@ -67,9 +67,10 @@ fn put_kinds(out: &mut [u8], plan: Plan, row: u8, hop: u8, own: u64, count: u8)
     put_sleep(out, awake, all);
 }
 
-// Why there is no schedule for a unit that is a live member or not; 0 where there is one.
+// Why there is no schedule for a unit, which is a live member or not; 0 where there is one.
 fn refusal(book: Book, unit: u16, hop: u32, time: u32, live: bool, room: usize) -> u8
-    ensures { λ r. ⌜ r ≡ scheduleRefusal (contents book) unit hop time live room ⌝ }
+    requires { ⌜ live ≡ liveAt (contents book) unit time ⌝ }
+    ensures { λ r. ⌜ r ≡ scheduleRefusal (contents book) unit hop time room ⌝ }
 {
     let plan = book.plan;
     let address = (1 <= unit) & (unit <= 0xFFFE);

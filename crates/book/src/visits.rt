@@ -1,7 +1,11 @@
 // What needs no frame: a member that was heard, and one that leaves.
 ghost use mathlib.Core.Path.{_≡_};
-ghost use Rattle.octets.specs.Answers.{first};
-ghost use Rattle.book.specs.Books.{contents, memberReasons, changeOf, heardOf, leaveOf};
+ghost use mathlib.Core.Bool.{not};
+ghost use mathlib.Core.List.{[], _∷_};
+ghost use Rattle.octets.specs.Addresses.{address};
+ghost use Rattle.octets.specs.Answers.{reason, first};
+ghost use Rattle.moments.specs.Moments.{inOrder};
+ghost use Rattle.book.specs.Books.{contents, withinRule, changeOf, heardOf, leaveOf};
 use crate::book::Book;
 use crate::book::Changed;
 use crate::book::settled;
@@ -17,7 +21,7 @@ use octets::answers::refuse_if;
 
 // Why a call on a member is refused, where it is found or not; 0 where it is not.
 fn refusal(book: Book, unit: u16, time: u32, found: bool) -> u8
-    ensures { λ r. ⌜ r ≡ first (memberReasons (contents book) unit time found) ⌝ }
+    ensures { λ r. ⌜ r ≡ first (reason (not (withinRule (contents book))) 14 ∷ reason (not (address unit)) 4 ∷ reason (not (inOrder (book .time) time)) 8 ∷ reason (not found) 13 ∷ []) ⌝ }
 {
     let address = (1 <= unit) & (unit <= 0xFFFE);
     let refused = refuse_if(!found, Refusal::NO_MEMBER, 0);

@@ -19,7 +19,7 @@ use Rattle.slot_sets.proofs.BitLaws.{set-of-mask}
 use Rattle.site_plan.specs.declared.plan.Plan.{Plan}
 use Rattle.site_plan.specs.Plans.{planValues}
 use Rattle.site_plan.proofs.PlanByteLaws.{plan-fits}
-use Rattle.book_members.specs.Members.{Row, emptyRow, kept, current}
+use Rattle.book_members.specs.Members.{Row, emptyRow, kept, current, memberWith}
 use Rattle.book_members.proofs.RowLaws.{kept-either, length-current}
 use Rattle.book.specs.Books.{Contents, withRow, noBook, freshBook, freshOf}
 use Rattle.site_plan.specs.PlanBytes.{planWidths, planSize}
@@ -27,7 +27,7 @@ use Rattle.book_bytes.specs.BookBytes.{rowWidths, rowsAt, rowAt, bookIn}
 use Rattle.book_bytes.specs.Trips.{RowFits, Sized}
 
 -- ---- rows
-pub row-fits : (unit : ℕ) (own : Slots 64) (time : ℕ) → unit < 0x10000 → time < 0x100000000 → RowFits (record { unit = unit; slots = own; time = time })
+pub row-fits : (unit : ℕ) (own : Slots 64) (time : ℕ) → unit < 0x10000 → time < 0x100000000 → RowFits (memberWith unit own time)
 row-fits unit own time u t = (u, (set-of-mask 64 own .1, (t, tt)))
 
 pub empty-fits : RowFits emptyRow

@@ -14,7 +14,7 @@ use Rattle.octets.proofs.NumberLaws.{num-lt, num-digits, digits-num}
 use Rattle.slot_sets.specs.Sets.{Slots}
 use Rattle.slot_sets.proofs.MaskLaws.{mask-back, set-back}
 use Rattle.site_plan.proofs.PlanByteLaws.{length-plan, plan-read}
-use Rattle.book_members.specs.Members.{Row}
+use Rattle.book_members.specs.Members.{Row, memberWith}
 use Rattle.book.specs.Books.{Contents}
 use Rattle.site_plan.specs.PlanBytes.{planWidths, planAt, planBytes}
 use Rattle.book_bytes.specs.BookBytes.{rowWidths, rowValues, rowFrom, rowAt, rowsBytes, bookIn, bookBytes}
@@ -25,7 +25,7 @@ use Rattle.book_bytes.proofs.BookByteLaws.{rows-run, length-front, leng
 
 -- ---- what was written, read
 row-back : (r : Row) → rowFrom (rowValues r) ≡ r
-row-back r = ap (λ (s : Slots 64). record { unit = r .unit; slots = s; time = r .time }) (set-back (r .slots))
+row-back r = ap (λ (s : Slots 64). memberWith (r .unit) s (r .time)) (set-back (r .slots))
 
 module _ (b : Contents) (z : Sized b) where
   time-read : num 4 (bookBytes b) 9 ≡ b .time

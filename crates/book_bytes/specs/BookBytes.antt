@@ -7,7 +7,7 @@ use Rattle.octets.specs.Layouts.{total, fields, inTurn}
 use Rattle.octets.specs.Lists.{tab}
 use Rattle.octets.specs.Numbers.{num, digits}
 use Rattle.slot_sets.specs.Sets.{slotsOf, maskOf}
-use Rattle.book_members.specs.Members.{Row}
+use Rattle.book_members.specs.Members.{Row, memberWith}
 use Rattle.book.specs.Books.{Contents}
 use Rattle.site_plan.specs.PlanBytes.{planSize, planAt, planBytes}
 
@@ -19,7 +19,7 @@ abbrev pub rowValues : Row → List ℕ
 rowValues r = r .unit ∷ maskOf (r .slots) ∷ r .time ∷ []
 
 abbrev pub rowFrom : List ℕ → Row
-rowFrom vs = record { unit = getD vs 0 0; slots = slotsOf (getD vs 1 0); time = getD vs 2 0 }
+rowFrom vs = memberWith (getD vs 0 0) (slotsOf (getD vs 1 0)) (getD vs 2 0)
 
 -- where the rows start: 13
 abbrev pub rowsAt : ℕ

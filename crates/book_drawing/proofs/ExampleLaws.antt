@@ -8,13 +8,13 @@ use Rattle.octets.specs.Lists.{tab}
 use Rattle.slot_sets.specs.Sets.{has, bits, slotsOf}
 use Rattle.site_plan.specs.Plans.{slotsIn}
 use Rattle.site_plan.specs.Schedules.{kindOf}
-use Rattle.book_members.specs.Members.{Row, emptyRow}
+use Rattle.book_members.specs.Members.{Row, emptyRow, memberWith}
 use Rattle.book.specs.Books.{Contents}
 use Rattle.book_drawing.specs.Views.{bookText}
 
 -- a member with the data slots whose bits are set in a mask
 abbrev member : ℕ → ℕ → Row
-member unit mask = record { unit = unit; slots = slotsOf mask; time = 0 }
+member unit mask = memberWith unit (slotsOf mask) 0
 
 -- the manager with data slot 0, and 0x0201 with data slot 1
 abbrev shown : Contents

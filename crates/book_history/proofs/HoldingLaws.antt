@@ -19,10 +19,10 @@ use Rattle.book_members.proofs.RowSums.{owns, passes-there, only-one}
 use Rattle.book_members.proofs.LookupLaws.{found-unit, found-other, found-same}
 use Rattle.book_members.proofs.RowRuleLaws.{Seat, ruled-current}
 use Rattle.book_members.proofs.TimedLaws.{timed-rows}
-use Rattle.book.specs.Books.{Contents, rowsIn, rowsAt, liveAt, withRow}
+use Rattle.book.specs.Books.{Contents, rowsIn, rowsAt, liveAt, withRow, holding}
 use Rattle.book_joins.specs.Joins.{askIn, askOf}
-use Rattle.book_history.specs.Calls.{Call, join, ask, heard, leave, schedule, timeOf, unitOf, refusalOf, next}
-use Rattle.book_history.specs.Laws.{SameHolding, OthersStay, repeats, KeepsOwn, holding, HoldApart}
+use Rattle.book_history.specs.Calls.{Call, join, ask, heard, leave, schedule, image, refusalOf, next, unitOf, timeOf}
+use Rattle.book_history.specs.Laws.{SameHolding, OthersStay, repeats, KeepsOwn, HoldApart}
 use Rattle.book_history.proofs.CallLaws.{Allowed}
 use Rattle.book.proofs.WithinLaws.{within}
 use Rattle.book_history.proofs.WrittenLaws.{rows-later}
@@ -52,6 +52,9 @@ module _ (b : Contents) (time : ℕ) (b′ : Contents) (time′ : ℕ) (unit : �
   pub same-holding : length then ≡ length now → placeFor unit then ≡ placeFor unit now → row then (placeFor unit now) ≡ row now (placeFor unit now) → SameHolding b time b′ time′ unit
   same-holding l p r = record { live = rw (l, p); row = p; slots = ap (λ (i : ℕ). row then i .slots) p ∙ ap (λ (r : Row). r .slots) r }
 
+same-self : {b : Contents} {time unit : ℕ} → SameHolding b time b time unit
+same-self = record { live = refl; row = refl; slots = refl }
+
 -- what holds of the book as it was, and of the next where the call is accepted, holds of the next
 pub by-refusal : (P : Contents → Type 0) (b : Contents) (c : Call) → P b → (refusalOf b c ≡ 0 → P (next b c)) → P (next b c)
 by-refusal P b c old new = go (ℕ-discrete (refusalOf b c) 0)
@@ -61,7 +64,7 @@ by-refusal P b c old new = go (ℕ-discrete (refusalOf b c) 0)
     go (no z) = rw (refused-keeps b c z) old
 
 same-or : (b : Contents) (c : Call) (unit time : ℕ) → (refusalOf b c ≡ 0 → SameHolding b time (next b c) time unit) → SameHolding b time (next b c) time unit
-same-or b c unit time = by-refusal (λ new. SameHolding b time new time unit) b c (record { live = refl; row = refl; slots = refl })
+same-or b c unit time = by-refusal (λ new. SameHolding b time new time unit) b c same-self
 
 -- ---- calls about others
 module _ (unit : ℕ) (is-address : address unit ≡ true) (later : ℕ) where
@@ -105,7 +108,8 @@ module _ (unit : ℕ) (is-address : address unit ≡ true) (later : ℕ) where
   other-accepted b (leave caller time) n l o z =
       let f = leave-freed b caller time z in
       rw (f .book) (other-written (f .allowed) (f .place) n l o emptyRow (λ e. some (sym e)))
-  other-accepted b (schedule caller hop time out) n l o z = record { live = refl; row = refl; slots = refl }
+  other-accepted b (schedule caller hop time out) n l o z = same-self
+  other-accepted b (image time out) n l o z = same-self
 
 pub others-stay : OthersStay
 others-stay b c unit later a n l o = same-or b c unit later (other-accepted unit a later b c n l o)
@@ -123,7 +127,8 @@ keeps-own = (again, ask-again)
     again b (ask s time out) e live = absurd (false≢true e)
     again b (heard unit time) e live = same-or b (heard unit time) _ time (λ z. own-taken (heard-taken b unit time z) live)
     again b (leave unit time) e live = absurd (false≢true e)
-    again b (schedule unit hop time out) e live = record { live = refl; row = refl; slots = refl }
+    again b (schedule unit hop time out) e live = same-self
+    again b (image time out) e live = same-self
 
     ask-again : (b : Contents) (s : List ℕ) (time : ℕ) (out : List ℕ) → liveAt b (askIn s .node) time ≡ true
         → placeFor (askIn s .node) (rowsAt (askOf b s time out .book) time) ≡ placeFor (askIn s .node) (rowsAt b time)

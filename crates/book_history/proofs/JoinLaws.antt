@@ -14,10 +14,10 @@ use Rattle.octets.specs.Lists.{every}
 use Rattle.slot_sets.specs.Sets.{Slots, count}
 use Rattle.book_members.specs.Members.{Row, vacantRow, placeFor, vacant, spare}
 use Rattle.book_members.proofs.RowRuleLaws.{vacant-free, ruled-current}
-use Rattle.book.specs.Books.{Contents, withinRule, rowsAt}
-use Rattle.book_joins.specs.Joins.{grantFor, joinIn, seat, noRowFor, joinReasons, joinOf, askIn}
+use Rattle.book.specs.Books.{Contents, withinRule, rowsAt, holding}
+use Rattle.book_joins.specs.Joins.{grantFor, joinIn, seat, noRowFor, joinReasons, joinOf, askIn, joinResponses}
 use Rattle.book_joins.proofs.ResponseLaws.{length-responses}
-use Rattle.book_history.specs.Laws.{full, Newcomer, RefusedIfFull, holding, due, Admitted, GrantedElse, AskedFor}
+use Rattle.book_history.specs.Laws.{full, Newcomer, RefusedIfFull, due, Admitted, GrantedElse, AskedFor}
 use Rattle.book.proofs.WithinLaws.{within}
 use Rattle.book_history.proofs.CallLaws.{joinedSlots, joinShort}
 use Rattle.book_history.proofs.GrantLaws.{lesser, count-granted}
@@ -41,9 +41,9 @@ either-way false true e = refl
 either-way false false e = absurd (false≢true e)
 
 -- of a newcomer's reasons only room is left
-newcomer-reasons : (b : Contents) (s : List ℕ) (time : ℕ) (noRow short : Bool) → withinRule b ≡ true → Newcomer b s time
-    → first (joinReasons b s time noRow short) ≡ cond noRow 12 (cond short 5 0)
-newcomer-reasons b s time noRow short w n =
+newcomer-reasons : (b : Contents) (s : List ℕ) (time : ℕ) (out : List ℕ) → withinRule b ≡ true → Newcomer b s time
+    → first (joinReasons b s time (length out)) ≡ cond (noRowFor b (joinIn s .node) time) 12 (cond (joinShort b s time out) 5 0)
+newcomer-reasons b s time out w n =
     rw (w, n .frame, ne-eqb (joinIn s .node) (b .plan .manager) (n .other), either-way (eqb (joinIn s .network) 0) (eqb (joinIn s .network) (b .plan .network)) (n .network), n .order)
 
 module _ (b : Contents) (s : List ℕ) (time : ℕ) (out : List ℕ) (w : withinRule b ≡ true) (n : Newcomer b s time) where
@@ -53,7 +53,7 @@ module _ (b : Contents) (s : List ℕ) (time : ℕ) (out : List ℕ) (w : within
   newcomer-refused : joinOf b s time out .refused ≡ cond (full b time) 12 (cond (joinShort b s time out) 5 0)
   unfolding joinOf
   newcomer-refused =
-      newcomer-reasons b s time (noRowFor b (joinIn s .node) time) (joinShort b s time out) w n
+      newcomer-reasons b s time out w n
       ∙ ap (λ (t : Bool). cond t 12 (cond (joinShort b s time out) 5 0)) no-row
 
 pub refused-if-full : RefusedIfFull
@@ -86,6 +86,7 @@ module _ (b : Contents) (s : List ℕ) (time : ℕ) (out : List ℕ) (w : within
       count-granted (b .plan .«data_slots») rows (joinIn s .slots) (omega (arith, some)) (vacant-free (parts .few) (ruled-current time (parts .rows)))
 
   fits : 13 * (1 + due b s time) ≤ length out → joinShort b s time out ≡ false
+  unfolding joinResponses
   fits h =
       let unit = joinIn s .node in
       ap (ltb (length out))

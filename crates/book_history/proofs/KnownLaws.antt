@@ -1,4 +1,4 @@
--- What the answers to a unit's own calls say of it is what the book has for it, at every time that may come: kept by every event.
+-- What the answers to a unit's own calls say of it is what the book has for it, at every time that may come: kept by every call.
 -- Assumes nothing.
 use mathlib.Core.Path.{_≡_, refl, sym, ap, subst, _∙_}
 use mathlib.Core.Bool.{Bool, true, false, _&&_, _||_, cond}
@@ -24,18 +24,16 @@ use Rattle.book_members.proofs.RowSums.{weigh-set, one, tally, ofUnit}
 use Rattle.book_members.proofs.LookupLaws.{found-none, found-unit, found-there}
 use Rattle.book_members.proofs.PairLaws.{led-first}
 use Rattle.book_members.proofs.RowRuleLaws.{units-least}
-use Rattle.book.specs.Books.{Contents, withinRule, rowsIn, rowsAt, liveAt, heardOf, leaveOf}
+use Rattle.book.specs.Books.{Contents, withinRule, rowsIn, rowsAt, liveAt, heardOf, leaveOf, holding}
 use Rattle.book.proofs.WithinLaws.{within}
 use Rattle.book_joins.specs.Responses.{slotsTold, toldIn}
-use Rattle.book_history.specs.Calls.{Call, join, ask, heard, leave, schedule, refusalOf}
-use Rattle.book_history.specs.Calls as keeping
-use Rattle.book_history.specs.Laws.{holding}
+use Rattle.book_history.specs.Calls.{Call, join, ask, heard, leave, schedule, image, refusalOf, next, unitOf, timeOf}
 use Rattle.book_history.proofs.WrittenLaws.{rows-written}
 use Rattle.book_history.proofs.TakingLaws.{ruled-rows, some-unit, Taken, join-taken, ask-taken, heard-taken, taken-within, leave-freed}
 use Rattle.book_history.proofs.RuleLaws.{keeps-rule, refused-keeps, keeps-plan}
 use Rattle.book_history.proofs.HoldingLaws.{others-stay}
 use Rattle.book_history.proofs.SilenceLaws.{row-written, stays-while-live}
-use Rattle.book_history.specs.BookEvents.{begun, Event, call, image, timeOf, next, afterEvents, answer, recorded, stepOf, clockOf, Grant, grant, changedBy, granted, granting, counts}
+use Rattle.book_history.specs.Histories.{Start, begun, afterCalls, answer, recorded, stepOf, clockOf, Grant, grant, changedBy, granted, granting, recent, counts}
 use Rattle.book_history.specs.BookLaws.{slotsAt, AnswersTell}
 use Rattle.book_history.proofs.BookRuleLaws.{begun-within, begun-new, plan-after}
 use Rattle.book_history.proofs.SettledLaws.{Settled, taken-settled, left-settled}
@@ -49,14 +47,14 @@ pub record Knows (b : Contents) (elapsed unit : ℕ) (g : Grant) : Type 0 where
   pub slots : (later : ℕ) → inOrder (b .time) later ≡ true → slotsAt b unit later ≡ counts (b .plan) unit (elapsed + ageAt later (b .time)) g
 
 nothing-counts : (p : Plan) (unit now at : ℕ) → counts p unit now (grant [] at) ≡ []
-nothing-counts p unit now at = go (eqb unit (p .manager) || leb now _)
+nothing-counts p unit now at = go (recent p unit now (grant [] at))
   where
     go : (t : Bool) → _≡_ {A = List ℕ} (cond t [] []) []
     go true = refl
     go false = refl
 
 -- at the start, what its row says, if that is of the start's time
-pub known-start : (b : Contents) → withinRule b ≡ true → every (λ r. vacantRow r || eqb (r .time) (b .time)) (rowsIn b) ≡ true → (unit : ℕ) → (unit ≡ 0 → ⊥)
+known-start : (b : Contents) → withinRule b ≡ true → every (λ r. vacantRow r || eqb (r .time) (b .time)) (rowsIn b) ≡ true → (unit : ℕ) → (unit ≡ 0 → ⊥)
     → Knows b 0 unit (granting b unit)
 known-start b w new unit some = record { past = omega arith; slots = λ later o. go later (ℕ-discrete (row (rowsIn b) at .unit) unit) }
   where
@@ -85,10 +83,10 @@ known-start b w new unit some = record { past = omega arith; slots = λ later o.
 -- ---- a unit's own call
 -- one that writes its row
 module _ {b : Contents} {c : Call} {at : ℕ} {own : Slots 64} (t : Taken b c at own) where
-  taken-known : (now : ℕ) (told : List ℕ) → told ≡ slotsTold (b .plan) at own → Knows (keeping.next b c) now (keeping.unitOf c) (grant told now)
+  taken-known : (now : ℕ) (told : List ℕ) → told ≡ slotsTold (b .plan) at own → Knows (next b c) now (unitOf c) (grant told now)
   taken-known now told e =
-      let new = keeping.next b c in
-      let unit = keeping.unitOf c in
+      let new = next b c in
+      let unit = unitOf c in
       let plan = keeps-plan b c .0 in
       let written = row-written t in
       let time : row (rowsIn new) at .time ≡ new .time = ap (λ (r : Row). r .time) written ∙ sym (ap (λ (x : Contents). x .time) (t .book)) in
@@ -101,22 +99,33 @@ module _ {b : Contents} {c : Call} {at : ℕ} {own : Slots 64} (t : Taken b c at
             ∙ ap (λ (l : List ℕ). counts (new .plan) unit (now + ageAt later (new .time)) (grant l now)) (sym e));
       }
 
--- what counts and is something was told
-told-of : (t : Bool) (x : ℕ) (l told : List ℕ) → x ∷ l ≡ cond t told [] → told ≡ x ∷ l
-told-of true x l told e = sym e
-told-of false x l told e =
-    let n : suc (length l) ≡ 0 = ap length e in
-    absurd (omega (arith, n))
+-- what a book has for a live unit begins with its control slot
+pub live-slots : (b : Contents) (unit time : ℕ) → liveAt b unit time ≡ true → (x : ℕ) × ((l : List ℕ) × (x ∷ l ≡ slotsAt b unit time))
+live-slots b unit time e = (_, (_, sym (ap (λ (t : Bool). cond t (slotsTold (b .plan) (placeFor unit (rowsAt b time)) (holding b unit time)) []) e)))
 
--- what a member that is heard was told last
-heard-told : (b : Contents) (elapsed unit time : ℕ) (g : Grant) → heardOf b unit time .refused ≡ 0 → Knows b elapsed unit g
-    → g .told ≡ slotsTold (b .plan) (placeFor unit (rowsAt b time)) (holding b unit time)
-heard-told b elapsed unit time g z k =
-    let t = heard-taken b unit time z in
-    let live = lt-ltb (placeFor unit (rowsAt b time)) (length (rowsAt b time)) (t .place .there) in
-    let slots = slotsTold (b .plan) (placeFor unit (rowsAt b time)) (holding b unit time) in
-    told-of (eqb unit (b .plan .manager) || leb (elapsed + ageAt time (b .time)) _) _ _ (g .told)
-    (sym (ap (λ (l : Bool). cond l slots []) live) ∙ k .slots time (t .allowed .order))
+-- what counts and is something counts wholly
+all-counts : (t : Bool) (x : ℕ) (l told : List ℕ) → x ∷ l ≡ cond t told [] → cond t told [] ≡ told
+all-counts true x l told e = refl
+all-counts false x l told e = let n : suc (length l) ≡ 0 = ap length e in absurd (omega (arith, n))
+
+-- a member that is heard was told last what it has, and all of that counts
+module _ (b : Contents) (elapsed unit time : ℕ) (g : Grant) (z : heardOf b unit time .refused ≡ 0) (k : Knows b elapsed unit g) where
+  abbrev heardNow : ℕ
+  heardNow = elapsed + ageAt time (b .time)
+
+  heard-live : liveAt b unit time ≡ true
+  heard-live = lt-ltb (placeFor unit (rowsAt b time)) (length (rowsAt b time)) (heard-taken b unit time z .place .there)
+
+  heard-slots : slotsAt b unit time ≡ counts (b .plan) unit heardNow g
+  heard-slots = k .slots time (heard-taken b unit time z .allowed .order)
+
+  pub heard-counts : counts (b .plan) unit heardNow g ≡ g .told
+  heard-counts = let (x, (l, e)) = live-slots b unit time heard-live in all-counts (recent (b .plan) unit heardNow g) x l (g .told) (e ∙ heard-slots)
+
+  heard-told : g .told ≡ slotsTold (b .plan) (placeFor unit (rowsAt b time)) (holding b unit time)
+  heard-told =
+      let slots = slotsTold (b .plan) (placeFor unit (rowsAt b time)) (holding b unit time) in
+      sym heard-counts ∙ (sym heard-slots ∙ ap (λ (l : Bool). cond l slots []) heard-live)
 
 -- who left has nothing
 left-known : (b : Contents) (now unit time : ℕ) → leaveOf b unit time .refused ≡ 0 → Knows (leaveOf b unit time .book) now unit (grant [] now)
@@ -154,10 +163,6 @@ soon-counts p unit now g x l other e = go (leb now (g .at + 300000)) refl (rw (n
     go true q f = leb-true now (g .at + 300000) q
     go false q f = let n : suc (length l) ≡ 0 = ap length f in absurd (omega (arith, n))
 
--- what a book has for a live unit begins with its control slot
-pub live-slots : (b : Contents) (unit time : ℕ) → liveAt b unit time ≡ true → (x : ℕ) × ((l : List ℕ) × (x ∷ l ≡ slotsAt b unit time))
-live-slots b unit time e = (_, (_, sym (ap (λ (t : Bool). cond t (slotsTold (b .plan) (placeFor unit (rowsAt b time)) (holding b unit time)) []) e)))
-
 module _ (unit : ℕ) (a : address unit ≡ true) where
   -- the manager's row stays
   manager-stays : (b : Contents) → withinRule b ≡ true → unit ≡ b .plan .manager → (time later : ℕ) → slotsAt b unit later ≡ slotsAt b unit time
@@ -169,13 +174,13 @@ module _ (unit : ℕ) (a : address unit ≡ true) where
       λ t. row-slots b w unit some 0 own t ∙ ap (λ (m : Bool). cond (m || leb (ageAt t (row (rowsIn b) 0 .time)) 300000) told []) (eq-eqb unit (b .plan .manager) e) in
       always later ∙ sym (always time)
 
-  module _ (b : Contents) (c : Call) (z : refusalOf b c ≡ 0) (s : Settled b c) (n : keeping.unitOf c ≡ unit → ⊥) (elapsed : ℕ) (g : Grant)
+  module _ (b : Contents) (c : Call) (z : refusalOf b c ≡ 0) (s : Settled b c) (n : unitOf c ≡ unit → ⊥) (elapsed : ℕ) (g : Grant)
       (k : Knows b elapsed unit g) where
     abbrev new : Contents
-    new = keeping.next b c
+    new = next b c
 
     abbrev time : ℕ
-    time = keeping.timeOf c
+    time = timeOf c
 
     new-within : withinRule new ≡ true
     new-within = keeps-rule .1 b c z
@@ -250,9 +255,9 @@ module _ (unit : ℕ) (a : address unit ≡ true) where
           other-later later on ∙ (λ i. counts (old i) unit (elapsed + ageAt time (b .time) + ageAt later (at i)) g);
     }
 
--- ---- every event
+-- ---- every call
 -- of the unit and accepted, of another and accepted, or refused
-chosen : (P : Clock → Grant → Type 0) (n u unit : ℕ) (changing : Bool) (on k : Clock) (x g : Grant)
+pub chosen : (P : Clock → Grant → Type 0) (n u unit : ℕ) (changing : Bool) (on k : Clock) (x g : Grant)
     → (n ≡ 0 → u ≡ unit → P (cond changing on k) x) → (n ≡ 0 → (u ≡ unit → ⊥) → P (cond changing on k) g) → ((n ≡ 0 → ⊥) → P k g)
     → P (cond (eqb n 0 && changing) on k) (cond (eqb n 0 && eqb u unit) x g)
 chosen P n u unit changing on k x g own other refused = go (ℕ-discrete n 0) (ℕ-discrete u unit)
@@ -270,12 +275,12 @@ pub record Known (b : Contents) (unit : ℕ) (k : Clock) (g : Grant) : Type 0 wh
 module _ (unit : ℕ) (a : address unit ≡ true) where
   -- a call that changes the book where it is accepted, and makes a grant of its own unit
   call-known : (b : Contents) (c : Call) (k : Clock) (x : ℕ → Grant) (g : Grant) → Known b unit k g → (refusalOf b c ≡ 0 → Settled b c)
-      → (refusalOf b c ≡ 0 → (now : ℕ) → Knows b (k .elapsed) (keeping.unitOf c) g → Knows (keeping.next b c) now (keeping.unitOf c) (x now))
-      → let now = nowAt k (keeping.timeOf c) in
-      Known (keeping.next b c) unit (cond (eqb (refusalOf b c) 0 && true) (record { last = keeping.timeOf c; elapsed = now }) k)
-      (cond (eqb (refusalOf b c) 0 && eqb (keeping.unitOf c) unit) (x now) g)
+      → (refusalOf b c ≡ 0 → (now : ℕ) → Knows b (k .elapsed) (unitOf c) g → Knows (next b c) now (unitOf c) (x now))
+      → let now = nowAt k (timeOf c) in
+      Known (next b c) unit (cond (eqb (refusalOf b c) 0 && true) (record { last = timeOf c; elapsed = now }) k)
+      (cond (eqb (refusalOf b c) 0 && eqb (unitOf c) unit) (x now) g)
   call-known b c k x g h settled own =
-      chosen (Known new unit) (refusalOf b c) (keeping.unitOf c) unit _ (record { last = keeping.timeOf c; elapsed = now }) k (x now) g
+      chosen (Known new unit) (refusalOf b c) (unitOf c) unit _ (record { last = timeOf c; elapsed = now }) k (x now) g
       (λ z u. record {
         clock = sym (settled z .time);
         knows = subst (λ (v : ℕ). Knows new now v (x now)) u (own z now (subst (λ (v : ℕ). Knows b (k .elapsed) v g) (sym u) (h .knows)));
@@ -284,39 +289,43 @@ module _ (unit : ℕ) (a : address unit ≡ true) where
       (λ z. subst (λ (b′ : Contents). Known b′ unit k g) (sym (refused-keeps b c z)) h)
     where
       new : Contents
-      new = keeping.next b c
+      new = next b c
 
       now : ℕ
-      now = nowAt k (keeping.timeOf c)
+      now = nowAt k (timeOf c)
 
-  known-next : (b : Contents) (k : Clock) (g : Grant) (e : Event) → Known b unit k g
-      → Known (next b e) unit (moved k (stepOf (record { event = e; answer = answer b e }))) (changedBy toldIn unit e (answer b e) (nowAt k (timeOf e)) g)
-  known-next b k g (call (join s time out)) h =
+  pub known-next : (b : Contents) (k : Clock) (g : Grant) (c : Call) → Known b unit k g
+      → Known (next b c) unit (moved k (stepOf (record { call = c; answer = answer b c }))) (changedBy toldIn unit c (answer b c) (nowAt k (timeOf c)) g)
+  known-next b k g (join s time out) h =
       call-known b (join s time out) k _ g h (λ z. taken-settled (join-taken b s time out z))
       (λ z now l. taken-known (join-taken b s time out z) now _ (join-told b s time out z))
-  known-next b k g (call (ask s time out)) h =
+  known-next b k g (ask s time out) h =
       call-known b (ask s time out) k _ g h (λ z. taken-settled (ask-taken b s time out z))
       (λ z now l. taken-known (ask-taken b s time out z) now _ (ask-told b s time out z))
-  known-next b k g (call (heard v time)) h =
+  known-next b k g (heard v time) h =
       call-known b (heard v time) k (grant (g .told)) g h (λ z. taken-settled (heard-taken b v time z))
       (λ z now l. taken-known (heard-taken b v time z) now (g .told) (heard-told b (k .elapsed) v time g z l))
-  known-next b k g (call (leave v time)) h = call-known b (leave v time) k (grant []) g h (λ z. left-settled b v time z) (λ z now l. left-known b now v time z)
-  known-next b k g (call (schedule v hop time out)) h =
-      chosen (Known b unit) (answer b (call (schedule v hop time out)) .refused) v unit _ _ k g g (λ z u. h) (λ z n. h) (λ z. h)
-  known-next b k g (image time out) h = chosen (Known b unit) (answer b (image time out) .refused) 0 unit _ _ k g g (λ z u. h) (λ z n. h) (λ z. h)
+  known-next b k g (leave v time) h = call-known b (leave v time) k (grant []) g h (λ z. left-settled b v time z) (λ z now l. left-known b now v time z)
+  known-next b k g (schedule v hop time out) h =
+      chosen (Known b unit) (refusalOf b (schedule v hop time out)) v unit _ _ k g g (λ z u. h) (λ z n. h) (λ z. h)
+  known-next b k g (image time out) h = chosen (Known b unit) (refusalOf b (image time out)) 0 unit _ _ k g g (λ z u. h) (λ z n. h) (λ z. h)
 
-  pub known-after : (b : Contents) (k : Clock) (g : Grant) (es : List Event) → Known b unit k g
-      → Known (afterEvents b es) unit (clockAfter k (map stepOf (recorded b es))) (granted unit k g (recorded b es))
+  pub known-after : (b : Contents) (k : Clock) (g : Grant) (cs : List Call) → Known b unit k g
+      → Known (afterCalls b cs) unit (clockAfter k (map stepOf (recorded b cs))) (granted unit k g (recorded b cs))
   known-after b k g [] h = h
-  known-after b k g (e ∷ es) h = known-after (next b e) _ _ es (known-next b k g e h)
+  known-after b k g (c ∷ cs) h = known-after (next b c) _ _ cs (known-next b k g c h)
+
+pub known-begun : (start : Start) (unit : ℕ) → begun start .refused ≡ 0 → address unit ≡ true
+    → let b = begun start .book in Known b unit (started (b .time)) (granting b unit)
+known-begun start unit z a =
+    record { clock = refl; knows = known-start (begun start .book) (begun-within start z) (begun-new start z) unit (address-some unit a) }
 
 pub answers-tell : AnswersTell
-answers-tell start es unit time z a o =
+answers-tell start cs unit time z a o =
     let b = begun start .book in
-    let hs = recorded b es in
+    let hs = recorded b cs in
     let k = started (b .time) in
-    let known = known-start b (begun-within start z) (begun-new start z) unit (address-some unit a) in
-    let h = known-after unit a b k (granting b unit) es (record { clock = refl; knows = known }) in
+    let h = known-after unit a b k (granting b unit) cs (known-begun start unit z a) in
     let last = sym (h .clock) in
-    let plan = plan-after b es in
+    let plan = plan-after b cs in
     h .knows .slots time o ∙ (λ i. counts (plan i) unit (clockOf b hs .elapsed + ageAt time (last i)) (granted unit k (granting b unit) hs))

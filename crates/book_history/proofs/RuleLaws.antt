@@ -13,9 +13,9 @@ use Rattle.book_members.proofs.RowLaws.{length-current}
 use Rattle.book_members.proofs.RowRuleLaws.{ruled-emptied}
 use Rattle.book.specs.Books.{Contents, withinRule, rowsAt, placesAt, withRow, heardOf, leaveOf}
 use Rattle.book_joins.specs.Joins.{joinOf, askOf}
-use Rattle.book_history.specs.Calls.{Call, join, ask, heard, leave, schedule, refusalOf, next}
+use Rattle.book_history.specs.Calls.{Call, join, ask, heard, leave, schedule, image, refusalOf, next}
 use Rattle.book_history.specs.Laws.{KeepsRule, RefusedKeeps, KeepsPlan}
-use Rattle.book_history.proofs.CallLaws.{schedule-allowed}
+use Rattle.book_history.proofs.CallLaws.{schedule-allowed, image-allowed}
 use Rattle.book_history.proofs.WrittenLaws.{within-written}
 use Rattle.book_history.proofs.TakingLaws.{whole, ruled-rows, join-taken, ask-taken, heard-taken, taken-within, leave-freed}
 use Rattle.book_history.proofs.FreshLaws.{fresh-within}
@@ -35,6 +35,7 @@ keeps-rule = (fresh-within, every-call)
         ∙ within-written b time at emptyRow (f .place .there) (whole (f .allowed))
         (ruled-emptied (ruled-rows (f .allowed)) at (f .place .there) (λ z. f .other (f .place .leads z)))
     every-call b (schedule unit hop time out) e = schedule-allowed b unit hop time out e .book
+    every-call b (image time out) e = image-allowed b time out e
 
 -- ---- refusals
 pub refused-keeps : RefusedKeeps
@@ -44,6 +45,7 @@ refused-keeps b (ask s time out) z = after-refused _ b _ z
 refused-keeps b (heard unit time) z = after-refused _ b _ z
 refused-keeps b (leave unit time) z = after-refused _ b _ z
 refused-keeps b (schedule unit hop time out) z = refl
+refused-keeps b (image time out) z = refl
 
 -- ---- the plan
 abbrev SamePlan : Contents → Contents → Type 0
@@ -60,3 +62,4 @@ keeps-plan b (ask s time out) = written-plan b (askOf b s time out .refused) tim
 keeps-plan b (heard unit time) = written-plan b (heardOf b unit time .refused) time _ _
 keeps-plan b (leave unit time) = written-plan b (leaveOf b unit time .refused) time _ _
 keeps-plan b (schedule unit hop time out) = (refl, refl)
+keeps-plan b (image time out) = (refl, refl)

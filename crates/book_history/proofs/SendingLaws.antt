@@ -19,10 +19,10 @@ use Rattle.site_plan.proofs.PlanLaws.{rule-bounds}
 use Rattle.site_plan.proofs.SendingLaws.{one-sender-of-units, one-hop-of-units}
 use Rattle.book_members.specs.Members.{placeFor}
 use Rattle.book_members.proofs.LookupLaws.{found-same}
-use Rattle.book.specs.Books.{Contents, rowsAt, liveAt}
+use Rattle.book.specs.Books.{Contents, rowsAt, holding}
 use Rattle.book.specs.Schedules.{scheduleRefusal, scheduleOf}
 use Rattle.book.proofs.ScheduleLaws.{Schedulable}
-use Rattle.book_history.specs.Laws.{holding, kindIn, OneSenderInBook, OneHopInBook}
+use Rattle.book_history.specs.Laws.{kindIn, OneSenderInBook, OneHopInBook}
 use Rattle.book_history.proofs.CallLaws.{schedule-unrefused, schedule-allowed}
 use Rattle.book.proofs.WithinLaws.{within}
 use Rattle.book_history.proofs.HoldingLaws.{hold-apart}
@@ -37,7 +37,7 @@ stored n f out s d h l =
     ap (λ (t : List ℕ). getD t s d) whole ∙ List·getD-append (tab n f) rest d s (omega (arith, long)) ∙ getD-tab n f s d h
 
 module _ (b : Contents) (unit hop time : ℕ) (out : List ℕ) (e : scheduleOf b unit hop time out .said .refusal ≡ 0) where
-  may : Schedulable b unit hop time (liveAt b unit time) (length out)
+  may : Schedulable b unit hop time (length out)
   may = schedule-allowed b unit hop time out e
 
   plan-kept : planRule (b .plan) ≡ true
@@ -50,7 +50,7 @@ module _ (b : Contents) (unit hop time : ℕ) (out : List ℕ) (e : scheduleOf b
       → kindIn (scheduleOf b unit hop time out .held) s ≡ kindOf (b .plan) (placeFor unit (rowsAt b time)) hop (holding b unit time) s
   unfolding scheduleOf
   kind-there s h =
-      rw (eq-eqb (scheduleRefusal b unit hop time (liveAt b unit time) (length out)) 0 (schedule-unrefused b unit hop time out e))
+      rw (eq-eqb (scheduleRefusal b unit hop time (length out)) 0 (schedule-unrefused b unit hop time out e))
       (stored (slots (b .plan)) (kindOf (b .plan) (placeFor unit (rowsAt b time)) hop (holding b unit time)) out s sleep h (may .fits))
 
 -- ---- the regions are among the slots

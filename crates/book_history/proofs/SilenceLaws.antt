@@ -14,17 +14,17 @@ use Rattle.octets.proofs.AddressLaws.{address-some}
 use Rattle.moments.specs.Moments.{ageAt}
 use Rattle.slot_sets.specs.Sets.{Slots}
 use Rattle.site_plan.specs.declared.plan.Plan.{Plan}
-use Rattle.book_members.specs.Members.{Row, emptyRow, current, placeFor}
+use Rattle.book_members.specs.Members.{Row, emptyRow, current, placeFor, memberWith}
 use Rattle.book_members.proofs.RowLaws.{row, length-current, first-stays, others-kept, still, live-before}
 use Rattle.book_members.proofs.PairLaws.{led-first}
 use Rattle.book_members.proofs.LookupLaws.{found-unit, found-there, found-is}
 use Rattle.book_members.proofs.RowRuleLaws.{ruled-current}
 use Rattle.book_members.proofs.TimedLaws.{timed-rows}
-use Rattle.book.specs.Books.{Contents, withinRule, rowsIn, rowsAt, liveAt}
-use Rattle.book_history.specs.Calls.{Call, join, ask, heard, leave, schedule, timeOf, unitOf, next}
-use Rattle.book_history.specs.Laws.{StaysWhileLive, LiveFor, holding}
+use Rattle.book.specs.Books.{Contents, withinRule, rowsIn, rowsAt, liveAt, holding}
+use Rattle.book_history.specs.Calls.{Call, join, ask, heard, leave, schedule, image, next, unitOf, timeOf}
+use Rattle.book_history.specs.Laws.{StaysWhileLive, LiveFor}
 use Rattle.book.proofs.WithinLaws.{within}
-use Rattle.book_history.proofs.WrittenLaws.{rowNow, rows-written}
+use Rattle.book_history.proofs.WrittenLaws.{rows-written}
 use Rattle.book_history.proofs.TakingLaws.{some-unit, Taken, join-taken, ask-taken, heard-taken, taken-within}
 use Rattle.book_history.proofs.RuleLaws.{keeps-plan}
 use Rattle.book_history.proofs.HoldingLaws.{same-holding}
@@ -104,11 +104,11 @@ module _ (b : Contents) (w : withinRule b ≡ true) (unit : ℕ) (some : unit �
 
 -- the row that a call writes
 module _ {b : Contents} {c : Call} {at : ℕ} {slots : Slots 64} (t : Taken b c at slots) where
-  pub row-written : row (rowsIn (next b c)) at ≡ rowNow (unitOf c) (timeOf c) slots
+  pub row-written : row (rowsIn (next b c)) at ≡ memberWith (unitOf c) slots (timeOf c)
   row-written =
       ap (λ (new : Contents). row (rowsIn new) at) (t .book)
-      ∙ (ap (λ (rs : List Row). row rs at) (rows-written b (timeOf c) at (rowNow (unitOf c) (timeOf c) slots) (t .place .there))
-      ∙ getD-set-same (rowsAt b (timeOf c)) at (rowNow (unitOf c) (timeOf c) slots) emptyRow (t .place .there))
+      ∙ (ap (λ (rs : List Row). row rs at) (rows-written b (timeOf c) at (memberWith (unitOf c) slots (timeOf c)) (t .place .there))
+      ∙ getD-set-same (rowsAt b (timeOf c)) at (memberWith (unitOf c) slots (timeOf c)) emptyRow (t .place .there))
 
   live-taken : (later : ℕ) → (unitOf c ≡ b .plan .manager → ⊥) → liveAt (next b c) (unitOf c) later ≡ leb (ageAt later (timeOf c)) 300000
   live-taken later other =
@@ -122,3 +122,4 @@ live-for b (ask s time out) later z r n = live-taken (ask-taken b s time out z) 
 live-for b (heard unit time) later z r n = live-taken (heard-taken b unit time z) later n
 live-for b (leave unit time) later z r n = absurd (false≢true r)
 live-for b (schedule unit hop time out) later z r n = absurd (false≢true r)
+live-for b (image time out) later z r n = absurd (false≢true r)

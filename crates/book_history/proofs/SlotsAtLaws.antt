@@ -19,12 +19,12 @@ use Rattle.book_members.proofs.LookupLaws.{found-tally, found-unit}
 use Rattle.book_members.proofs.PairLaws.{led-first}
 use Rattle.book_members.proofs.RowRuleLaws.{units-least}
 use Rattle.book_members.proofs.TimedLaws.{timed-rows}
-use Rattle.book.specs.Books.{Contents, withinRule, rowsIn, rowsAt, liveAt}
+use Rattle.book.specs.Books.{Contents, withinRule, rowsIn, rowsAt, liveAt, holding}
 use Rattle.book.proofs.WithinLaws.{within}
 use Rattle.book_joins.specs.Responses.{slotsTold}
-use Rattle.book_history.specs.Laws.{SameHolding, holding}
+use Rattle.book_history.specs.Laws.{SameHolding}
 use Rattle.book_history.proofs.SilenceLaws.{lasts, live-lasts, row-lasts, slots-last}
-use Rattle.book_history.specs.BookEvents.{Grant, grant, counts}
+use Rattle.book_history.specs.Histories.{Grant, grant, counts}
 use Rattle.book_history.specs.BookLaws.{slotsAt}
 
 -- the same in two books where it holds the same
@@ -89,6 +89,6 @@ live-soon b w unit some other later o e =
 pub none-counts : (b : Contents) → withinRule b ≡ true → (unit : ℕ) → (unit ≡ 0 → ⊥) → tally (ofUnit unit) (rowsIn b) ≡ 0 → (later : ℕ) → slotsAt b unit later ≡ []
 none-counts b w unit some none later =
     let fewer =
-    weigh-current (one (ofUnit unit)) (rowRule (b .plan .manager) (b .plan .«data_slots») (b .time)) (λ r e. omega (arith, units-least unit some)) later (rowsIn b) (within b w .rows .each) in
+    weigh-current (one (ofUnit unit)) (rowRule (b .plan .«data_slots»)) (λ r e. omega (arith, units-least unit some)) later (rowsIn b) (within b w .rows .each) in
     let gone : tally (ofUnit unit) (rowsAt b later) ≡ 0 = omega (arith, none, fewer) in
     no-slots b unit later (found-tally unit (rowsAt b later) ∙ ap not (eq-eqb (tally (ofUnit unit) (rowsAt b later)) 0 gone))

@@ -14,18 +14,17 @@ use Rattle.octets.proofs.AddressLaws.{address-some}
 use Rattle.moments.proofs.MomentLaws.{in-order-self}
 use Rattle.slot_sets.specs.Sets.{Slots}
 use Rattle.site_plan.proofs.PlanLaws.{kept}
-use Rattle.book_members.specs.Members.{Row, emptyRow, placeFor, vacant}
+use Rattle.book_members.specs.Members.{Row, emptyRow, placeFor, vacant, memberWith}
 use Rattle.book_members.proofs.RowLaws.{row, kept-now}
 use Rattle.book_members.proofs.LookupLaws.{found-unit, found-set}
 use Rattle.book_members.proofs.RowRuleLaws.{Seat, Share, ruled-taken}
 use Rattle.book_members.proofs.SeatLaws.{live-seat, free-seat}
-use Rattle.book.specs.Books.{Contents, withinRule, rowsAt, liveAt, withRow, heardOf, leaveOf}
-use Rattle.book_joins.specs.Joins.{seat, seated, grantFor, asks, noRowFor, joinIn, joinOf, askIn, askOf}
+use Rattle.book.specs.Books.{Contents, withinRule, rowsAt, liveAt, withRow, heardOf, leaveOf, holding}
+use Rattle.book_joins.specs.Joins.{seat, seated, grantFor, asks, noRowFor, joinIn, joinOf, askIn, askOf, askedSlots}
 use Rattle.book_history.specs.Calls.{Call, join, ask, heard, timeOf, unitOf, next}
-use Rattle.book_history.specs.Laws.{holding}
-use Rattle.book_history.proofs.CallLaws.{Allowed, joinedSlots, askedSlots, member-allowed, join-allowed, ask-allowed}
+use Rattle.book_history.proofs.CallLaws.{Allowed, joinedSlots, member-allowed, join-allowed, ask-allowed}
 use Rattle.book.proofs.WithinLaws.{RowsRuled, Within, within, rows-then}
-use Rattle.book_history.proofs.WrittenLaws.{rowNow, rows-at-written, within-written}
+use Rattle.book_history.proofs.WrittenLaws.{rows-at-written, within-written}
 use Rattle.book_history.proofs.ShareLaws.{own-share, asks-share, granted-share}
 
 -- ---- the rows that an allowed call finds
@@ -80,13 +79,20 @@ pub record Taken (b : Contents) (c : Call) (at : ℕ) (own : Slots 64) : Type 0 
   pub allowed : Allowed b (unitOf c) (timeOf c)
   pub place : Seat (ruled-rows allowed) at (unitOf c)
   pub share : Share (ruled-rows allowed) at own
-  pub book : next b c ≡ withRow b (timeOf c) at (rowNow (unitOf c) (timeOf c) own)
+  pub book : next b c ≡ withRow b (timeOf c) at (memberWith (unitOf c) own (timeOf c))
 
 pub heard-taken : (b : Contents) (unit time : ℕ) → heardOf b unit time .refused ≡ 0 → Taken b (heard unit time) (placeFor unit (rowsAt b time)) (holding b unit time)
 unfolding heardOf
 heard-taken b unit time e =
     let (a, live) = member-allowed b unit time (liveAt b unit time) e in
-    record { allowed = a; place = own-seat a live; share = own-slots a live; book = after-accepted _ b _ e }
+    let at = placeFor unit (rowsAt b time) in
+    let own = found-unit unit (rowsAt b time) (ltb-true at (length (rowsAt b time)) live) in
+    record {
+      allowed = a;
+      place = own-seat a live;
+      share = own-slots a live;
+      book = after-accepted _ b _ e ∙ ap (λ (u : ℕ). withRow b time at (memberWith u (holding b unit time) time)) own;
+    }
 
 pub ask-taken : (b : Contents) (s : List ℕ) (time : ℕ) (out : List ℕ) → askOf b s time out .refused ≡ 0
     → Taken b (ask s time out) (placeFor (askIn s .node) (rowsAt b time)) (askedSlots b s time)
@@ -112,33 +118,33 @@ module _ {b : Contents} {c : Call} {at : ℕ} {own : Slots 64} (t : Taken b c at
 
   -- the rows with this one among them
   abbrev pub rowsTaken : List Row
-  rowsTaken = set (rowsAt b time) at (rowNow unit time own)
+  rowsTaken = set (rowsAt b time) at (memberWith unit own time)
 
   pub taken-ruled : RowsRuled b time rowsTaken
-  taken-ruled = ruled-taken (ruled-rows (t .allowed)) at (whole (t .allowed) .few) (rowNow unit time own) (t .place) (t .share) (t .allowed .of-unit) (in-order-self time)
+  taken-ruled = ruled-taken (ruled-rows (t .allowed)) at (whole (t .allowed) .few) (memberWith unit own time) (t .place) (t .share) (t .allowed .of-unit) (in-order-self time)
 
   pub taken-within : withinRule (next b c) ≡ true
-  taken-within = ap withinRule (t .book) ∙ within-written b time at (rowNow unit time own) (t .place .there) (whole (t .allowed)) taken-ruled
+  taken-within = ap withinRule (t .book) ∙ within-written b time at (memberWith unit own time) (t .place .there) (whole (t .allowed)) taken-ruled
 
   -- ---- what the unit then has
   pub row-taken : placeFor unit rowsTaken ≡ at
-  row-taken = found-set unit (rowsAt b time) at (rowNow unit time own) refl (t .place .there) (t .place .first)
+  row-taken = found-set unit (rowsAt b time) at (memberWith unit own time) refl (t .place .there) (t .place .first)
 
   now : rowsAt (next b c) time ≡ rowsTaken
-  now = ap (λ (new : Contents). rowsAt new time) (t .book) ∙ rows-at-written b time at (rowNow unit time own) (t .place .there) (kept-now time (rowNow unit time own) refl)
+  now = ap (λ (new : Contents). rowsAt new time) (t .book) ∙ rows-at-written b time at (memberWith unit own time) (t .place .there) (kept-now time (memberWith unit own time) refl)
 
   pub taken-row : placeFor unit (rowsAt (next b c) time) ≡ at
   taken-row = ap (placeFor unit) now ∙ row-taken
 
   pub taken-live : liveAt (next b c) unit time ≡ true
   taken-live =
-      rw now (lt-ltb (placeFor unit rowsTaken) (length rowsTaken) (omega (arith, row-taken, length-set (rowsAt b time) at (rowNow unit time own), t .place .there)))
+      rw now (lt-ltb (placeFor unit rowsTaken) (length rowsTaken) (omega (arith, row-taken, length-set (rowsAt b time) at (memberWith unit own time), t .place .there)))
 
   pub taken-holding : holding (next b c) unit time ≡ own
   taken-holding =
       ap (λ (rs : List Row). row rs (placeFor unit rs) .slots) now
       ∙ (ap (λ (i : ℕ). row rowsTaken i .slots) row-taken
-      ∙ ap (λ (r : Row). r .slots) (getD-set-same (rowsAt b time) at (rowNow unit time own) emptyRow (t .place .there)))
+      ∙ ap (λ (r : Row). r .slots) (getD-set-same (rowsAt b time) at (memberWith unit own time) emptyRow (t .place .there)))
 
 -- ---- a unit's row is free
 pub record Freed (b : Contents) (unit time : ℕ) : Type 0 where

@@ -16,10 +16,10 @@ use Rattle.book_members.specs.Members.{placeFor}
 use Rattle.book_members.proofs.RowLaws.{length-current}
 use Rattle.book.specs.Books.{Contents, rowsIn, rowsAt}
 use Rattle.book.proofs.WithinLaws.{within}
-use Rattle.book_joins.specs.Joins.{grants, seat, joinIn, joinOf, askIn, askOf}
+use Rattle.book_joins.specs.Joins.{grants, seat, joinIn, joinOf, askIn, askOf, askedSlots, joinResponses, askResponses}
 use Rattle.book_joins.specs.Responses.{slotsTold, responses, toldIn}
 use Rattle.book_joins.proofs.ResponseLaws.{small-told, told-back}
-use Rattle.book_history.proofs.CallLaws.{joinedSlots, askedSlots, join-allowed, ask-allowed}
+use Rattle.book_history.proofs.CallLaws.{joinedSlots, join-allowed, ask-allowed}
 use Rattle.book_history.proofs.TakingLaws.{join-taken, ask-taken}
 
 -- what is written where nothing refuses the request, and there is room for it
@@ -38,7 +38,7 @@ granted-told b unit time at own out n planned there fits z =
 module _ (b : Contents) (s : List ℕ) (time : ℕ) (out : List ℕ) where
   pub join-told : joinOf b s time out .refused ≡ 0
       → toldIn (joinOf b s time out .written / 13) (joinOf b s time out .held) ≡ slotsTold (b .plan) (seat b (joinIn s .node) time) (joinedSlots b s time)
-  unfolding joinOf
+  unfolding joinOf joinResponses
   join-told z =
       let (a, room, fits) = join-allowed b s time out z in
       granted-told b (joinIn s .node) time (seat b (joinIn s .node) time) (joinedSlots b s time) out _ (within b (a .book) .plan)
@@ -46,7 +46,7 @@ module _ (b : Contents) (s : List ℕ) (time : ℕ) (out : List ℕ) where
 
   pub ask-told : askOf b s time out .refused ≡ 0
       → toldIn (askOf b s time out .written / 13) (askOf b s time out .held) ≡ slotsTold (b .plan) (placeFor (askIn s .node) (rowsAt b time)) (askedSlots b s time)
-  unfolding askOf
+  unfolding askOf askResponses
   ask-told z =
       let (a, live, fits) = ask-allowed b s time out z in
       granted-told b (askIn s .node) time (placeFor (askIn s .node) (rowsAt b time)) (askedSlots b s time) out _ (within b (a .book) .plan)

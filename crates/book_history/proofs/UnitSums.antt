@@ -18,11 +18,7 @@ use Rattle.book_members.specs.Rules.{rowRule}
 use Rattle.book_members.proofs.RowLaws.{row}
 use Rattle.book_members.proofs.RowSums.{weigh, tally, tally-pass, tally-skip, ofUnit, alone-here, alone-behind}
 use Rattle.book_members.proofs.RowRuleLaws.{rule-either}
-
--- f 1 + .. + f n
-unfoldable pub sumTo : (ℕ → ℕ) → ℕ → ℕ
-sumTo f zero = 0
-sumTo f (suc n) = f (suc n) + sumTo f n
+use Rattle.book_history.specs.Histories.{sumTo}
 
 pub sum-same : (f g : ℕ → ℕ) (n : ℕ) → ((u : ℕ) → 1 ≤ u → u ≤ n → f u ≡ g u) → sumTo f n ≡ sumTo g n
 unfolding sumTo
@@ -33,12 +29,6 @@ sum-add : (f g : ℕ → ℕ) (n : ℕ) → sumTo (λ u. f u + g u) n ≡ sumTo 
 unfolding sumTo
 sum-add f g zero = refl
 sum-add f g (suc n) = omega (arith, sum-add f g n)
-
--- what grows so is such a sum
-pub sums : (f g : ℕ → ℕ) → g 0 ≡ 0 → ((n : ℕ) → g (suc n) ≡ f (suc n) + g n) → (n : ℕ) → g n ≡ sumTo f n
-unfolding sumTo
-sums f g e h zero = e
-sums f g e h (suc n) = h n ∙ ap (λ (k : ℕ). f (suc n) + k) (sums f g e h n)
 
 sum-none : (f : ℕ → ℕ) (n : ℕ) → ((u : ℕ) → 1 ≤ u → u ≤ n → f u ≡ 0) → sumTo f n ≡ 0
 unfolding sumTo
@@ -71,23 +61,23 @@ module _ (weight : Row → ℕ) where
   sum-rows [] n = sum-none (λ u. 0) n (λ u l m. refl)
   sum-rows (r ∷ rs) n = sum-add (λ u. mine u r) (λ u. weigh (mine u) rs) n ∙ ap (λ (k : ℕ). sumTo (λ u. mine u r) n + k) (sum-rows rs n)
 
-  module _ (manager dataSlots last n : ℕ) (most : (u : ℕ) → address u ≡ true → u ≤ n) (free : (r : Row) → vacantRow r ≡ true → r .slots ≡ noSlots → weight r ≡ 0) where
-    row-sum : (r : Row) → rowRule manager dataSlots last r ≡ true → sumTo (λ u. mine u r) n ≡ weight r
+  module _ (dataSlots n : ℕ) (most : (u : ℕ) → address u ≡ true → u ≤ n) (free : (r : Row) → vacantRow r ≡ true → r .slots ≡ noSlots → weight r ≡ 0) where
+    row-sum : (r : Row) → rowRule dataSlots r ≡ true → sumTo (λ u. mine u r) n ≡ weight r
     row-sum r e =
-        rule-either manager dataSlots last r e
+        rule-either dataSlots r e
         (λ t none.
         let empty = eqb-true (r .unit) 0 t in
         sum-none (λ u. mine u r) n (λ u l m. mine-other u r (λ z. omega (arith, z, empty, l))) ∙ sym (free r t none))
         (λ t m. mine-sum r n (leb-true 1 (r .unit) (and-eq-true-iff (leb 1 (r .unit)) (leb (r .unit) 0xFFFE) .0 (m .unit) .0)) (most (r .unit) (m .unit)))
 
-    pub units-sum : (rs : List Row) → every (rowRule manager dataSlots last) rs ≡ true → sumTo (λ u. weigh (mine u) rs) n ≡ weigh weight rs
+    pub units-sum : (rs : List Row) → every (rowRule dataSlots) rs ≡ true → sumTo (λ u. weigh (mine u) rs) n ≡ weigh weight rs
     unfolding weigh every
     units-sum rs e = sum-rows rs n ∙ go rs e
       where
-        go : (rs : List Row) → every (rowRule manager dataSlots last) rs ≡ true → weigh (λ r. sumTo (λ u. mine u r) n) rs ≡ weigh weight rs
+        go : (rs : List Row) → every (rowRule dataSlots) rs ≡ true → weigh (λ r. sumTo (λ u. mine u r) n) rs ≡ weigh weight rs
         go [] e = refl
         go (r ∷ rs) e =
-            let (here, later) = and-eq-true-iff (rowRule manager dataSlots last r) (every (rowRule manager dataSlots last) rs) .0 e in
+            let (here, later) = and-eq-true-iff (rowRule dataSlots r) (every (rowRule dataSlots) rs) .0 e in
             ap₂ _+_ (row-sum r here) (go rs later)
 
   -- ---- a unit's own row

@@ -8,7 +8,7 @@ use native.Mathlib.Omega.{arith}
 use lib.ListN.{length, set, length-take}
 use lib.Seq.{take-set-lt, drop-set-lt}
 use Rattle.slot_sets.specs.Sets.{Slots}
-use Rattle.book_members.specs.Members.{Row, kept, current}
+use Rattle.book_members.specs.Members.{Row, kept, current, memberWith}
 use Rattle.book_members.specs.Rules.{emptyIs}
 use Rattle.book_members.proofs.RowLaws.{row, DroppedOn, kept-again, length-current, every-behind, keptAt, current-set}
 use Rattle.book_members.proofs.RowRuleLaws.{empty-is}
@@ -47,7 +47,3 @@ module _ (b : Contents) (time at : ℕ) (r : Row) (there : at < length (rowsAt b
             rw (drop-set-lt (b .plan .rows) (placesAt b time) at r among-rows)
             (every-behind emptyIs empty-is time (b .plan .rows) (b .places) (w .behind));
       })
-
--- a unit's row of this time, which counts then
-abbrev pub rowNow : ℕ → ℕ → Slots 64 → Row
-rowNow unit time own = record { unit = unit; slots = own; time = time }

@@ -11,15 +11,15 @@ use Rattle.moments.specs.Moments.{ageAt, inOrder}
 use Rattle.frame_kinds.specs.Reading.{refusalAs}
 use Rattle.octets.specs.Addresses.{address}
 use Rattle.frame_requests.specs.Requests.{joinRequest}
-use Rattle.slot_sets.specs.Sets.{Slots, count, disjoint}
+use Rattle.slot_sets.specs.Sets.{count, disjoint}
 use Rattle.site_plan.specs.declared.plan.Plan.{Plan}
 use Rattle.site_plan.specs.Schedules.{sleep, sends, inBeacons, inControls, inData}
-use Rattle.book_members.specs.Members.{Row, emptyRow, vacantRow, placeFor, free, spare}
-use Rattle.book.specs.Books.{Contents, withinRule, rowsAt, liveAt, freshOf}
+use Rattle.book_members.specs.Members.{Row, vacantRow, placeFor, free, spare}
+use Rattle.book.specs.Books.{Contents, withinRule, rowsAt, liveAt, holding, freshOf}
 use Rattle.book.specs.Schedules.{scheduleOf}
 use Rattle.book_joins.specs.Joins.{wish, grantFor, joinIn, joinOf, askIn, askOf}
 use Rattle.book_bytes.specs.Trips.{Sized}
-use Rattle.book_history.specs.Calls.{Call, join, ask, heard, leave, schedule, timeOf, unitOf, refusalOf, next}
+use Rattle.book_history.specs.Calls.{Call, join, ask, heard, leave, schedule, image, refusalOf, next, about, unitOf, timeOf}
 
 -- ---- the rule
 -- a fresh book is within rule, and so is the book after every accepted call
@@ -58,10 +58,6 @@ abbrev pub RefusedIfFull : Type 0
 RefusedIfFull =
     (b : Contents) (s : List ℕ) (time : ℕ) (out : List ℕ) → withinRule b ≡ true → Newcomer b s time
     → (full b time ≡ true → joinOf b s time out .refused ≡ 12) × (joinOf b s time out .refused ≡ 12 → full b time ≡ true)
-
--- the slots that a unit holds at a time
-abbrev pub holding : Contents → ℕ → ℕ → Slots 64
-holding b unit time = getD (rowsAt b time) (placeFor unit (rowsAt b time)) emptyRow .slots
 
 -- how many a newcomer gets: min(max(1, asked), 4, spare+1)
 abbrev pub due : Contents → List ℕ → ℕ → ℕ
@@ -116,6 +112,7 @@ repeats (ask s time out) = false
 repeats (heard unit time) = true
 repeats (leave unit time) = false
 repeats (schedule unit hop time out) = true
+repeats (image time out) = true
 
 -- a live member that joins again, is heard or has its schedule made keeps its row and its slots; one that asks for slots keeps its row
 abbrev pub KeepsOwn : Type 0
@@ -124,18 +121,10 @@ KeepsOwn =
     × ((b : Contents) (s : List ℕ) (time : ℕ) (out : List ℕ) → liveAt b (askIn s .node) time ≡ true
     → placeFor (askIn s .node) (rowsAt (askOf b s time out .book) time) ≡ placeFor (askIn s .node) (rowsAt b time))
 
--- which calls renew a member's time
-abbrev pub renews : Call → Bool
-renews (join s time out) = true
-renews (ask s time out) = true
-renews (heard unit time) = true
-renews (leave unit time) = false
-renews (schedule unit hop time out) = false
-
 -- a member other than the manager is live up to 300,000 ms after its last accepted call
 abbrev pub LiveFor : Type 0
 LiveFor =
-    (b : Contents) (c : Call) (later : ℕ) → refusalOf b c ≡ 0 → renews c ≡ true → (unitOf c ≡ b .plan .manager → ⊥)
+    (b : Contents) (c : Call) (later : ℕ) → refusalOf b c ≡ 0 → about c .renews ≡ true → (unitOf c ≡ b .plan .manager → ⊥)
     → liveAt (next b c) (unitOf c) later ≡ leb (ageAt later (timeOf c)) 300000
 
 -- ---- counting

@@ -3,7 +3,7 @@
 use Prim.Native.Nat.{ℕ, _+_, _*_}
 use mathlib.Core.Bool.{Bool, not, _&&_, cond}
 use mathlib.Core.List.{List, [], _∷_, _++_}
-use lib.Dec.{eqb, ltb}
+use lib.Dec.{ltb}
 use lib.ListN.{length, getD}
 use lib.Seq.{sets}
 use Rattle.octets.specs.Answers.{Reason, accepted, reason, first, unless}
@@ -14,10 +14,10 @@ use Rattle.octets.specs.Told.{Wrote}
 use Rattle.moments.specs.Moments.{inOrder}
 use Rattle.slot_sets.specs.Sets.{slotsOf, maskOf}
 use Rattle.site_plan.specs.declared.plan.Plan.{Plan}
-use Rattle.book_members.specs.Members.{Row, emptyRow}
+use Rattle.book_members.specs.Members.{Row, memberWith, emptyRow, restoredAt}
 use Rattle.book.specs.Books.{Contents, withinRule, rowsAt, BookChange, changeTo, noBook}
 use Rattle.site_plan.specs.PlanBytes.{planSize, planAt, planBytes}
-use Rattle.book_image.specs.Forms.{Section, section, headSize, headBytes, formSize, fits}
+use Rattle.book_image.specs.Forms.{Section, section, headBytes, formSize, placeAt, fits}
 
 -- ---- the form
 -- a row: unit 2, slots 8 (bit i is data slot i)
@@ -28,12 +28,16 @@ rowWidths = 2 ∷ 8 ∷ []
 abbrev pub sections : ℕ → List Section
 sections rows = section 1 planSize ∷ section 2 (total rowWidths * rows) ∷ []
 
--- where the bodies stand: 11 and 20
+-- where their bodies start, however many rows there are: 11 and 20
 abbrev pub planPlace : ℕ
-planPlace = headSize (sections 0)
+planPlace = placeAt (sections 0) 0
 
 abbrev pub rowsPlace : ℕ
-rowsPlace = planPlace + planSize
+rowsPlace = placeAt (sections 0) 1
+
+-- and where the row at a place among them starts, counted from 0
+abbrev pub rowPlace : ℕ → ℕ
+rowPlace i = rowsPlace + total rowWidths * i
 
 -- ---- writing
 abbrev pub rowValues : Row → List ℕ
@@ -64,11 +68,11 @@ imageWritten b time out =
 abbrev pub planIn : List ℕ → Plan
 planIn s = planAt s planPlace
 
--- a row of an image restored at a time; an empty one has none
+-- a row of an image, restored at a time
 unfoldable pub rowIn : List ℕ → ℕ → ℕ → Row
 rowIn s time i =
-    let vs = fields rowWidths s (rowsPlace + total rowWidths * i) in
-    record { unit = getD vs 0 0; slots = slotsOf (getD vs 1 0); time = cond (eqb (getD vs 0 0) 0) 0 time }
+    let vs = fields rowWidths s (rowPlace i) in
+    restoredAt time (memberWith (getD vs 0 0) (slotsOf (getD vs 1 0)) 0)
 
 -- the book that an image says, restored at a time: as many rows as its plan has, then zeros
 unfoldable pub imageBook : List ℕ → ℕ → Contents

@@ -1,14 +1,14 @@
 // Restoring a book from an image: as its plan and its rows say, every time the given one.
 ghost use mathlib.Core.Path.{_≡_};
 ghost use mathlib.Core.Bool.{cond};
-ghost use Prim.Native.Nat.{_+_, _*_};
+ghost use Prim.Native.Nat.{_+_};
 ghost use lib.Dec.{ltb};
 ghost use Rattle.octets.specs.Lists.{tab};
 ghost use Rattle.octets.specs.Numbers.{num};
 ghost use Rattle.book_members.specs.Members.{rowOf, rowsOf, emptyRow};
 ghost use Rattle.book.specs.Books.{changeOf};
 ghost use Rattle.book_image.specs.Forms.{fits};
-ghost use Rattle.book_image.specs.Images.{sections, rowIn, restoreOf};
+ghost use Rattle.book_image.specs.Images.{sections, rowPlace, rowIn, restoreOf};
 use crate::writing::size_for;
 use book::book::Book;
 use book::book::Changed;
@@ -50,7 +50,7 @@ fn numbers_in(s: &[u8]) -> Member
 
 // Those of the row at a place, counted from 0. A part of known length spares a test of the image's end before each.
 fn numbers_at(s: &[u8], place: u8) -> Member
-    ensures { λ r. ⌜ (r .unit ≡ num 2 (now (s .entry)) (20 + 10 * place)) × (r .slots ≡ num 8 (now (s .entry)) (20 + 10 * place + 2)) ⌝ }
+    ensures { λ r. ⌜ (r .unit ≡ num 2 (now (s .entry)) (rowPlace place)) × (r .slots ≡ num 8 (now (s .entry)) (rowPlace place + 2)) ⌝ }
 {
     let start = 20 + 10 * (place as usize);
     let end = start + 10;

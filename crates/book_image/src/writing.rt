@@ -10,7 +10,7 @@ ghost use Rattle.slot_sets.specs.Sets.{slotsOf, maskOf};
 ghost use Rattle.book_members.specs.Members.{rowsOf};
 ghost use Rattle.book.specs.Books.{contents};
 ghost use Rattle.book_image.specs.Forms.{headBytes, formSize};
-ghost use Rattle.book_image.specs.Images.{rowWidths, sections, rowsBytes, imageReasons, imageWritten};
+ghost use Rattle.book_image.specs.Images.{rowWidths, sections, rowsPlace, rowsBytes, imageReasons, imageWritten};
 use book::book::Book;
 use book_members::member::Member;
 use book_members::rows::current;
@@ -55,7 +55,7 @@ fn put_row(out: &mut [u8], place: u16, member: Member)
 
 // The rows that a plan uses, each put into a part of known length. The row that the end cuts is the last.
 fn put_rows(out: &mut [u8], rows: [Member; 21], count: u8)
-    ensures { λ _. ⌜ now (out .exit) ≡ sets (now (out .entry)) 20 (rowsBytes (take count (rowsOf rows))) ⌝ }
+    ensures { λ _. ⌜ now (out .exit) ≡ sets (now (out .entry)) rowsPlace (rowsBytes (take count (rowsOf rows))) ⌝ }
 {
     let used = in_use(count);
     let mut written: u8 = 0;

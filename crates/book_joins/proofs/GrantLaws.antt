@@ -12,7 +12,7 @@ use lib.Seq.{sets}
 use Rattle.octets.specs.Calls.{after}
 use Rattle.slot_sets.specs.Sets.{Slots, union, count, lowest, withoutHighest, slotsOf}
 use Rattle.slot_sets.proofs.MaskLaws.{mask-nothing}
-use Rattle.book_members.specs.Members.{Row, emptyRow, placeFor, free, vacant}
+use Rattle.book_members.specs.Members.{Row, emptyRow, placeFor, free, vacant, memberWith}
 use Rattle.book.specs.Books.{Contents, placesAt, withRow}
 use Rattle.book_joins.specs.Joins.{wish, grantFor, brought, asks, Answered, grants}
 use Rattle.book_joins.specs.Responses.{responses}
@@ -56,10 +56,10 @@ module _ (n : ℕ) (b : Contents) (unit time at : ℕ) (own : Slots 64) (out : L
 
   -- the book is made from the rows of the call's time
   pub settled : (places now : List Row) (written : ℕ) (held : List ℕ) → n ≡ 0 → written ≡ 13 * (1 + count own) → now ≡ placesAt b time
-      → places ≡ set now at (record { unit = unit; slots = own; time = time }) → held ≡ sets out 0 (responses (b .plan) unit time at own)
+      → places ≡ set now at (memberWith unit own time) → held ≡ sets out 0 (responses (b .plan) unit time at own)
       → record { refused = n; written = written; book = record { plan = b .plan; time = time; places = places }; held = held } ≡ grants n b unit time at own out
   settled places now written held z w e p h = go (responses (b .plan) unit time at own) (w ∙ sym (length-responses (b .plan) unit time at own)) h
     where
       go : (bytes : List ℕ) → written ≡ length bytes → held ≡ sets out 0 bytes → _≡_ {A = Answered} (record { refused = n; written = written; book = record { plan = b .plan; time = time; places = places }; held = held })
-          (record { refused = n; written = after n 0 (length bytes); book = after n b (withRow b time at (record { unit = unit; slots = own; time = time })); held = after n out (sets out 0 bytes) })
+          (record { refused = n; written = after n 0 (length bytes); book = after n b (withRow b time at (memberWith unit own time)); held = after n out (sets out 0 bytes) })
       go bytes w h = rw (z, w, h, p, e)

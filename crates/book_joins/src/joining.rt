@@ -2,10 +2,11 @@
 ghost use mathlib.Core.Path.{_≡_};
 ghost use mathlib.Core.Bool.{cond};
 ghost use Prim.Native.Nat.{_+_, _-_, min};
+ghost use lib.ListN.{length};
 ghost use Rattle.octets.specs.Answers.{first};
 ghost use Rattle.slot_sets.specs.Sets.{slotsOf, count, lowest};
 ghost use Rattle.book.specs.Books.{contents};
-ghost use Rattle.book_joins.specs.Joins.{wish, answeredBy, joinReasons, joinOf};
+ghost use Rattle.book_joins.specs.Joins.{wish, answeredBy, joinIn, noRowFor, joinResponses, joinReasons, joinOf};
 use crate::grants::Granted;
 use crate::grants::fewer;
 use crate::grants::settle;
@@ -43,16 +44,17 @@ fn seated(live: bool, held: u64, spaces: u64, empty: u8, asked: u8) -> u64
     granted(spaces, empty, asked)
 }
 
-// Why a join request is refused, where there is no row for the unit or is one, and its responses do not fit or do; 0 where it is not.
-fn refusal(book: Book, frame: &[u8], time: u32, no_row: bool, short: bool) -> u8
-    ensures { λ r. ⌜ r ≡ first (joinReasons (contents book) (now (frame .entry)) time «no_row» short) ⌝ }
+// Why a join request is refused, where there is no row for the unit or is one, and its responses take so many bytes; 0 where it is not.
+fn refusal(book: Book, frame: &[u8], time: u32, no_row: bool, bytes: usize, room: usize) -> u8
+    requires { ⌜ («no_row» ≡ noRowFor (contents book) (joinIn (now frame) .node) time) × (bytes ≡ length (joinResponses (contents book) (now frame) time)) ⌝ }
+    ensures { λ r. ⌜ r ≡ first (joinReasons (contents book) (now (frame .entry)) time room) ⌝ }
 {
     let unread = join_request(frame);
     let request = JoinRequest::of(frame);
     let network = request.network;
     let foreign = !(network == 0) & !(network == book.plan.network);
     let by_manager = request.node == book.plan.manager;
-    let refused = refuse_if(short, Refusal::ROOM, 0);
+    let refused = refuse_if(room < bytes, Refusal::ROOM, 0);
     let refused = refuse_if(no_row, Refusal::FULL, refused);
     let refused = refuse_if(!in_order(book.time, time), Refusal::EARLIER, refused);
     let refused = refuse_if(foreign, Refusal::NETWORK, refused);
@@ -78,7 +80,6 @@ pub fn join(book: Book, frame: &[u8], time: u32, out: &mut [u8]) -> Granted
     let held = slots_in(now, plan.rows, found);
     let own = seated(live, held, census.slots, empty, request.slots);
     let no_row = !live & (empty == 0);
-    let short = out.len() < bytes_for(own);
-    let refused = refusal(book, frame, time, no_row, short);
+    let refused = refusal(book, frame, time, no_row, bytes_for(own), out.len());
     settle(refused, book, now, unit, time, at as u8, own, out)
 }

@@ -13,7 +13,7 @@ use Rattle.slot_sets.specs.Sets.{slotsOf, union, disjoint}
 use Rattle.slot_sets.proofs.MaskLaws.{mask-nothing}
 use Rattle.book_members.specs.declared.member.Member.{Member}
 use Rattle.book_members.specs.Members.{Row, rowOf, rowsOf, placeFor, heldSlots, vacant}
-use Rattle.book_members.specs.Rules.{rowRule, judged}
+use Rattle.book_members.specs.Rules.{rowRule, pastTime, judged}
 use Rattle.book_members.proofs.RowLoopLaws.{nobody, none-left, row-below}
 
 -- the rows from a place on, of those that a plan uses
@@ -77,7 +77,7 @@ module _ {ms : List Member} {n i all found : ℕ} (k : Counted ms n i all found)
       few false = omega (arith, k .few, h)
 
   pub judged-turn : (manager dataSlots last : ℕ) (good ruled apart : Bool) → good ≡ judged manager dataSlots last (from ms n i)
-      → ruled ≡ rowRule manager dataSlots last (rowOf member) → apart ≡ disjoint (slotsOf (member .slots)) (slotsOf all)
+      → ruled ≡ (rowRule dataSlots (rowOf member) && pastTime manager last (rowOf member)) → apart ≡ disjoint (slotsOf (member .slots)) (slotsOf all)
       → (ruled && apart && good) ≡ judged manager dataSlots last (from ms n (i - 1))
   judged-turn manager dataSlots last good ruled apart g r a = rw (r, a, g, k .holds) (sym (ap (judged manager dataSlots last) below))
 

@@ -16,7 +16,7 @@ use Rattle.moments.specs.Moments.{ageAt}
 use Rattle.slot_sets.specs.Sets.{slotsOf, disjoint, count}
 use Rattle.slot_sets.proofs.MaskLaws.{mask-nothing}
 use Rattle.book_members.specs.Members.{Row, rowOf, rowsOf, emptyRow, kept, current, placeFor, heldSlots, free, vacant}
-use Rattle.book_members.specs.Rules.{emptyIs, rowRule, distinct, apart, judged, ledBy, rowsRule}
+use Rattle.book_members.specs.Rules.{emptyIs, rowRule, pastTime, distinct, apart, judged, ledBy, rowsRule}
 
 -- what an array reads as past its end
 abbrev pub nobody : Member
@@ -103,18 +103,23 @@ module _ (time i : ℕ) (ms : List Member) (whole : List Row) (e : take i (rowsO
       sym (append-nil (map rowOf ms)) ∙ (rw (take-all i (map rowOf ms) long, drop-of-length-le (map rowOf ms) long) at e)
 
 -- ---- judging rows
--- what one loop sees of the rows is what two of the rules say
-pub judged-all : (manager dataSlots last : ℕ) (rs : List Row) → judged manager dataSlots last rs ≡ (every (rowRule manager dataSlots last) rs && apart rs)
+-- what one loop sees of the rows is what three of the rules say
+judged-all : (manager dataSlots last : ℕ) (rs : List Row)
+    → judged manager dataSlots last rs ≡ ((every (rowRule dataSlots) rs && every (pastTime manager last) rs) && apart rs)
 unfolding every
 judged-all manager dataSlots last [] = refl
 judged-all manager dataSlots last (r ∷ rs) =
-    rw (judged-all manager dataSlots last rs) (regroup (rowRule manager dataSlots last r) (disjoint (r .slots) (heldSlots rs)) (every (rowRule manager dataSlots last) rs) (apart rs))
+    rw (judged-all manager dataSlots last rs)
+    (regroup (rowRule dataSlots r) (pastTime manager last r) (disjoint (r .slots) (heldSlots rs)) (every (rowRule dataSlots) rs) (every (pastTime manager last) rs) (apart rs))
   where
-    regroup : (r d e a : Bool) → (r && d && (e && a)) ≡ ((r && e) && (d && a))
-    regroup true true e a = refl
-    regroup true false true a = refl
-    regroup true false false a = refl
-    regroup false d e a = refl
+    regroup : (r p d e q a : Bool) → ((r && p) && d && ((e && q) && a)) ≡ (((r && e) && (p && q)) && (d && a))
+    regroup true true true e q a = refl
+    regroup true true false true true a = refl
+    regroup true true false true false a = refl
+    regroup true true false false q a = refl
+    regroup true false d true q a = refl
+    regroup true false d false q a = refl
+    regroup false p d e q a = refl
 
 -- the rows of a plan within rule, from what the code sees of them
 led : (ms : List Member) (n : ℕ) → length ms ≡ 21 → (manager : ℕ) → (ltb 0 n && eqb (getD ms 0 nobody .unit) manager) ≡ ledBy manager (take n (rowsOf ms))
@@ -129,15 +134,16 @@ pub rows-ruled : (ms : List Member) (n : ℕ) → length ms ≡ 21 → (manager 
 unfolding rowsRule
 rows-ruled ms n l manager dataSlots last good unlike empty room g u e r =
     rw (g, u, e, r, judged-all manager dataSlots last (take n (rowsOf ms)), ← led ms n l manager)
-    (regrouped (ltb 0 n && eqb (getD ms 0 nobody .unit) manager) (every (rowRule manager dataSlots last) (take n (rowsOf ms))) (distinct (take n (rowsOf ms))) (apart (take n (rowsOf ms))) _)
+    (regrouped (ltb 0 n && eqb (getD ms 0 nobody .unit) manager) (every (rowRule dataSlots) (take n (rowsOf ms))) (every (pastTime manager last) (take n (rowsOf ms))) (distinct (take n (rowsOf ms))) (apart (take n (rowsOf ms))) _)
   where
-    regrouped : (x e d a v : Bool) → (x && (e && a) && d && v) ≡ (x && e && d && a && v)
-    regrouped true true true true v = refl
-    regrouped true true true false v = refl
-    regrouped true true false true v = refl
-    regrouped true true false false v = refl
-    regrouped true false d a v = refl
-    regrouped false e d a v = refl
+    regrouped : (x e p d a v : Bool) → (x && ((e && p) && a) && d && v) ≡ (x && e && p && d && a && v)
+    regrouped true true true true true v = refl
+    regrouped true true true true false v = refl
+    regrouped true true true false true v = refl
+    regrouped true true true false false v = refl
+    regrouped true true false d a v = refl
+    regrouped true false p d a v = refl
+    regrouped false e p d a v = refl
 
 -- ---- one row
 pub row-written : (ms : List Member) (at : ℕ) (m : Member) → rowsOf (set ms at m) ≡ set (rowsOf ms) at (rowOf m)

@@ -1,10 +1,11 @@
 // Whether the rows of a book are within rule.
 ghost use mathlib.Core.Path.{_≡_};
+ghost use mathlib.Core.Bool.{_&&_};
 ghost use lib.ListN.{take, drop};
 ghost use Rattle.octets.specs.Lists.{every};
 ghost use Rattle.slot_sets.specs.Sets.{slotsOf};
 ghost use Rattle.book_members.specs.Members.{rowOf, rowsOf, heldSlots, vacant};
-ghost use Rattle.book_members.specs.Rules.{emptyIs, rowRule, distinct, judged, rowsRule};
+ghost use Rattle.book_members.specs.Rules.{emptyIs, rowRule, pastTime, distinct, judged, rowsRule};
 use crate::member::Member;
 use crate::rows::in_use;
 use moments::in_order;
@@ -25,7 +26,7 @@ impl Member {
 
     // By itself: zeros, or an address with 1 to 4 of the data slots and a time that is past, the manager with any.
     fn within_rule(self, manager: u16, data_slots: u8, last: u32) -> bool
-        ensures { λ r. ⌜ r ≡ rowRule manager «data_slots» last (rowOf self) ⌝ }
+        ensures { λ r. ⌜ r ≡ (rowRule «data_slots» (rowOf self) && pastTime manager last (rowOf self)) ⌝ }
     {
         if self.unit == 0 {
             return self.is_empty();

@@ -18,7 +18,7 @@ use Rattle.octets.proofs.CallLaws.{WrittenBack, written-back, stored-number}
 use Rattle.octets.proofs.AnsweredLaws.{Answered, valued, said-value, answered, told-other, told-done, told-undone}
 use Rattle.site_plan.specs.Plans.{slots}
 use Rattle.book.specs.declared.book.Changed.{Changed}
-use Rattle.book.specs.Books.{Contents, contents, withinRule, BookChange, changeOf, liveAt}
+use Rattle.book.specs.Books.{Contents, contents, withinRule, BookChange, changeOf}
 use Rattle.book.specs.Schedules.{scheduleRefusal, scheduleOf}
 use Rattle.site_plan.proofs.PlanLaws.{rule-bounds, few-slots}
 use Rattle.book.proofs.WithinLaws.{within}
@@ -45,7 +45,7 @@ opened plan a new said e m = rw (m, e, stored-number planSize plan (new .refused
 pub schedule-answered : (b : Contents) (unit hop time : ℕ) (out : List ℕ) → Answered out (scheduleOf b unit hop time out)
 unfolding scheduleOf
 schedule-answered b unit hop time out =
-    answered (scheduleRefusal b unit hop time (liveAt b unit time) (length out)) _ out _ refl (valued (slots (b .plan)) [])
+    answered (scheduleRefusal b unit hop time (length out)) _ out _ refl (valued (slots (b .plan)) [])
 
 pub image-answered : (b : Contents) (time : ℕ) (out : List ℕ) → Answered out (imageWritten b time out)
 unfolding imageWritten
@@ -54,7 +54,7 @@ image-answered b time out = answered (first (imageReasons b time (length out))) 
 pub schedule-size : (b : Contents) (unit hop time : ℕ) (out : List ℕ) (size : ℕ) (held : List ℕ) → wrote (Written.Done size) held ≡ scheduleOf b unit hop time out → size ≤ 100
 unfolding scheduleOf
 schedule-size b unit hop time out size held e =
-    let same = said-value (scheduleRefusal b unit hop time (liveAt b unit time) (length out)) (slots (b .plan)) size (ap (λ (x : Wrote). x .said) e) in
+    let same = said-value (scheduleRefusal b unit hop time (length out)) (slots (b .plan)) size (ap (λ (x : Wrote). x .said) e) in
     omega (arith, same, few-slots (b .plan))
 
 pub image-size : (b : Contents) (time : ℕ) (out : List ℕ) (size : ℕ) (held : List ℕ) → wrote (Written.Done size) held ≡ imageWritten b time out → size ≤ 230

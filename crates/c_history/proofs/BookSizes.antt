@@ -1,5 +1,5 @@
--- The book of every start and of every event has 21 places and numbers that fit their bytes: what `book_bytes` and `book_history` say of books and of calls, of
--- images, starts and events.
+-- The book of every start and after every call has 21 places and numbers that fit their bytes: what `book_bytes` and `book_history` say of books and of calls, of
+-- images and starts.
 -- Assumes nothing.
 use mathlib.Core.Bool.{Bool, true, false, cond}
 use mathlib.Core.List.{List}
@@ -13,7 +13,7 @@ use Rattle.octets.proofs.NumberLaws.{num-lt}
 use Rattle.octets.proofs.TestLaws.{of-choice}
 use Rattle.book_members.specs.Members.{emptyRow}
 use Rattle.book.specs.Books.{Contents, noBook}
-use Rattle.book_history.specs.Calls.{join, ask, heard, leave, schedule}
+use Rattle.book_history.specs.Calls.{Call, join, ask, heard, leave, schedule, image, next, timeOf}
 use Rattle.book_history.proofs.SizeLaws.{keeps-size}
 use Rattle.site_plan.specs.PlanBytes.{planAt}
 use Rattle.book_bytes.specs.BookBytes.{rowWidths, rowValues}
@@ -22,7 +22,7 @@ use Rattle.site_plan.proofs.PlanByteLaws.{plan-fits}
 use Rattle.book_bytes.proofs.SizeLaws.{row-fits, empty-fits, either-sized, none-sized, fresh-sized}
 use Rattle.book_image.specs.Images as images
 use Rattle.book_image.specs.Images.{planPlace, rowsPlace, rowIn, restoreOf}
-use Rattle.book_history.specs.BookEvents.{begun, Event, call, image, timeOf, next}
+use Rattle.book_history.specs.Histories.{begun}
 use Rattle.c_history.specs.HeldBooks.{StartInC, fresh, restored, MachineStart, startOf, Machine}
 use Rattle.c_history.specs.BookLaws.{SizedKept}
 
@@ -51,18 +51,17 @@ pub begun-sized : (start : StartInC) → MachineStart start → Sized (begun (st
 begun-sized (fresh plan time) (b, t) = fresh-sized (planAt plan 0) time (plan-fits plan 0 b) t
 begun-sized (restored bytes time) (b, t) = restored-sized bytes time b t
 
--- ---- any event
-pub machine-time : (e : Event) → Machine e → timeOf e < 0x100000000
-machine-time (call (join frame time out)) (f, t, o) = t
-machine-time (call (ask frame time out)) (f, t, o) = t
-machine-time (call (heard unit time)) (u, t) = t
-machine-time (call (leave unit time)) (u, t) = t
-machine-time (call (schedule unit hop time out)) (u, h, t, o) = t
+-- ---- any call
+machine-time : (c : Call) → Machine c → timeOf c < 0x100000000
+machine-time (join frame time out) (f, t, o) = t
+machine-time (ask frame time out) (f, t, o) = t
+machine-time (heard unit time) (u, t) = t
+machine-time (leave unit time) (u, t) = t
+machine-time (schedule unit hop time out) (u, h, t, o) = t
 machine-time (image time out) (t, o) = t
 
-pub sized-next : (b : Contents) (e : Event) → Machine e → Sized b → Sized (next b e)
-sized-next b (call c) m z = keeps-size b c (machine-time (call c) m) z
-sized-next b (image time out) m z = z
+pub sized-next : (b : Contents) (c : Call) → Machine c → Sized b → Sized (next b c)
+sized-next b c m = keeps-size b c (machine-time c m)
 
 pub sized-kept : SizedKept
 sized-kept = (begun-sized, sized-next)

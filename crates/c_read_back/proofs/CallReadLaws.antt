@@ -8,6 +8,7 @@ use lib.Dec.{eqb}
 use lib.ListN.{length, getD}
 use Rattle.octets.specs.Answers.{Said, accepted, refused}
 use Rattle.octets.proofs.CallLaws.{after-accepted, stored-none}
+use Rattle.octets.specs.Told.{writtenIn}
 use Rattle.octets.proofs.AnsweredLaws.{said-none}
 use Rattle.route_table.specs.declared.table.Table.{Table}
 use Rattle.route_forwards.specs.Forwards.{forwardOf}
@@ -75,6 +76,6 @@ pages-are-read-in-c s page time out written b h z =
     let wrote = pageOf t page time out in
     let n = wrote .said .refusal in
     let said = page-said t page time out (stored-none (isTable s) n z .1) in
-    let size : getD (wrote .said .values) 0 0 ≡ length (pageFrame t page time) = ap (λ (x : Said). getD (x .values) 0 0) said in
-    rw (after-accepted (cond (isTable s) n 14) written (getD (wrote .said .values) 0 0) z, after-accepted (cond (isTable s) n 14) out (wrote .held) z, size)
+    let size : writtenIn wrote ≡ length (pageFrame t page time) = ap (λ (x : Said). getD (x .values) 0 0) said in
+    rw (after-accepted (cond (isTable s) n 14) written (writtenIn wrote) z, after-accepted (cond (isTable s) n 14) out (wrote .held) z, size)
     (pages-are-read t page time out (length (pageFrame t page time)) (sized-read s b) h said)

@@ -14,7 +14,7 @@ use Rattle.octets.specs.Answers.{Said, accepted, reason, refusing}
 use Rattle.octets.specs.Calls.{after, WriteLeft, writeLeft}
 use Rattle.octets.specs.Layouts.{Fit, Bytes}
 use Rattle.octets.specs.Numbers.{num}
-use Rattle.octets.specs.Told.{Wrote}
+use Rattle.octets.specs.Told.{Wrote, writtenIn}
 use Rattle.octets.proofs.AnswerLaws.{unless-number, refusing-numbered, none-holds}
 use Rattle.octets.proofs.CallLaws.{after-accepted}
 use Rattle.octets.proofs.LayoutLaws.{length-fields}
@@ -80,7 +80,7 @@ parts-are-told s fields place extent k m c z =
 -- ---- read, then written
 -- what `braidlark_write` leaves, from what writing the numbers says and where it puts them
 abbrev leaves : ℕ → Wrote → WriteLeft
-leaves written w = writeLeft (w .said .refusal) (w .held) (after (w .said .refusal) written (getD (w .said .values) 0 0))
+leaves written w = writeLeft (w .said .refusal) (w .held) (after (w .said .refusal) written (writtenIn w))
 
 module _ (s fields : List ℕ) (place extent : ℕ) (out : List ℕ) (b : Bytes s) (z : readCall s fields place extent .status ≡ 0) where
   again : Rewritten s

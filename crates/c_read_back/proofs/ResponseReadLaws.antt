@@ -24,11 +24,11 @@ use Rattle.book_members.specs.Members.{placeFor}
 use Rattle.book_members.proofs.RowLaws.{length-current}
 use Rattle.book.specs.Books.{Contents, rowsIn, rowsAt, liveAt}
 use Rattle.book.proofs.WithinLaws.{within}
-use Rattle.book_joins.specs.Joins.{Answered, seat, joinIn, joinOf, askIn, askOf}
+use Rattle.book_joins.specs.Joins.{Answered, seat, joinIn, joinOf, askIn, askOf, askedSlots, joinResponses, askResponses}
 use Rattle.book_joins.specs.Responses.{slotsTold, response, responsesFor}
 use Rattle.book_joins.proofs.ResponseLaws.{Below, length-response, length-for, below-told}
 use Rattle.book_history.specs.Calls.{Call, timeOf, unitOf, next}
-use Rattle.book_history.proofs.CallLaws.{joinedSlots, askedSlots, join-allowed, ask-allowed}
+use Rattle.book_history.proofs.CallLaws.{joinedSlots, join-allowed, ask-allowed}
 use Rattle.book_history.proofs.RuleLaws.{keeps-plan}
 use Rattle.book_history.proofs.TakingLaws.{Taken, join-taken, ask-taken, taken-live, taken-row, taken-holding}
 use Rattle.book_history.specs.BookLaws.{slotsAt}
@@ -98,7 +98,7 @@ module _ {b : Contents} {c : Call} {at : ℕ} {own : Slots 64} (t : Taken b c at
       }
 
 pub responses-are-read : ResponsesRead
-unfolding joinOf askOf
+unfolding joinOf askOf joinResponses askResponses
 responses-are-read b s time out net h = (
   λ z.
       let t = join-taken b s time out z in

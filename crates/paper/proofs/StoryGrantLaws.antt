@@ -16,11 +16,10 @@ use Rattle.site_plan.specs.Plans.{slotsIn}
 use Rattle.book_members.specs.Members.{current, placeFor, heldSlots, vacant}
 use Rattle.book_members.specs.Rules.{rowsRule}
 use Rattle.book.specs.Books.{Contents, withinRule, freshBook, freshOf, leaveOf}
-use Rattle.book_joins.specs.Joins.{joinOf, askOf}
+use Rattle.book_joins.specs.Joins.{joinResponses, joinOf, askResponses, askOf}
 use Rattle.book_joins.specs.Responses.{toldIn}
-use Rattle.book_history.specs.Calls.{Call, leave}
-use Rattle.book_history.specs.Calls as keeping
-use Rattle.book_history.specs.BookEvents.{call, answer, recorded, stepOf, Grant, grant, changedBy, granted, granting, counts}
+use Rattle.book_history.specs.Calls.{Call, leave, next, timeOf}
+use Rattle.book_history.specs.Histories.{answer, recorded, stepOf, Grant, grant, changedBy, granted, granting, counts}
 use Rattle.paper.specs.Story.{sitePlan, joins, asks, calls, GrantsInTheStory}
 use Rattle.paper.proofs.StoryLaws.{member, nobody, site, one, two, full, left, grown, settled}
 
@@ -48,7 +47,7 @@ none-passed = started 0
 
 -- after one call on a book
 abbrev once : Contents → Call → Grants → Grants
-once b c = onEach (λ unit g. changedBy toldIn unit (call c) (answer b (call c)) (nowAt none-passed (keeping.timeOf c)) g)
+once b c = onEach (λ unit g. changedBy toldIn unit c (answer b c) (nowAt none-passed (timeOf c)) g)
 
 -- what counts at time 0
 abbrev counted : Clock → Grants → List (List ℕ)
@@ -63,14 +62,14 @@ counted k g =
 -- after several
 abbrev all : Contents → List Call → Clock → Grants → List (List ℕ)
 all b cs k g =
-    let hs = recorded b (map call cs) in
+    let hs = recorded b cs in
     counted (clockAfter k (map stepOf hs)) (onEach (λ unit x. granted unit k x hs) g)
 
 -- a call on a book leaves that book, and each unit what it grants
 record Happens (b : Contents) (c : Call) (new : Contents) (g g′ : Grants) : Type 0 where
-  pub leaves : keeping.next b c ≡ new
+  pub leaves : next b c ≡ new
   pub grants : once b c g ≡ g′
-  pub passes : moved none-passed (stepOf (record { event = call c; answer = answer b (call c) })) ≡ none-passed
+  pub passes : moved none-passed (stepOf (record { call = c; answer = answer b c })) ≡ none-passed
 
 step : {b new : Contents} {c : Call} {g g′ : Grants} (cs : List Call) → Happens b c new g g′ → all b (c ∷ cs) none-passed g ≡ all new cs none-passed g′
 step cs h = λ i. all (h .leaves i) cs (h .passes i) (h .grants i)
@@ -88,7 +87,7 @@ happened :
     × Happens full (leave 0x0201 0) left (told (4 ∷ 8 ∷ []) (5 ∷ 9 ∷ 10 ∷ 11 ∷ []) (6 ∷ 12 ∷ []) (7 ∷ 13 ∷ []) []) (told (4 ∷ 8 ∷ []) [] (6 ∷ 12 ∷ []) (7 ∷ 13 ∷ []) [])
     × Happens left (asks 0x0202 3) grown (told (4 ∷ 8 ∷ []) [] (6 ∷ 12 ∷ []) (7 ∷ 13 ∷ []) []) (told (4 ∷ 8 ∷ []) [] (6 ∷ 9 ∷ 10 ∷ 12 ∷ []) (7 ∷ 13 ∷ []) [])
     × Happens grown (joins 0x0204 4) settled (told (4 ∷ 8 ∷ []) [] (6 ∷ 9 ∷ 10 ∷ 12 ∷ []) (7 ∷ 13 ∷ []) []) (told (4 ∷ 8 ∷ []) [] (6 ∷ 9 ∷ 10 ∷ 12 ∷ []) (7 ∷ 13 ∷ []) (5 ∷ 11 ∷ []))
-unfolding member site nobody one two full left grown settled joinOf askOf leaveOf withinRule rowsRule every placeFor current heldSlots vacant count isEmpty has fill slotwise noSlots allSlots union meet minus lowest withoutHighest bits slotsOf firsts slotsIn num digits xors isSealed readRefusal sealed ageAt inOrder
+unfolding member site nobody one two full left grown settled joinResponses joinOf askResponses askOf leaveOf withinRule rowsRule every placeFor current heldSlots vacant count isEmpty has fill slotwise noSlots allSlots union meet minus lowest withoutHighest bits slotsOf firsts slotsIn num digits xors isSealed readRefusal sealed ageAt inOrder
 happened = (record { leaves = refl; grants = refl; passes = refl }, record { leaves = refl; grants = refl; passes = refl }, record { leaves = refl; grants = refl; passes = refl }, record { leaves = refl; grants = refl; passes = refl }, record { leaves = refl; grants = refl; passes = refl }, record { leaves = refl; grants = refl; passes = refl }, record { leaves = refl; grants = refl; passes = refl })
 
 -- all of them, one after the other

@@ -12,10 +12,10 @@ use Rattle.frame_kinds.specs.Reading.{isSealed, readRefusal}
 use Rattle.frame_kinds.specs.Shape.{sealed}
 use Rattle.slot_sets.specs.Sets.{has, count, isEmpty, fill, slotwise, noSlots, allSlots, union, meet, minus, lowest, withoutHighest, bits, slotsOf, firsts}
 use Rattle.site_plan.specs.Plans.{slotsIn}
-use Rattle.book_members.specs.Members.{Row, emptyRow, current, placeFor, heldSlots, vacant}
+use Rattle.book_members.specs.Members.{Row, emptyRow, current, placeFor, heldSlots, vacant, memberWith}
 use Rattle.book_members.specs.Rules.{rowsRule}
 use Rattle.book.specs.Books.{Contents, withinRule, freshBook, leaveOf}
-use Rattle.book_joins.specs.Joins.{joinOf, askOf}
+use Rattle.book_joins.specs.Joins.{joinResponses, joinOf, askResponses, askOf}
 use Rattle.book_history.specs.Calls.{Call, leave, next}
 use Rattle.paper.specs.Story.{told, run, sitePlan, joins, asks, story}
 
@@ -30,7 +30,7 @@ step b c said after cs h = rw (h .says, h .leaves)
 -- ---- the books, at time 0
 -- a member with the data slots whose bits are set in a mask: 14 is 1 to 3, 16 is 4, 32 is 5, 22 is 1, 2 and 4, 8 is 3
 unfoldable pub member : ℕ → ℕ → Row
-member unit mask = record { unit = unit; slots = slotsOf mask; time = 0 }
+member unit mask = memberWith unit (slotsOf mask) 0
 
 unfoldable pub nobody : Row
 nobody = emptyRow
@@ -66,7 +66,7 @@ happened :
     × Happens full (leave 0x0201 0) (0 ∷ []) left
     × Happens left (asks 0x0202 3) (0 ∷ 6 ∷ 9 ∷ 10 ∷ 12 ∷ []) grown
     × Happens grown (joins 0x0204 4) (0 ∷ 5 ∷ 11 ∷ []) settled
-unfolding member site nobody one two full left grown settled joinOf askOf leaveOf withinRule rowsRule every placeFor current heldSlots vacant count isEmpty has fill slotwise noSlots allSlots union meet minus lowest withoutHighest bits slotsOf firsts slotsIn num digits xors isSealed readRefusal sealed ageAt inOrder
+unfolding member site nobody one two full left grown settled joinResponses joinOf askResponses askOf leaveOf withinRule rowsRule every placeFor current heldSlots vacant count isEmpty has fill slotwise noSlots allSlots union meet minus lowest withoutHighest bits slotsOf firsts slotsIn num digits xors isSealed readRefusal sealed ageAt inOrder
 happened = (record { says = refl; leaves = refl }, record { says = refl; leaves = refl }, record { says = refl; leaves = refl }, record { says = refl; leaves = refl }, record { says = refl; leaves = refl }, record { says = refl; leaves = refl }, record { says = refl; leaves = refl })
 
 pub story-told :

@@ -4,8 +4,9 @@ use Prim.Native.Nat.{ℕ, zero, suc, _^_, _≤_, _<_}
 use mathlib.Core.Path.{_≡_}
 use mathlib.Core.Bool.{Bool, true, _&&_}
 use mathlib.Core.List.{List, [], _∷_, map}
-use lib.ListN.{getD, take, replicate}
+use lib.ListN.{take, replicate}
 use Rattle.octets.specs.Lists.{Each}
+use Rattle.octets.specs.Told.{writtenIn}
 use Rattle.moments.specs.Moments.{inOrder}
 use Rattle.route_table.specs.declared.table.Table.{Table}
 use Rattle.route_table.specs.Tables.{rowsOf}
@@ -27,7 +28,7 @@ pageBuffer = replicate pageRoom 0
 abbrev pub bytesOf : Table → ℕ → ℕ → List ℕ
 bytesOf t p time =
     let w = pageOf t p time pageBuffer in
-    take (getD (w .said .values) 0 0) (w .held)
+    take (writtenIn w) (w .held)
 
 -- the call by which a unit takes in a page that was written from another's table
 abbrev pub taking : (ℕ → Table) → Heard → Call

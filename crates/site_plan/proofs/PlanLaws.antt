@@ -2,8 +2,8 @@
 -- Assumes nothing.
 use mathlib.Core.Path.{_≡_, refl, sym, ap, _∙_}
 use mathlib.Core.Bool.{Bool, true, false, _&&_, and-eq-true-iff, false≢true}
-use mathlib.Core.List.{List}
-use Prim.Native.Nat.{ℕ, _+_, _*_, _≤_, _<_, _^_}
+use mathlib.Core.List.{List, [], _∷_}
+use Prim.Native.Nat.{ℕ, zero, suc, _+_, _*_, _≤_, _<_, _^_}
 use native.Mathlib.Omega.{arith}
 use native.Mathlib.Nat.{mul-le-mul, mul-le-mul-right}
 use mir.Val.{boolByte}
@@ -14,7 +14,7 @@ use Rattle.octets.specs.Lists.{tab}
 use Rattle.octets.proofs.ListLaws.{getD-tab}
 use Rattle.octets.specs.Addresses.{address, network}
 use Rattle.site_plan.specs.declared.plan.Plan.{Plan}
-use Rattle.site_plan.specs.Plans.{slots, planRule, discoverySlots, active, slotsIn, superframeMs}
+use Rattle.site_plan.specs.Plans.{slots, planRule, discoverySlots, active, slotsIn, superframeMs, planRules, andAll}
 use Rattle.site_plan.specs.Laws.{LengthsByTable, RuleBounds}
 
 -- ---- the length of a superframe and its time
@@ -75,30 +75,31 @@ pub record Kept (p : Plan) : Type 0 where
   pub few : active p ≤ 50
   pub short : superframeMs p ≤ 65535
 
+-- each test of a list that holds, by its place
+all-hold : (so : Bool) (tests : List Bool) → andAll so tests ≡ true → (so ≡ true) × ((i : ℕ) → getD tests i true ≡ true)
+all-hold so [] e = (e, λ i. refl)
+all-hold so (test ∷ tests) e =
+    let (both, behind) = all-hold (so && test) tests e in
+    let (before, here) = and-eq-true-iff so test .0 both in
+    (before, at here behind)
+  where
+    at : test ≡ true → ((i : ℕ) → getD tests i true ≡ true) → (i : ℕ) → getD (test ∷ tests) i true ≡ true
+    at here behind zero = here
+    at here behind (suc i) = behind i
+
 pub kept : (p : Plan) → planRule p ≡ true → Kept p
 kept p e =
-    let hops = leb 1 (p .«max_hops») && leb (p .«max_hops») 10 in
-    let rows = leb 2 (p .rows) in
-    let data-slots = leb (p .rows) (p .«data_slots») in
-    let few = leb (active p) 50 in
-    let first-two = network (p .network) && address (p .manager) in
-    let (e₇, short-true) = and-eq-true-iff (first-two && hops && rows && data-slots && few && leb 1 (p .«slot_ms»)) (leb (superframeMs p) 65535) .0 e in
-    let (e₆, _) = and-eq-true-iff (first-two && hops && rows && data-slots && few) (leb 1 (p .«slot_ms»)) .0 e₇ in
-    let (e₅, few-true) = and-eq-true-iff (first-two && hops && rows && data-slots) few .0 e₆ in
-    let (e₄, data-true) = and-eq-true-iff (first-two && hops && rows) data-slots .0 e₅ in
-    let (e₃, rows-true) = and-eq-true-iff (first-two && hops) rows .0 e₄ in
-    let (e₂, hops-true) = and-eq-true-iff first-two hops .0 e₃ in
-    let (named, manager) = and-eq-true-iff (network (p .network)) (address (p .manager)) .0 e₂ in
-    let (least, most) = and-eq-true-iff (leb 1 (p .«max_hops»)) (leb (p .«max_hops») 10) .0 hops-true in
+    let holds = all-hold true (planRules p) e .1 in
+    let (least, most) = and-eq-true-iff (leb 1 (p .«max_hops»)) (leb (p .«max_hops») 10) .0 (holds 2) in
     record {
-      named = named;
-      manager = manager;
+      named = holds 0;
+      manager = holds 1;
       hops = leb-true _ _ least;
       few-hops = leb-true _ _ most;
-      rows = leb-true _ _ rows-true;
-      data-slots = leb-true _ _ data-true;
-      few = leb-true _ _ few-true;
-      short = leb-true _ _ short-true;
+      rows = leb-true _ _ (holds 3);
+      data-slots = leb-true _ _ (holds 4);
+      few = leb-true _ _ (holds 5);
+      short = leb-true _ _ (holds 7);
     }
 
 -- up to 50 active slots there is room for all of them
@@ -127,8 +128,11 @@ slot-within : (p : Plan) → superframeMs p ≤ 65535 → p .«slot_ms» ≤ 655
 slot-within p short = omega (arith, short, mul-le-mul-right (p .«slot_ms») (a-slot (active p) (omega arith)))
 
 -- what `fit` tests
+abbrev fits : Plan → List Bool
+fits p = leb (p .«max_hops») 255 ∷ leb (p .rows) 255 ∷ leb (p .«data_slots») 255 ∷ leb (p .«slot_ms») 65535 ∷ []
+
 abbrev fitting : Plan → Bool
-fitting p = leb (p .«max_hops») 255 && leb (p .rows) 255 && leb (p .«data_slots») 255 && leb (p .«slot_ms») 65535
+fitting p = andAll true (fits p)
 
 pub record Fitting (p : Plan) : Type 0 where
   pub hops : p .«max_hops» ≤ 255
@@ -138,13 +142,8 @@ pub record Fitting (p : Plan) : Type 0 where
 
 pub fitted : (p : Plan) → fitting p ≡ true → Fitting p
 fitted p e =
-    let hops = leb (p .«max_hops») 255 in
-    let rows = leb (p .rows) 255 in
-    let data-slots = leb (p .«data_slots») 255 in
-    let (e₃, ms-true) = and-eq-true-iff (hops && rows && data-slots) (leb (p .«slot_ms») 65535) .0 e in
-    let (e₂, data-true) = and-eq-true-iff (hops && rows) data-slots .0 e₃ in
-    let (hops-true, rows-true) = and-eq-true-iff hops rows .0 e₂ in
-    record { hops = leb-true _ _ hops-true; rows = leb-true _ _ rows-true; data-slots = leb-true _ _ data-true; slot-ms = leb-true _ _ ms-true }
+    let holds = all-hold true (fits p) e .1 in
+    record { hops = leb-true _ _ (holds 0); rows = leb-true _ _ (holds 1); data-slots = leb-true _ _ (holds 2); slot-ms = leb-true _ _ (holds 3) }
 
 -- numbers within rule fit
 fits-in-rule : (p : Plan) → planRule p ≡ true → fitting p ≡ true

@@ -20,6 +20,7 @@ returns c =
       c .before .before .before .before .in-order .ensures,
       third .before .hop-within-rule .ensures,
       first .before .slots .ensures,
+      first .before .before .before .pre,
     )
 
 pub refusal-spec : {M : Type 1} → statement M

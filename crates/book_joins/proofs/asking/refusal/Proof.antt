@@ -22,6 +22,8 @@ returns c =
       third .before .in-order .ensures,
       request .before .slot-request .ensures,
       ap slotRequestFrom (request .of .ensures),
+      request .before .before .before .pre .0,
+      request .before .before .before .pre .1,
     )
 
 pub refusal-spec : {M : Type 1} → statement M

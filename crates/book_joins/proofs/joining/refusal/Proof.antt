@@ -23,6 +23,8 @@ returns c =
       fourth .before .before .in-order .ensures,
       request .before .join-request .ensures,
       ap joinRequestFrom (request .of .ensures),
+      request .before .before .before .pre .0,
+      request .before .before .before .pre .1,
     )
 
 pub refusal-spec : {M : Type 1} → statement M

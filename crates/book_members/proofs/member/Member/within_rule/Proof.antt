@@ -1,13 +1,14 @@
 -- `Member::within_rule`: zeros, or each rule of a member.
 -- Assumes nothing.
 use mathlib.Core.Path.{_∙_}
+use mathlib.Core.Bool.{and-true}
 use borrow.Author.Tests.{eq-eqb, ne-eqb}
 use borrow.Author.Needs.{needs}
 use Rattle.book_members.proofs.member.Member.within_rule.Statement.{statement}
 use Rattle.book_members.proofs.member.Member.within_rule.Tie as tie
 
 returns : tie.Need-returns
-returns c = c .is-empty .ensures ∙ rw (eq-eqb _ 0 (c .before .if1 .taken))
+returns c = c .is-empty .ensures ∙ rw (eq-eqb _ 0 (c .before .if1 .taken), and-true)
 
 returns-2 : tie.Need-returns-2
 returns-2 c =

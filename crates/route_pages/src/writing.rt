@@ -1,16 +1,16 @@
 // The update that a page is: its header, an entry for each row, and the checksum; and why a page is not written.
 ghost use mathlib.Core.Path.{_≡_};
-ghost use mathlib.Core.Bool.{cond, _||_};
+ghost use mathlib.Core.Bool.{cond};
 ghost use mathlib.Core.List.{[], _∷_};
 ghost use Prim.Native.Nat.{_+_, _*_, _≤_};
-ghost use lib.Dec.{eqb, ltb};
 ghost use lib.ListN.{length, take, set};
 ghost use lib.Seq.{sets};
 ghost use Rattle.octets.specs.Answers.{first};
 ghost use Rattle.octets.specs.Layouts.{bytes};
 ghost use Rattle.octets.specs.Sums.{xors};
 ghost use Rattle.frame_traffic.specs.Traffic.{entryWidths, entryValues, update};
-ghost use Rattle.route_pages.specs.Pages.{entryFor, unpagedReasons};
+ghost use Rattle.route_pages.specs.Pages.{entryFor};
+ghost use Rattle.route_pages.specs.Places.{unpagedReasons};
 use frame_traffic::entry::Entry;
 use moments::in_order;
 use octets::answers::refuse_if;
@@ -74,7 +74,7 @@ pub(crate) fn seal(out: &mut [u8], count: usize)
 // Why a page with so many rows is not written; 0 where it is. Page 0 always exists, another if a row stands on it.
 pub(crate) fn refusal(last: u32, number: u32, count: usize, time: u32, room: usize) -> u8
     requires { ⌜ count ≤ 24 ⌝ }
-    ensures { λ r. ⌜ r ≡ first (unpagedReasons last (eqb number 0 || ltb 0 count) (9 + 10 * count) time room) ⌝ }
+    ensures { λ r. ⌜ r ≡ first (unpagedReasons last number count time room) ⌝ }
 {
     let there = (number == 0) | (0 < count);
     let refused = refuse_if(room < 9 + 10 * count, 5, 0);

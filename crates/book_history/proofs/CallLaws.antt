@@ -87,6 +87,6 @@ pub image-allowed : (b : Contents) (time : ℕ) (out : List ℕ) → imageWritte
 unfolding imageWritten
 image-allowed b time out e =
     not-false _ (
-    none-holds (imageReasons b time (length out)) (numbered _ 14 (λ z. omega arith), (numbered _ 8 (λ z. omega arith), (numbered _ 5 (λ z. omega arith), tt)))
+    none-holds (imageReasons b time (length out)) _
     (sym (unless-number _ _) ∙ e) .0
     )

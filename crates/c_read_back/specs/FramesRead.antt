@@ -3,7 +3,7 @@
 -- says the same of the calls from C.
 -- Assumes nothing.
 use mathlib.Core.Path.{_≡_}
-use mathlib.Core.Bool.{true, not}
+use mathlib.Core.Bool.{true, false, not}
 use mathlib.Core.List.{List, [], _∷_, map}
 use Prim.Native.Nat.{ℕ, zero, suc, _+_, _*_, _-_, _/_, _≤_, _<_}
 use lib.Dec.{eqb, ltb}
@@ -88,11 +88,12 @@ pub record Copied (s copy : List ℕ) : Type 0 where
       readFrame copy ≡ accepted (0x11 ∷ frame .source ∷ frame .destination ∷ (frame .ttl - 1) ∷ frame .sequence ∷ frame .count ∷ [])
   pub payload : partIn dataKind copy ≡ partIn dataKind s
 
--- where relaying answers a next hop and a size, so many bytes at the start of the buffer are the copy
+-- where relaying passes a frame on, as many bytes as it says at the start of the buffer are the copy
 abbrev pub CopiesRead : Type 0
 CopiesRead =
-    (t : Table) (s : List ℕ) (time : ℕ) (out : List ℕ) (nextHop size : ℕ) → Bytes s → relayOf t s time out .said ≡ accepted (nextHop ∷ size ∷ [])
-    → Copied s (take size (relayOf t s time out .held))
+    (t : Table) (s : List ℕ) (time : ℕ) (out : List ℕ) → Bytes s
+    → let relayed = relayOf t s time out in
+    let answer = relayed .answer in answer .refused ≡ 0 → answer .ours ≡ false → Copied s (take (answer .size) (relayed .held))
 
 -- ---- beacons
 -- a beacon as it came in, and the copy of it: both are read, alike but for the source, which is this unit, the hop, one more, and the delay, to which the

@@ -7,7 +7,6 @@ use octets::answers::refuse_if;
 use route_bytes::tables::put_empty;
 use route_in_place::changing::forget;
 use route_in_place::finding::lookup;
-use route_table::table::Found;
 use route_table::table::Table;
 
 // Makes the empty table of a unit, with this time as last accepted.
@@ -36,14 +35,13 @@ pub extern "C" fn braidlark_lookup(
 ) -> u8
     ensures { λ r. ⌜ lookupLeft r (now («next_hop» .exit)) (now (hops .exit)) ≡ lookupCall (now (table .entry)) destination time (now («next_hop» .entry)) (now (hops .entry)) ⌝ }
 {
-    match lookup(table, destination, time) {
-        Found::Hop(hop) => {
-            *next_hop = hop.next_hop;
-            *hops = hop.hops;
-            0
-        }
-        Found::Refused(refusal) => refusal.number,
+    let found = lookup(table, destination, time);
+    if found.refused != 0 {
+        return found.refused;
     }
+    *next_hop = found.next_hop;
+    *hops = found.hops;
+    0
 }
 
 // Withdraws all usable rows to a unit or through it.

@@ -13,9 +13,6 @@ use Rattle.frame_beacons.specs.Beacons.{beaconFrom}
 use Rattle.octets.proofs.ToldLaws.{told-written-one}
 use Rattle.frames.proofs.ToldLaws.{told-one}
 use Rattle.frame_entries.proofs.MeetLaws.{told-walked-one}
-use Rattle.route_table.proofs.ToldLaws.{told-found-one}
-use Rattle.route_relays.specs.Relays.{toldRelayed}
-use Rattle.route_relays.proofs.ToldLaws.{told-relayed-one}
 use Rattle.site_plan.proofs.ToldLaws.{told-plan-one}
 use Rattle.book_members.specs.declared.member.Member.{Member}
 use Rattle.book_members.specs.Members.{Row, rowOf, rowsOf}
@@ -76,11 +73,10 @@ views-tell-apart =
       discoveryResponses = undone any _ discoveryResponseFrom (λ a p. refl);
       beacons = undone any _ beaconFrom (λ a p. refl);
       frames = λ a a′ p p′ e. told-one a a′ e;
-      findings = λ a a′ p p′ e. told-found-one a a′ e;
       plans = λ a a′ p p′ e. told-plan-one a a′ e;
       steps = λ a a′ p p′ e. told-walked-one a a′ e;
       writingsInto = with-buffer toldWritten told-written-one;
-      relayings = with-buffer toldRelayed told-relayed-one;
+      relayings = undone any _ (λ v. (v .answer, v .held)) (λ a p. refl);
       forwardings = undone any _ (λ v. (v .answer, v .held)) (λ a p. refl);
       parts = λ name a a′ p p′ e i. record { ptr = (e i .block, e i .start); name = (p ∙ sym p′) i; now = e i .bytes };
       readers = undone any _ (λ v. record { frame = v .0; position = v .1 }) (λ e p. refl);

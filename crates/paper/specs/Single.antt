@@ -18,7 +18,6 @@ use Rattle.frame_beacons.specs.Beacons.{beaconValues}
 use Rattle.frames.specs.Told.{told}
 use Rattle.frame_entries.specs.declared.reader.Entries.{Entries}
 use Rattle.frame_entries.specs.Walks.{toldWalked}
-use Rattle.route_table.specs.Told.{toldFound}
 use Rattle.route_forwards.specs.declared.forwarding.Forwarded.{Forwarded}
 use Rattle.route_forwards.specs.declared.forwarding.ForwardedIn.{ForwardedIn}
 use Rattle.route_relays.specs.declared.relaying.Relayed.{Relayed}
@@ -96,7 +95,6 @@ pub record ViewsTellApart : Type 1 where
   pub beacons : TellsApart any beaconValues
   -- what an enum says, alone and with a buffer
   pub frames : TellsApart any told
-  pub findings : TellsApart any toldFound
   pub plans : TellsApart any toldPlan
   pub steps : TellsApart any toldWalked
   pub writingsInto : TellsApart any (λ (a : Written × List ℕ). wrote (a .0) (a .1))

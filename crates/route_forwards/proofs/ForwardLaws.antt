@@ -28,7 +28,7 @@ use Rattle.route_table.proofs.RuleLaws.{within-pad}
 use Rattle.route_table.proofs.StandingLaws.{standing-ascending}
 use Rattle.route_table.proofs.TableLaws.{within, few-stand}
 use Rattle.route_passing.specs.declared.Passing.{Passing}
-use Rattle.route_passing.specs.Passes.{again, ownHop, toForward, tableReasons, recorded, passReasons, passOf}
+use Rattle.route_passing.specs.Passes.{again, toForward, tableReasons, recorded, passReasons, passOf}
 use Rattle.route_bytes.specs.StoredTables.{TableLeft, tableLeft, storedTable, changedBy}
 use Rattle.route_bytes.specs.TableBytes.{tableIn, tableBytes, isTable}
 use Rattle.route_forwards.specs.Forwards as forwards
@@ -73,8 +73,8 @@ module _ (t : Table) (network : ℕ) (s : List ℕ) (delay time room : ℕ) wher
       (_, (refusing-numbered n, _)) e in
       let found = lookupOf t (p .«original_source») time in
       let ours = not-false (toForward (headOf t) found p) (none .1 .1 .1 .1 .1 .1 .1 .0) in
-      let (near, fresh) = and-eq-true-iff (eqb (ownHop found) (p .hop + 1) && ltb (p .hop) (p .«max_hops»)) (not (again (headOf t) p)) .0 ours in
-      let (next, below) = and-eq-true-iff (eqb (ownHop found) (p .hop + 1)) (ltb (p .hop) (p .«max_hops»)) .0 near in
+      let (near, fresh) = and-eq-true-iff (eqb (found .hops) (p .hop + 1) && ltb (p .hop) (p .«max_hops»)) (not (again (headOf t) p)) .0 ours in
+      let (next, below) = and-eq-true-iff (eqb (found .hops) (p .hop + 1)) (ltb (p .hop) (p .«max_hops»)) .0 near in
       record {
         right = not-false (withinRule t) (none .0);
         unread = eqb-true n 0 (not-false (eqb n 0) (none .1 .0));

@@ -10,15 +10,16 @@ use Rattle.frame_traffic.specs.Traffic.{dataKind, update}
 use Rattle.frame_beacons.specs.Beacons.{beacon}
 use Rattle.route_table.specs.declared.table.Table.{Table}
 use Rattle.route_table.specs.Rows.{standing}
-use Rattle.route_table.specs.Tables.{rowsOf, withinRule, lookupRefusal, lookupOf, forgetOf, forgetReasons, lookupReasons}
+use Rattle.route_table.specs.Tables.{rowsOf, withinRule, freshOf, lookupRefusal, lookupOf, forgetOf, forgetReasons, lookupReasons}
 use Rattle.route_merges.specs.Merges.{mergeRefusal, mergeOf, mergeReasons}
 use Rattle.route_forwards.specs.Forwards.{forwardRefusal, forwardOf, forwardReasons}
 use Rattle.route_pages.specs.Pages.{pageThere, pageRefusal, pageOf, pageReasons}
 use Rattle.route_relays.specs.Relays.{relayRefusal, relayReasons}
-use Rattle.route_history.specs.TableCalls.{Call, merge, forget, forward, lookup, relay, page, answer, afterCalls, fresh}
+use Rattle.route_relays.proofs.RelayLaws.{relay-number}
+use Rattle.route_history.specs.TableCalls.{Call, merge, forget, forward, lookup, relay, page, answer, afterCalls}
 use Rattle.route_history.specs.TableLaws.{wrongPage, OnlyForPages}
 use Rattle.frame_kinds.proofs.FourteenLaws.{some-number, read-never, only-so}
-use Rattle.route_history.proofs.TableHistoryLaws.{relay-number, stays-within-rule}
+use Rattle.route_history.proofs.TableHistoryLaws.{stays-within-rule}
 
 module _ (t : Table) (w : withinRule t ≡ true) where
   merge-never : (s : List ℕ) (quality time : ℕ) → mergeRefusal t s quality time ≡ 14 → ⊥
@@ -49,14 +50,14 @@ module _ (t : Table) (w : withinRule t ≡ true) where
   page-never p time room there =
       never-given 14 (pageReasons t p time room) some-number (ap not w, (_, (ap not there, _)))
 
-  only-pages : (c : Call) → answer t c .said .refusal ≡ 14 → wrongPage t c ≡ true
+  only-pages : (c : Call) → answer t c .refused ≡ 14 → wrongPage t c ≡ true
   unfolding mergeOf forwardOf lookupOf pageOf
-  only-pages (merge s quality time) e = absurd (merge-never s quality time (sym (unless-number _ _) ∙ e))
-  only-pages (forget unit time) e = absurd (forget-never unit time (sym (unless-number _ _) ∙ e))
-  only-pages (forward network s delay time out) e = absurd (forward-never network s delay time (length out) (sym (unless-number _ _) ∙ e))
-  only-pages (lookup d time) e = absurd (lookup-never d time (sym (unless-number _ _) ∙ e))
+  only-pages (merge s quality time) e = absurd (merge-never s quality time e)
+  only-pages (forget unit time) e = absurd (forget-never unit time e)
+  only-pages (forward network s delay time out) e = absurd (forward-never network s delay time (length out) e)
+  only-pages (lookup d time) e = absurd (lookup-never d time e)
   only-pages (relay s time out) e = absurd (relay-never s time (length out) (sym (relay-number t s time out) ∙ e))
   only-pages (page p time out) e = only-so (pageThere (standing time (rowsOf t)) p) (λ there. page-never p time (length out) there (sym (unless-number _ _) ∙ e))
 
 pub only-for-pages : OnlyForPages
-only-for-pages own began cs c z = only-pages (afterCalls (fresh own began) cs .table) (stays-within-rule own began cs z) c
+only-for-pages own began cs c z = only-pages (afterCalls (freshOf own began .table) cs) (stays-within-rule own began cs z) c

@@ -1,13 +1,13 @@
 -- A page as an update, and the call that writes it, from what its parts say: the same for a table by value and for one that lies in bytes.
 -- Assumes nothing.
 use mathlib.Core.Path.{_≡_, refl, sym, ap, _∙_}
-use mathlib.Core.Bool.{true, false, _||_}
+use mathlib.Core.Bool.{true, false}
 use mathlib.Core.List.{List, [], _∷_, map}
 use Prim.Native.Nat.{ℕ, _+_, _*_, _≤_, _<_}
 use native.Mathlib.Decide.{decLt}
 use native.Mathlib.Omega.{arith}
 use borrow.Author.Tests.{ne-eqb, lt-ltb, le-ltb, ltb-false}
-use lib.Dec.{eqb, ltb}
+use lib.Dec.{ltb}
 use lib.ListN.{length, take, drop, set, length-take, length-drop, length-map}
 use lib.Seq.{sets}
 use Rattle.octets.specs.Answers.{first}
@@ -22,7 +22,8 @@ use Rattle.route_table.specs.declared.row.Row.{Row}
 use Rattle.route_table.specs.declared.table.Table.{Table}
 use Rattle.route_table.specs.Rows.{standing}
 use Rattle.route_table.specs.Tables.{rowsOf, withinRule}
-use Rattle.route_pages.specs.Pages.{entryFor, onPage, pageFrame, unpagedReasons, pageRefusal, pageOf}
+use Rattle.route_pages.specs.Pages.{entryFor, onPage, pageFrame, pageRefusal, pageOf}
+use Rattle.route_pages.specs.Places.{unpagedReasons}
 use Rattle.route_pages.proofs.EntryLaws.{rowEntries, length-entries}
 
 -- ---- a page
@@ -57,7 +58,7 @@ pub record Paged (t : Table) (p time : ℕ) (out : List ℕ) (count refused : �
   pub counted : count ≡ length (onPage (standing time (rowsOf t)) p)
   pub last : ℕ
   pub accepted : last ≡ t .time
-  pub why : refused ≡ first (unpagedReasons last (eqb p 0 || ltb 0 count) (9 + 10 * count) time (length out))
+  pub why : refused ≡ first (unpagedReasons last p count time (length out))
 
 module _ {t : Table} {p time : ℕ} {out : List ℕ} {count refused : ℕ} (k : Paged t p time out count refused) where
   abbrev rs : List Row
@@ -74,7 +75,7 @@ module _ {t : Table} {p time : ℕ} {out : List ℕ} {count refused : ℕ} (k : 
     -- there is room for it
     pub page-room : 9 + 10 * count ≤ length out
     page-room =
-        let none = none-holds (unpagedReasons (k .last) (eqb p 0 || ltb 0 count) (9 + 10 * count) time (length out))
+        let none = none-holds (unpagedReasons (k .last) p count time (length out))
         _
         (sym (k .why) ∙ z) in
         ltb-false (length out) (9 + 10 * count) (none .1 .1 .0)

@@ -1,11 +1,10 @@
 // The entry for a row, and why a page is not written.
 ghost use mathlib.Core.Path.{_≡_};
-ghost use mathlib.Core.Bool.{_||_};
 ghost use mathlib.Core.List.{[], _∷_};
 ghost use Prim.Native.Nat.{_+_, _*_, _≤_};
-ghost use lib.Dec.{eqb, ltb};
 ghost use Rattle.octets.specs.Answers.{first};
-ghost use Rattle.route_pages.specs.Pages.{entryFor, unpagedReasons};
+ghost use Rattle.route_pages.specs.Pages.{entryFor};
+ghost use Rattle.route_pages.specs.Places.{unpagedReasons};
 use frame_traffic::entry::Entry;
 use moments::in_order;
 use octets::answers::Refusal;
@@ -30,7 +29,7 @@ pub(crate) fn entry_for(row: Row, time: u32) -> Entry
 // Why a page with so many rows is not written; 0 where it is. Page 0 always exists, another if a row stands on it.
 pub(crate) fn refusal(last: u32, number: u32, count: usize, time: u32, room: usize) -> u8
     requires { ⌜ count ≤ 24 ⌝ }
-    ensures { λ r. ⌜ r ≡ first (unpagedReasons last (eqb number 0 || ltb 0 count) (9 + 10 * count) time room) ⌝ }
+    ensures { λ r. ⌜ r ≡ first (unpagedReasons last number count time room) ⌝ }
 {
     let there = (number == 0) | (0 < count);
     let refused = refuse_if(room < 9 + 10 * count, Refusal::ROOM, 0);

@@ -7,10 +7,11 @@ use Prim.Native.Nat.{ℕ}
 use borrow.Author.Tests.{not-false}
 use lib.Dec.{eqb}
 use lib.ListN.{length}
-use Rattle.octets.specs.Answers.{Said, reason, refusing, first}
+use Rattle.octets.specs.Answers.{reason, refusing, first}
 use Rattle.octets.proofs.AnswerLaws.{Numbered, refusing-numbered, none-holds}
 use Rattle.octets.proofs.ReasonLaws.{first-append, first-behind, first-refusing}
 use Rattle.route_table.specs.declared.row.Row.{Row}
+use Rattle.route_table.specs.declared.table.Found.{Found}
 use Rattle.route_table.specs.declared.table.Head.{Head}
 use Rattle.route_table.specs.declared.table.Table.{Table}
 use Rattle.route_table.specs.Rows.{rowFor, standingPlaces}
@@ -33,7 +34,7 @@ module _ (t : Table) (before network : ℕ) (p : Passing) (delay time behind : �
       ∙ (first-behind (reason (not (withinRule t)) 14 ∷ []) (refusing before ∷ refusing unpassed ∷ refusing behind ∷ []) (refusing before ∷ tableReasons t network p delay time ++ (refusing behind ∷ []))
       (λ n.
       let found = looked-up t from time (not-false (withinRule t) (n .0)) in
-      let why : unpassed ≡ first (tableReasons t network p delay time) = e ∙ sym (ap (λ (said : Said). first (passingReasons (headOf t) said network p delay time)) found) in
+      let why : unpassed ≡ first (tableReasons t network p delay time) = e ∙ sym (ap (λ (f : Found). first (passingReasons (headOf t) f network p delay time)) found) in
       rw why
       (first-behind (refusing before ∷ []) (refusing (first (tableReasons t network p delay time)) ∷ refusing behind ∷ []) (tableReasons t network p delay time ++ (refusing behind ∷ []))
       (λ m. sym (first-append (tableReasons t network p delay time) (refusing behind ∷ []) _)))))

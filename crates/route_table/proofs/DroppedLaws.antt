@@ -7,7 +7,7 @@ use Prim.Native.Nat.{ℕ}
 use native.Mathlib.Omega.{arith}
 use borrow.Author.Tests.{eq-eqb, ne-eqb, eqb-true, ltb-true, leb-false, lt-leb}
 use lib.Dec.{eqb, leb, ltb}
-use Rattle.octets.specs.Answers.{accepted, reason, first, unless}
+use Rattle.octets.specs.Answers.{reason, first}
 use Rattle.octets.specs.Lists.{every}
 use Rattle.moments.specs.Moments.{ageAt, inOrder}
 use Rattle.octets.specs.Addresses.{address}
@@ -16,7 +16,7 @@ use Rattle.octets.proofs.OrderLaws.{ascending-rest, ascending-above}
 use Rattle.route_table.specs.declared.row.Row.{Row}
 use Rattle.route_table.specs.declared.table.Table.{Table}
 use Rattle.route_table.specs.Rows.{leadingTo, none, usable, leads, stands, rowRule, forgotten, ascending, standing, rowFor}
-use Rattle.route_table.specs.Tables.{rowsOf, withinRule, withRows, dropped, lookupOf, forgetOf}
+use Rattle.route_table.specs.Tables.{rowsOf, withinRule, withRows, dropped, lookupOf, forgetOf, foundOr}
 use Rattle.route_table.proofs.RuleLaws.{within-pad}
 use Rattle.route_table.proofs.StandingLaws.{used, in-use-used, in-use-pad, standing-every, standing-ascending}
 use Rattle.route_table.proofs.TableLaws.{within, few-stand}
@@ -85,9 +85,9 @@ alike time d h (r ∷ rs) e =
     go false false p q i a = record { test = rw p (i .test); row = λ f. rw p (i .row (rw p at f)) }
 
 -- ---- the calls
-answers : (a o x y : Bool) (p q : List ℕ) → (a ≡ true → x ≡ y) → (a ≡ true → y ≡ true → p ≡ q)
-    → unless (first (reason false 14 ∷ reason (not a) 4 ∷ reason (not o) 8 ∷ reason (not x) 11 ∷ [])) (accepted p)
-    ≡ unless (first (reason false 14 ∷ reason (not a) 4 ∷ reason (not o) 8 ∷ reason (not y) 11 ∷ [])) (accepted q)
+answers : (a o x y : Bool) (p q : Row) → (a ≡ true → x ≡ y) → (a ≡ true → y ≡ true → p ≡ q)
+    → foundOr (first (reason false 14 ∷ reason (not a) 4 ∷ reason (not o) 8 ∷ reason (not x) 11 ∷ [])) p
+    ≡ foundOr (first (reason false 14 ∷ reason (not a) 4 ∷ reason (not o) 8 ∷ reason (not y) 11 ∷ [])) q
 answers false o x y p q f g = refl
 answers true false x y p q f g = refl
 answers true true x true p q f g = rw (f refl, g refl refl)
@@ -103,7 +103,7 @@ module _ (time : ℕ) (t : Table) (e : withinRule t ≡ true) where
       let same : (d ≡ 0 → ⊥) → Alike time d (standing time (rowsOf t)) (rowsOf t) = λ h. alike time d h (rowsOf t) (within t e .ascends) in
       rw (dropped-within time t e, e, dropped-rows time t)
       (answers (address d) (inOrder (t .time) time) _ _ _ _ (λ a. same (address-some d a) .test)
-      (λ a y. ap (λ (r : Row). r .«next_hop» ∷ r .hops ∷ []) (same (address-some d a) .row y)))
+      (λ a. same (address-some d a) .row))
 
   pub dropped-forget : (unit : ℕ) → forgetOf (dropped time t) unit time .refused ≡ forgetOf t unit time .refused
   unfolding forgetOf

@@ -26,7 +26,8 @@ fn lifetime(withdrawn: bool) -> u32
     }
 }
 
-fn either(test: bool, first: Row, second: Row) -> Row
+// The first row where a test holds, else the second.
+pub(crate) fn either(test: bool, first: Row, second: Row) -> Row
     ensures { λ r. ⌜ r ≡ cond test first second ⌝ }
 {
     if test { first } else { second }

@@ -21,7 +21,7 @@ use Rattle.route_merges.specs.Learning.{learn}
 use Rattle.route_merges.specs.Merges.{mergeRefusal, mergedRows, mergeOf}
 use Rattle.route_pages.specs.Pages.{entryFor, pageOf}
 use Rattle.site_converges.specs.Sites.{Sited, among, within}
-use Rattle.site_converges.specs.Rounds.{pastAfter}
+use Rattle.site_converges.specs.Rounds.{tableAfter}
 use Rattle.site_converges.specs.Line.{line, LineTells}
 use Rattle.site_converges.proofs.SiteLaws.{among-every, within-more}
 
@@ -62,5 +62,5 @@ line-sited =
     }
 
 pub line-tells : LineTells
-unfolding tab every num digits xors ageAt inOrder isSealed readRefusal sealed entryAt pad withinRule freshOf lookupOf learn mergeRefusal mergedRows mergeOf entryFor pageOf pastAfter
+unfolding tab every num digits xors ageAt inOrder isSealed readRefusal sealed entryAt pad withinRule freshOf lookupOf learn mergeRefusal mergedRows mergeOf entryFor pageOf tableAfter
 line-tells = (line-sited, refl, refl, refl, refl, refl)

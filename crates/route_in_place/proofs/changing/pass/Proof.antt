@@ -5,7 +5,6 @@ use denote.Ref.{now}
 use borrow.Author.Tests.{not-true, not-false}
 use Rattle.route_passing.specs.Passes.{passedHead, passOf}
 use Rattle.route_table.specs.declared.table.Head.{Head}
-use Rattle.route_table.specs.Told.{toldFound}
 use Rattle.route_bytes.specs.TableBytes.{tableBytes}
 use Rattle.route_in_place.proofs.ChangeLaws.{changed-none, changed-refused, changed-accepted, Asked, pass-refusal, pass-table, unpassed}
 use borrow.Author.Needs.{needs}
@@ -30,7 +29,7 @@ asked d =
       holds = sym (test .before .holds-table .ensures) ∙ not-false _ (test .if1 .left);
       head = head .head-of .result;
       row = row .row-for .result;
-      found = toldFound (found .found-by .result);
+      found = found .found-by .result;
       why = why .why-not-passed .result;
       headed = head .head-of .ensures;
       looked = row .row-for .ensures;

@@ -28,7 +28,6 @@ returns c =
       second .refuse-if2 .ensures,
       first .refuse-if .ensures,
       fourth .before .in-order .ensures,
-      second .before .refusal .ensures,
       unread .data-frame .ensures,
       ap (λ (l : Lent). length (l .bytes) + 10) (size .payload .ensures) ∙ copy-length (a .frame .now),
       header-in (header .of .result) (a .frame .now) (header .of .ensures),
@@ -36,4 +35,4 @@ returns c =
 
 pub refusal-spec : {M : Type 1} → statement M
 refusal-spec =
-    tie.close (tie.spec (λ c κs. search needs) (λ c κs. search needs) (λ c κs. search needs) (λ c. search needs) (λ c κs. search needs) (λ c κs. search needs) (λ c κs. search needs) (λ c κs. search needs) (λ c κs. search needs) (λ c κs. search needs) (λ c κs. search needs) (λ c κs. search needs) returns)
+    tie.close (tie.spec (λ c κs. search needs) (λ c κs. search needs) (λ c κs. search needs) (λ c. search needs) (λ c κs. search needs) (λ c κs. search needs) (λ c κs. search needs) (λ c κs. search needs) (λ c κs. search needs) (λ c κs. search needs) (λ c κs. search needs) returns)

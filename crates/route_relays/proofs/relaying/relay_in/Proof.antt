@@ -12,9 +12,9 @@ use Rattle.route_relays.proofs.relaying.relay_in.Tie as tie
 
 returns : tie.Need-returns
 returns c =
-    let judged = c .before in
-    let a = judged .before .before .before .before .args in
-    stored-none (a .table .now) (a .frame .now) (a .time) (a .out .now) (sym (judged .holds-table .ensures) ∙ not-true _ (c .if1 .taken))
+    let test = c .before in
+    let a = test .before .before .before .before .before .args in
+    rw (c .unwritten .ensures) (stored-none (a .table .now) (a .frame .now) (a .time) (a .out .now) (sym (test .before .holds-table .ensures) ∙ not-true _ (test .if1 .taken)))
 
 returns-2 : tie.Need-returns-2
 returns-2 c =
@@ -33,4 +33,4 @@ returns-2 c =
 
 pub relay-in-spec : {M : Type 1} → statement M
 relay-in-spec =
-    tie.close (tie.spec (λ c κs. search needs) returns (λ c κs. search needs) (λ c κs. search needs) (λ c κs. search needs) (λ c κs. search needs) (λ c κs. search needs) (λ c. search needs) returns-2)
+    tie.close (tie.spec (λ c κs. search needs) (λ c κs. search needs) returns (λ c κs. search needs) (λ c κs. search needs) (λ c κs. search needs) (λ c κs. search needs) (λ c κs. search needs) (λ c. search needs) returns-2)

@@ -11,7 +11,7 @@ unfolding foundBy
 returns c =
     let second = c .before .before in
     let first = second .before .before in
-    c .answered .ensures ∙
+    c .found-or .ensures ∙
     rw (
       c .before .refuse-if3 .ensures,
       second .refuse-if2 .ensures,

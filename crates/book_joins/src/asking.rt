@@ -16,8 +16,7 @@ use book::book::Book;
 use book_members::census::counted;
 use book_members::rows::current;
 use book_members::rows::in_use;
-use frame_reading::refusals::slot_request;
-use frame_requests::slot_request::SlotRequest;
+use frame_requests::SlotRequest;
 use moments::in_order;
 use octets::answers::refuse_if;
 use slot_sets::masks::joined;
@@ -48,7 +47,7 @@ fn asks(own: u64, spaces: u64, empty: u8, asked: u8) -> u64
 fn refusal(book: Book, frame: &[u8], time: u32, live: bool, short: bool) -> u8
     ensures { λ r. ⌜ r ≡ first (askReasons (contents book) (now (frame .entry)) time live short) ⌝ }
 {
-    let unread = slot_request(frame);
+    let unread = SlotRequest::refusal(frame);
     let unit = SlotRequest::of(frame).node;
     let manager = book.plan.manager;
     let refused = refuse_if(short, 5, 0);

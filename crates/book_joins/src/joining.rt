@@ -18,8 +18,7 @@ use book_members::census::counted;
 use book_members::census::either;
 use book_members::rows::current;
 use book_members::rows::in_use;
-use frame_reading::refusals::join_request;
-use frame_requests::join_request::JoinRequest;
+use frame_requests::JoinRequest;
 use moments::in_order;
 use octets::answers::refuse_if;
 use slot_sets::masks::lowest;
@@ -46,7 +45,7 @@ fn seated(live: bool, held: u64, spaces: u64, empty: u8, asked: u8) -> u64
 fn refusal(book: Book, frame: &[u8], time: u32, no_row: bool, short: bool) -> u8
     ensures { λ r. ⌜ r ≡ first (joinReasons (contents book) (now (frame .entry)) time «no_row» short) ⌝ }
 {
-    let unread = join_request(frame);
+    let unread = JoinRequest::refusal(frame);
     let request = JoinRequest::of(frame);
     let network = request.network;
     let foreign = !(network == 0) & !(network == book.plan.network);

@@ -1,1 +1,2 @@
-// Shapes: what a kind of frame is, and what reading and writing one means. There are definitions and laws here, and no code.
+// Shapes: what a kind of frame is, what reading and writing one means, and the tests of bytes that every kind shares.
+pub mod judging;

@@ -2,6 +2,7 @@
 ghost use mathlib.Core.Path.{_≡_};
 ghost use Rattle.octets.specs.Lists.{every};
 ghost use Rattle.frame_traffic.specs.Traffic.{entryRule, entryAt, entriesOf};
+use octets::addresses::is_address;
 use octets::numbers::number8;
 use octets::numbers::number16;
 use octets::numbers::number32;
@@ -33,8 +34,8 @@ impl Entry {
     pub fn good(self) -> bool
         ensures { λ r. ⌜ r ≡ entryRule self ⌝ }
     {
-        ((1 <= self.destination) & (self.destination <= 0xFFFE))
-            & ((1 <= self.next_hop) & (self.next_hop <= 0xFFFE))
+        is_address(self.destination)
+            & is_address(self.next_hop)
             & (((1 <= self.hops) & (self.hops <= 16)) | (self.hops == 255))
     }
 }

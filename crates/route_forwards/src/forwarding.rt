@@ -10,7 +10,6 @@ ghost use Rattle.frame_beacons.specs.Beacons as beacons;
 ghost use Rattle.route_forwards.specs.Forwards.{passingOf, passedBy, passed, forwardOf, forwardedIn, forwardCall};
 use crate::writing::put_beacon;
 use frame_beacons::beacon::Beacon;
-use frame_reading::refusals;
 use octets::answers::refuse_if;
 use octets::numbers::number16;
 use route_in_place::changing;
@@ -72,7 +71,7 @@ fn passed_by(own: u16, delay: u32, beacon: Beacon) -> Beacon
 fn unread(network: u16, frame: &[u8]) -> u8
     ensures { λ r. ⌜ r ≡ first (refusing (refusalAs beacons.beacon (now (frame .entry))) ∷ reason (not (rules.network network)) 4 ∷ []) ⌝ }
 {
-    let refused = refusals::beacon(frame);
+    let refused = Beacon::refusal(frame);
     refuse_if(!(refused == 0), refused, refuse_if(!(1 <= network), 4, 0))
 }
 

@@ -20,7 +20,7 @@ use Rattle.frame_kinds.specs.Shape.{valuesIn, partIn, partLent, frameOf}
 use Rattle.frame_kinds.proofs.ReadingLaws.{passed, part-length}
 use Rattle.frame_traffic.specs.declared.data_frame.DataHeader.{DataHeader}
 use Rattle.frame_traffic.specs.Traffic.{dataKind, dataValues, dataFrom}
-use Rattle.frame_writing.proofs.WritingLaws.{frame-length}
+use Rattle.frame_kinds.proofs.StoredLaws.{frame-length}
 use Rattle.route_table.specs.declared.table.Table.{Table}
 use Rattle.route_table.specs.declared.table.Hop.{Hop}
 use Rattle.route_table.specs.Rows.{rowFor}

@@ -6,7 +6,7 @@ use denote.Ref.{now}
 use native.Mathlib.Omega.{arith}
 use lib.ListN.{length-set}
 use Rattle.frame_beacons.specs.Beacons.{beacon, beaconValues}
-use Rattle.frame_writing.proofs.WritingLaws.{sealed-stored}
+use Rattle.frame_kinds.proofs.StoredLaws.{sealed-stored}
 use borrow.Author.Needs.{needs}
 use Rattle.route_forwards.proofs.writing.put_beacon.Statement.{statement}
 use Rattle.route_forwards.proofs.writing.put_beacon.Tie as tie

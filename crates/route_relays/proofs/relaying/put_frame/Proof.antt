@@ -8,7 +8,7 @@ use denote.Ref.{now}
 use lib.ListN.{length-set}
 use lib.Seq.{sets}
 use Rattle.frame_traffic.specs.Traffic.{dataKind, dataValues}
-use Rattle.frame_writing.proofs.WritingLaws.{sealed-stored}
+use Rattle.frame_kinds.proofs.StoredLaws.{sealed-stored}
 use borrow.Author.Needs.{needs}
 use Rattle.route_relays.proofs.relaying.put_frame.Statement.{statement}
 use Rattle.route_relays.proofs.relaying.put_frame.Tie as tie

@@ -8,8 +8,8 @@ use lib.Dec.{eqb, ltb}
 use lib.ListN.{length, getD, take}
 use Rattle.octets.specs.Answers.{first}
 use Rattle.frame_kinds.specs.Shape.{valuesIn}
-use Rattle.frame_requests.specs.declared.join_request.JoinRequest.{JoinRequest}
-use Rattle.frame_requests.specs.declared.slot_request.SlotRequest.{SlotRequest}
+use Rattle.frame_requests.specs.declared.JoinRequest.{JoinRequest}
+use Rattle.frame_requests.specs.declared.SlotRequest.{SlotRequest}
 use Rattle.frame_requests.specs.Requests.{joinRequest, joinRequestFrom, joinRequestValues, slotRequest, slotRequestFrom, slotRequestValues}
 use Rattle.slot_sets.specs.Sets.{Slots, count}
 use Rattle.book_members.specs.declared.member.Member.{Member}

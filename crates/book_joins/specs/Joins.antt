@@ -11,8 +11,8 @@ use Rattle.octets.specs.Calls.{after}
 use Rattle.moments.specs.Moments.{inOrder}
 use Rattle.frame_kinds.specs.Reading.{refusalAs}
 use Rattle.frame_kinds.specs.Shape.{valuesIn}
-use Rattle.frame_requests.specs.declared.join_request.JoinRequest.{JoinRequest}
-use Rattle.frame_requests.specs.declared.slot_request.SlotRequest.{SlotRequest}
+use Rattle.frame_requests.specs.declared.JoinRequest.{JoinRequest}
+use Rattle.frame_requests.specs.declared.SlotRequest.{SlotRequest}
 use Rattle.frame_requests.specs.Requests.{joinRequest, joinRequestFrom, slotRequest, slotRequestFrom}
 use Rattle.slot_sets.specs.Sets.{Slots, union, count, lowest, withoutHighest}
 use Rattle.book_members.specs.Members.{Row, memberWith, fewestSlots, mostSlots, placeFor, free, vacant, spare}

@@ -17,8 +17,7 @@ use book::book::Book;
 use book_members::census::counted;
 use book_members::rows::current;
 use book_members::rows::in_use;
-use frame_reading::refusals::slot_request;
-use frame_requests::slot_request::SlotRequest;
+use frame_requests::SlotRequest;
 use moments::in_order;
 use octets::answers::Refusal;
 use octets::answers::refuse_if;
@@ -51,7 +50,7 @@ fn refusal(book: Book, frame: &[u8], time: u32, live: bool, bytes: usize, room: 
     requires { ⌜ (live ≡ liveAt (contents book) (askIn (now frame) .node) time) × (bytes ≡ length (askResponses (contents book) (now frame) time)) ⌝ }
     ensures { λ r. ⌜ r ≡ first (askReasons (contents book) (now (frame .entry)) time room) ⌝ }
 {
-    let unread = slot_request(frame);
+    let unread = SlotRequest::refusal(frame);
     let unit = SlotRequest::of(frame).node;
     let manager = book.plan.manager;
     let refused = refuse_if(room < bytes, Refusal::ROOM, 0);

@@ -18,8 +18,7 @@ use book::book::Book;
 use book_members::census::counted;
 use book_members::rows::current;
 use book_members::rows::in_use;
-use frame_reading::refusals::join_request;
-use frame_requests::join_request::JoinRequest;
+use frame_requests::JoinRequest;
 use moments::in_order;
 use octets::answers::Refusal;
 use octets::answers::refuse_if;
@@ -49,7 +48,7 @@ fn refusal(book: Book, frame: &[u8], time: u32, no_row: bool, bytes: usize, room
     requires { ⌜ («no_row» ≡ noRowFor (contents book) (joinIn (now frame) .node) time) × (bytes ≡ length (joinResponses (contents book) (now frame) time)) ⌝ }
     ensures { λ r. ⌜ r ≡ first (joinReasons (contents book) (now (frame .entry)) time room) ⌝ }
 {
-    let unread = join_request(frame);
+    let unread = JoinRequest::refusal(frame);
     let request = JoinRequest::of(frame);
     let network = request.network;
     let foreign = !(network == 0) & !(network == book.plan.network);

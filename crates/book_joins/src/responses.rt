@@ -8,7 +8,7 @@ ghost use Rattle.slot_sets.specs.Sets.{slotsOf, count};
 ghost use Rattle.site_plan.specs.Schedules.{dataSlot};
 ghost use Rattle.book_joins.specs.Responses.{listed, response, responsesFor, responses};
 use frame_kinds::sealing::seal;
-use frame_requests::join_response::JoinResponse;
+use frame_requests::JoinResponse;
 use octets::parts::put_bytes;
 use site_plan::plan::Plan;
 use slot_sets::masks::holds;

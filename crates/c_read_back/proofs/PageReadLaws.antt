@@ -21,7 +21,7 @@ use Rattle.frame_kinds.specs.Shape.{partIn, frameOf}
 use Rattle.octets.proofs.AnsweredLaws.{said-value}
 use Rattle.octets.proofs.TestLaws.{of-choice}
 use Rattle.frame_traffic.specs.declared.entry.Entry.{Entry}
-use Rattle.frame_traffic.specs.Traffic.{entryWidths, entryValues, entryRule, entryAt, entriesOf, update, updateRule, updateFrom}
+use Rattle.frame_traffic.specs.Traffic.{entryWidths, entryValues, entryRule, entryAt, entriesOf, update, updateFrom}
 use Rattle.frame_entries.specs.Walks.{walkOf}
 use Rattle.frames.specs.Frames.{readFrame}
 use Rattle.frames.proofs.KindLaws.{code-fits, an-update}
@@ -116,7 +116,7 @@ module _ (own last time : ℕ) (a : address own ≡ true) (h : time < 0x10000000
   part-size : length (entriesBytes es) ≡ 10 * length rs
   part-size = length-entries es ∙ ap (λ (n : ℕ). 10 * n) (length-map rs (entryFor time))
 
-  good : updateRule (updateFrom values) (entriesBytes es) ≡ true
+  good : update .rule values (entriesBytes es) ≡ true
   good = rw (a, back) (entries-ruled own last time rs e)
 
   short : 9 + 10 * length rs ≤ 255

@@ -13,7 +13,7 @@ use Rattle.octets.specs.Layouts.{Fit}
 use Rattle.octets.proofs.CallLaws.{after-accepted}
 use Rattle.octets.proofs.AddressLaws.{address-fits}
 use Rattle.octets.specs.Addresses.{address, network}
-use Rattle.frame_requests.specs.Requests.{joinResponse, joinResponseFrom, joinResponseRule}
+use Rattle.frame_requests.specs.Requests.{joinResponse}
 use Rattle.frames.specs.Frames.{readFrame}
 use Rattle.frames.proofs.KindLaws.{a-response}
 use Rattle.frames.proofs.WholeLaws.{frame-read}
@@ -45,7 +45,7 @@ module _ (p : Plan) (unit time : ℕ) (a : address unit ≡ true) (n : network (
   response-read slot h =
       let values : List ℕ = unit ∷ 0 ∷ slot ∷ time ∷ p .network ∷ [] in
       let fits : Fit (joinResponse .widths) values = (address-fits unit a, (omega arith, (omega (arith, h), (t, (w, tt))))) in
-      let good : joinResponseRule (joinResponseFrom values) ≡ true = rw (a, n, lt-ltb slot 100 h) in
+      let good : joinResponse .rule values [] ≡ true = rw (a, n, lt-ltb slot 100 h) in
       frame-read joinResponse a-response values [] fits refl (omega arith) good .0
 
   responses-read : (slots rest : List ℕ) → Below 100 slots

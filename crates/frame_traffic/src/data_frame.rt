@@ -1,14 +1,19 @@
 // 0x11, data: an order or a reading on its way to a unit.
 ghost use mathlib.Core.Path.{_≡_};
-ghost use mathlib.Core.List.{_∷_};
+ghost use mathlib.Core.List.{_∷_, []};
 ghost use lib.Seq.{sets};
 ghost use Rattle.octets.specs.Layouts.{bytes};
-ghost use Rattle.frame_traffic.specs.Traffic.{dataKind, dataValues, dataRule};
-ghost use Rattle.frame_kinds.specs.Shape.{valuesIn};
+ghost use Rattle.frame_traffic.specs.Traffic.{dataKind, dataValues};
+ghost use Rattle.frame_kinds.specs.Shape.{valuesIn, partLent};
+ghost use Rattle.frame_kinds.specs.Reading.{refusalAs};
+ghost use Rattle.octets.specs.Parts.{lent};
+use frame_kinds::judging::refused;
+use octets::addresses::is_address;
 use octets::fixed::put8;
 use octets::fixed::put16;
 use octets::numbers::number8;
 use octets::numbers::number16;
+use octets::parts::part;
 
 // `count` is how many bytes of payload follow.
 pub struct DataHeader {
@@ -35,10 +40,31 @@ impl DataHeader {
 
     // Whether the fields keep their rules.
     pub fn good(self) -> bool
-        ensures { λ r. ⌜ r ≡ dataRule self ⌝ }
+        ensures { λ r. ⌜ r ≡ dataKind .rule (dataValues self) [] ⌝ }
     {
-        ((1 <= self.source) & (self.source <= 0xFFFE))
-            & ((1 <= self.destination) & (self.destination <= 0xFFFE))
+        is_address(self.source) & is_address(self.destination)
+    }
+
+    // Why bytes are no frame of this kind, 0 where they are one.
+    pub fn refusal(s: &[u8]) -> u8
+        ensures { λ r. ⌜ r ≡ refusalAs dataKind (now (s .entry)) ⌝ }
+    {
+        let header = DataHeader::of(s);
+        refused(s, 0x11, 10 + header.count as usize, header.good())
+    }
+
+    // The type, then the fields.
+    pub fn numbers(self) -> [u32; 6]
+        ensures { λ r. ⌜ r ≡ dataKind .code ∷ dataValues self ⌝ }
+    {
+        [
+            0x11,
+            self.source as u32,
+            self.destination as u32,
+            self.ttl as u32,
+            self.sequence as u32,
+            self.count as u32,
+        ]
     }
 
     // Writes the type and the fields where they stand, from the buffer's start.
@@ -52,4 +78,11 @@ impl DataHeader {
         put16(out, 6, self.sequence);
         put8(out, 8, self.count);
     }
+}
+
+// The payload of a data frame, as a part of the caller's bytes.
+pub fn payload(s: &[u8]) -> &[u8]
+    ensures { λ r. ⌜ lent r ≡ partLent dataKind (lent (s .entry)) ⌝ }
+{
+    part(s, 9, number8(s, 8) as usize)
 }

@@ -4,6 +4,7 @@ ghost use lib.Seq.{sets};
 ghost use Rattle.octets.specs.Layouts.{bytes};
 ghost use Rattle.octets.specs.Lists.{every};
 ghost use Rattle.frame_traffic.specs.Traffic.{entryWidths, entryValues, entryRule, entryAt, entriesOf};
+use octets::addresses::is_address;
 use octets::fixed::put8;
 use octets::fixed::put16;
 use octets::fixed::put32;
@@ -38,8 +39,8 @@ impl Entry {
     pub fn good(self) -> bool
         ensures { λ r. ⌜ r ≡ entryRule self ⌝ }
     {
-        ((1 <= self.destination) & (self.destination <= 0xFFFE))
-            & ((1 <= self.next_hop) & (self.next_hop <= 0xFFFE))
+        is_address(self.destination)
+            & is_address(self.next_hop)
             & (((1 <= self.hops) & (self.hops <= 16)) | (self.hops == 255))
     }
 

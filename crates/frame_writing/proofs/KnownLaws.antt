@@ -6,11 +6,8 @@ use mathlib.Core.List.{List, [], _∷_, _++_, List·Memᴰ}
 use mathlib.Core.Logic.{⊎-elim}
 use Prim.Native.Nat.{ℕ, suc, _+_, _≤_, _<_}
 use native.Mathlib.Omega.{arith}
-use borrow.Author.Tests.{leb-true}
-use lib.Dec.{leb}
 use lib.ListN.{length, getD, take}
 use Rattle.octets.specs.Layouts.{total, bytes, Fit}
-use Rattle.octets.specs.Lists.{every}
 use Rattle.octets.specs.declared.answers.Written.{Written}
 use Rattle.octets.specs.Told.{Wrote, wrote}
 use Rattle.frames.specs.declared.layouts.Layout.{Layout}
@@ -20,7 +17,7 @@ use Rattle.frames.specs.Listed.{given, fitting, extentOf, writeListed, writeNum
 use Rattle.frame_kinds.specs.Shape.{Kind, placeOf, lengthOf, sealed, frameOf}
 use Rattle.frame_kinds.specs.Writing.{writeRefusal, writing, writeAs}
 use Rattle.frames.proofs.KindLaws.{asked, known-or-not, code-fits}
-use Rattle.frames.proofs.LayoutLaws.{laid-out, of-widths}
+use Rattle.frames.proofs.LayoutLaws.{laid-out}
 use Rattle.frames.proofs.ListedLaws.{listed-as, by-type}
 use Rattle.frame_kinds.proofs.WritingLaws.{put}
 use Rattle.frame_writing.specs.Taking.{takes}
@@ -38,10 +35,6 @@ pub record Known (code : ℕ) (layout : Layout) : Type 0 where
   pub within : layout .count ≤ length (layout .widths)
   pub small : layout .head ≤ 64
 
-heads-small : (t : ℕ) → total (widthsOf t) ≤ 64
-unfolding every
-heads-small t = leb-true _ _ (of-widths (λ ws. leb (total ws) 64) refl refl t)
-
 pub known : (code : ℕ) (layout : Layout) → layout ≡ layoutOf code → (layout .count ≡ 0 → ⊥) → Known code layout
 known code layout e z =
     let l = laid-out layout code e in
@@ -56,7 +49,7 @@ known code layout e z =
       widths = l .firsts ∙ w;
       head = l .summed ∙ ap total w;
       within = l .within;
-      small = omega (arith, l .summed, heads-small code);
+      small = l .small;
     })
     (λ r. absurd (z (l .counted ∙ ap length (r (List ℕ) (λ k. 1 ∷ k .widths) []))))
     (known-or-not code)

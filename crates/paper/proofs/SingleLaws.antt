@@ -3,14 +3,15 @@
 use mathlib.Core.Path.{_≡_, refl, sym, ap, ap₂, _∙_}
 use mathlib.Core.List.{List, [], _∷_, map}
 use Prim.Native.Nat.{ℕ}
-use Rattle.octets.specs.Answers.{Said, OneToOne}
+use Rattle.octets.specs.Answers.{Said, accepted, OneToOne}
 use Rattle.octets.specs.Told.{Wrote, toldWritten}
 use Rattle.slot_sets.specs.Sets.{slotsOf, maskOf}
 use Rattle.slot_sets.proofs.MaskLaws.{mask-back}
 use Rattle.frame_traffic.specs.Traffic.{dataFrom, updateFrom}
-use Rattle.frame_requests.specs.Requests.{joinRequestFrom, joinResponseFrom, slotRequestFrom, discoveryRequestFrom, discoveryResponseFrom}
+use Rattle.frame_requests.specs.Requests.{joinRequestFrom, joinResponseFrom, slotRequestFrom}
 use Rattle.frame_beacons.specs.Beacons.{beaconFrom}
 use Rattle.octets.proofs.ToldLaws.{told-written-one}
+use Rattle.frames.specs.declared.answers.Frame.{Frame}
 use Rattle.frames.proofs.ToldLaws.{told-one}
 use Rattle.frame_entries.proofs.MeetLaws.{told-walked-one}
 use Rattle.site_plan.proofs.ToldLaws.{told-plan-one}
@@ -69,8 +70,8 @@ views-tell-apart =
       joinRequests = undone any _ joinRequestFrom (λ a p. refl);
       joinResponses = undone any _ joinResponseFrom (λ a p. refl);
       slotRequests = undone any _ slotRequestFrom (λ a p. refl);
-      discoveryRequests = undone any _ discoveryRequestFrom (λ a p. refl);
-      discoveryResponses = undone any _ discoveryResponseFrom (λ a p. refl);
+      discoveryRequests = λ a a′ p p′ e. cc (told-one (Frame.DiscoveryRequest a) (Frame.DiscoveryRequest a′) (ap (λ (vs : List ℕ). accepted (0x24 ∷ vs)) e));
+      discoveryResponses = λ a a′ p p′ e. cc (told-one (Frame.DiscoveryResponse a) (Frame.DiscoveryResponse a′) (ap (λ (vs : List ℕ). accepted (0x25 ∷ vs)) e));
       beacons = undone any _ beaconFrom (λ a p. refl);
       frames = λ a a′ p p′ e. told-one a a′ e;
       plans = λ a a′ p p′ e. told-plan-one a a′ e;

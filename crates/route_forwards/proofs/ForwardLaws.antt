@@ -17,7 +17,7 @@ use Rattle.octets.specs.Addresses as rules
 use Rattle.frame_kinds.specs.Shape.{valuesIn}
 use Rattle.frame_kinds.proofs.ReadingLaws.{passed}
 use Rattle.frame_beacons.specs.declared.beacon.Beacon.{Beacon}
-use Rattle.frame_beacons.specs.Beacons.{beacon, beaconValues, beaconFrom, beaconRule}
+use Rattle.frame_beacons.specs.Beacons.{beacon, beaconValues, beaconFrom}
 use Rattle.frame_kinds.proofs.StoredLaws.{frame-length}
 use Rattle.route_table.specs.declared.table.Changed.{Changed}
 use Rattle.route_table.specs.declared.table.Table.{Table}
@@ -88,27 +88,27 @@ module _ (t : Table) (network : ℕ) (s : List ℕ) (delay time room : ℕ) wher
 pub record Ruled (b : Beacon) : Type 0 where
   pub origin : rules.address (b .«original_source») ≡ true
   pub few : b .«max_hops» ≤ 10
-  pub passes : (own delay : ℕ) → rules.address own ≡ true → b .hop < b .«max_hops» → beaconRule (passedBy own delay b) ≡ true
+  pub passes : (own delay : ℕ) → rules.address own ≡ true → b .hop < b .«max_hops» → beacon .rule (beaconValues (passedBy own delay b)) [] ≡ true
 
-ten : (d a z n o l m h s i p : Bool) → (d && a && z && n && o && (l && m) && h && s && i && p) ≡ true
-    → (o ≡ true) × (m ≡ true) × ((a′ h′ : Bool) → a′ ≡ true → h′ ≡ true → (d && a′ && z && n && o && (l && m) && h′ && s && i && p) ≡ true)
+ten : (d a z n s i o l m h p : Bool) → (d && a && z && n && s && i && o && (l && m) && h && p) ≡ true
+    → (o ≡ true) × (m ≡ true) × ((a′ h′ : Bool) → a′ ≡ true → h′ ≡ true → (d && a′ && z && n && s && i && o && (l && m) && h′ && p) ≡ true)
 ten true true true true true true true true true true true e = (refl, refl, λ a′ h′ x y. rw (x, y))
 ten true true true true true true true true true true false e = absurd (false≢true e)
 ten true true true true true true true true true false p e = absurd (false≢true e)
-ten true true true true true true true true false i p e = absurd (false≢true e)
-ten true true true true true true true false s i p e = absurd (false≢true e)
-ten true true true true true true false h s i p e = absurd (false≢true e)
-ten true true true true true false m h s i p e = absurd (false≢true e)
-ten true true true true false l m h s i p e = absurd (false≢true e)
-ten true true true false o l m h s i p e = absurd (false≢true e)
-ten true true false n o l m h s i p e = absurd (false≢true e)
-ten true false z n o l m h s i p e = absurd (false≢true e)
-ten false a z n o l m h s i p e = absurd (false≢true e)
+ten true true true true true true true true false h p e = absurd (false≢true e)
+ten true true true true true true true false m h p e = absurd (false≢true e)
+ten true true true true true true false l m h p e = absurd (false≢true e)
+ten true true true true true false o l m h p e = absurd (false≢true e)
+ten true true true true false i o l m h p e = absurd (false≢true e)
+ten true true true false s i o l m h p e = absurd (false≢true e)
+ten true true false n s i o l m h p e = absurd (false≢true e)
+ten true false z n s i o l m h p e = absurd (false≢true e)
+ten false a z n s i o l m h p e = absurd (false≢true e)
 
-pub ruled : (b : Beacon) → beaconRule b ≡ true → Ruled b
+pub ruled : (b : Beacon) → beacon .rule (beaconValues b) [] ≡ true → Ruled b
 unfolding passedBy
 ruled b e =
-    let r = ten (eqb (b .destination) 0xFFFF) (rules.address (b .source)) (eqb (b .size) 27) (rules.network (b .network)) (rules.address (b .«original_source»)) (leb 1 (b .«max_hops»)) (leb (b .«max_hops») 10) (leb (b .hop) (b .«max_hops»)) (leb 1 (b .«total_slots») && leb (b .«total_slots») 100) (leb 1 (b .«slot_ms»)) (eqb (b .«superframe_ms») (b .«total_slots» * b .«slot_ms»)) e in
+    let r = ten (eqb (b .destination) 0xFFFF) (rules.address (b .source)) (eqb (b .size) 27) (rules.network (b .network)) (leb 1 (b .«total_slots») && leb (b .«total_slots») 100) (leb 1 (b .«slot_ms»)) (rules.address (b .«original_source»)) (leb 1 (b .«max_hops»)) (leb (b .«max_hops») 10) (leb (b .hop) (b .«max_hops»)) (eqb (b .«superframe_ms») (b .«total_slots» * b .«slot_ms»)) e in
     record {
       origin = r .0;
       few = leb-true (b .«max_hops») 10 (r .1);

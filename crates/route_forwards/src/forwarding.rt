@@ -14,7 +14,6 @@ ghost use Rattle.frame_beacons.specs.Beacons.{beaconValues};
 ghost use Rattle.route_forwards.specs.Forwards.{passingOf, passedBy, passed, forwardOf, forwardedIn, forwardCall};
 use frame_beacons::beacon::Beacon;
 use frame_kinds::sealing::seal;
-use frame_reading::refusals;
 use octets::answers::Refusal;
 use octets::answers::refuse_if;
 use octets::numbers::number16;
@@ -79,7 +78,7 @@ fn put_copy(out: &mut [u8], own: u16, delay: u32, beacon: Beacon)
 fn unread(network: u16, frame: &[u8]) -> u8
     ensures { λ r. ⌜ r ≡ first (refusing (refusalAs beacons.beacon (now (frame .entry))) ∷ reason (not (rules.network network)) 4 ∷ []) ⌝ }
 {
-    let refused = refusals::beacon(frame);
+    let refused = Beacon::refusal(frame);
     refuse_if(
         !(refused == 0),
         refused,

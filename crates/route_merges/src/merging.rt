@@ -14,9 +14,8 @@ use crate::steps::made;
 use crate::steps::skips;
 use crate::steps::starts;
 use crate::steps::stores;
-use frame_reading::parts::entries;
-use frame_reading::refusals::update;
 use frame_traffic::update::UpdateHeader;
+use frame_traffic::update::entries;
 use moments::in_order;
 use octets::answers::Refusal;
 use octets::answers::refuse_if;
@@ -91,7 +90,7 @@ pub(crate) fn why_unmerged(own: u16, last: u32, frame: &[u8], quality: u8, time:
     ensures { λ r. ⌜ r ≡ first (unmergedReasons own last (now (frame .entry)) quality time) ⌝ }
 {
     let origin = UpdateHeader::of(frame).origin;
-    let unread = update(frame);
+    let unread = UpdateHeader::refusal(frame);
     let refused = refuse_if(quality < Row::LEAST_QUALITY, Refusal::QUALITY, 0);
     let refused = refuse_if(!in_order(last, time), Refusal::EARLIER, refused);
     let refused = refuse_if(origin == own, Refusal::OWN, refused);

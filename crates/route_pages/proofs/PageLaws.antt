@@ -17,7 +17,7 @@ use Rattle.octets.specs.declared.answers.Written.{Written}
 use Rattle.octets.specs.Told.{wrote}
 use Rattle.octets.proofs.AnswerLaws.{none-holds}
 use Rattle.frame_traffic.specs.Traffic.{update}
-use Rattle.frame_kinds.proofs.StoredLaws.{frame-length, frame-put}
+use Rattle.frame_kinds.proofs.StoredLaws.{frame-length, frame-put, sealed-stored}
 use Rattle.route_table.specs.declared.row.Row.{Row}
 use Rattle.route_table.specs.declared.table.Table.{Table}
 use Rattle.route_table.specs.Rows.{standing}

@@ -11,9 +11,8 @@ ghost use Rattle.octets.specs.Parts.{lent};
 ghost use Rattle.frame_kinds.specs.Shape.{frameOf};
 ghost use Rattle.frame_traffic.specs.Traffic.{dataKind, dataValues};
 ghost use Rattle.route_relays.specs.Relays.{passedOn, unrelayedReasons, relayOf, relayBy, relayIn, handedBack, unwritten, relayed};
-use frame_reading::parts::payload;
-use frame_reading::refusals;
 use frame_traffic::data_frame::DataHeader;
+use frame_traffic::data_frame::payload;
 use moments::in_order;
 use octets::answers::Refusal;
 use octets::answers::refuse_if;
@@ -63,7 +62,7 @@ fn refusal(own: u16, last: u32, found: Found, frame: &[u8], time: u32, room: usi
     ensures { λ r. ⌜ r ≡ first (unrelayedReasons own last found (now (frame .entry)) time room) ⌝ }
 {
     let header = DataHeader::of(frame);
-    let unread = refusals::data_frame(frame);
+    let unread = DataHeader::refusal(frame);
     let other = !(header.destination == own);
     let size = payload(frame).len() + 10;
     let refused = refuse_if(other & (room < size), Refusal::ROOM, 0);

@@ -4,7 +4,6 @@ ghost use Rattle.octets.specs.Answers.{first};
 ghost use Rattle.unit_clock.specs.Clock.{corrected, stepped, heardReasons, beaconStepOf};
 use crate::drifts::correction;
 use frame_beacons::beacon::Beacon;
-use frame_reading::refusals::beacon;
 use moments::age;
 use octets::answers::Refusal;
 use octets::answers::refuse_if;
@@ -53,7 +52,7 @@ fn unless(refused: u8, offset: u32, next: u32) -> Stepped
 pub fn step_by_beacon(offset: u32, local: u32, network: u16, frame: &[u8]) -> Stepped
     ensures { λ r. ⌜ r ≡ beaconStepOf offset local network (now (frame .entry)) ⌝ }
 {
-    let unread = beacon(frame);
+    let unread = Beacon::refusal(frame);
     let heard = Beacon::of(frame);
     let refused = refusal(unread, heard.network, network);
     let next = step(offset, local, heard.original_time, heard.delay);

@@ -20,7 +20,7 @@ returns c =
       first .refuse-if .ensures,
       c .before .within-rule .ensures,
       third .before .in-order .ensures,
-      request .before .slot-request .ensures,
+      request .before .refusal .ensures,
       ap slotRequestFrom (request .of .ensures),
       request .before .before .before .pre .0,
       request .before .before .before .pre .1,

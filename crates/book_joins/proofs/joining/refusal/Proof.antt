@@ -21,7 +21,7 @@ returns c =
       second .before .refuse-if .ensures,
       c .before .within-rule .ensures,
       fourth .before .before .in-order .ensures,
-      request .before .join-request .ensures,
+      request .before .refusal .ensures,
       ap joinRequestFrom (request .of .ensures),
       request .before .before .before .pre .0,
       request .before .before .before .pre .1,

@@ -17,7 +17,7 @@ use Rattle.frame_entries.proofs.walking.entry_at.Tie as tie
 returns : tie.Need-returns
 returns c =
     let a = c .before .before .before .args in
-    step-refused (now (a .frame)) (a .position) _ (c .before .update .ensures) (c .if1 .taken)
+    step-refused (now (a .frame)) (a .position) _ (c .before .refusal .ensures) (c .if1 .taken)
 
 -- the count that the header has is the update's
 counted : (c : tie.After-of) → c .of .result .count ≡ countIn (now (c .before .before .before .before .args .frame))
@@ -27,14 +27,14 @@ returns-2 : tie.Need-returns-2
 returns-2 c =
     let u = c .before .before .before in
     let a = u .before .before .args in
-    step-end (now (a .frame)) (a .position) (sym (u .update .ensures) ∙ c .before .before .if1 .left) (omega (arith, counted (c .before), c .if2 .taken))
+    step-end (now (a .frame)) (a .position) (sym (u .refusal .ensures) ∙ c .before .before .if1 .left) (omega (arith, counted (c .before), c .if2 .taken))
 
 returns-3 : tie.Need-returns-3
 returns-3 c =
     let o = c .before .before .before in
     let u = o .before .before in
     let a = u .before .before .args in
-    step-one (now (a .frame)) (a .position) (sym (u .update .ensures) ∙ o .before .if1 .left) (omega (arith, counted o, c .before .before .if2 .left)) _ (c .of2 .ensures ∙ ap (λ (part : Lent). entryAt (part .bytes) (a .position)) (c .before .entries .ensures))
+    step-one (now (a .frame)) (a .position) (sym (u .refusal .ensures) ∙ o .before .if1 .left) (omega (arith, counted o, c .before .before .if2 .left)) _ (c .of2 .ensures ∙ ap (λ (part : Lent). entryAt (part .bytes) (a .position)) (c .before .entries .ensures))
 
 pub entry-at-spec : {M : Type 1} → statement M
 entry-at-spec =

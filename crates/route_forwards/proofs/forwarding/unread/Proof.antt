@@ -6,7 +6,7 @@ use Rattle.route_forwards.proofs.forwarding.unread.Statement.{statement
 use Rattle.route_forwards.proofs.forwarding.unread.Tie as tie
 
 returns : tie.Need-returns
-returns c = c .refuse-if2 .ensures ∙ rw (c .before .refuse-if .ensures, c .before .before .beacon .ensures)
+returns c = c .refuse-if2 .ensures ∙ rw (c .before .refuse-if .ensures, c .before .before .refusal .ensures)
 
 pub unread-spec : {M : Type 1} → statement M
 unread-spec = tie.close (tie.spec (λ c κs. search needs) (λ c κs. search needs) (λ c κs. search needs) returns)

@@ -19,7 +19,7 @@ returns c =
       third .refuse-if3 .ensures,
       second .refuse-if2 .ensures,
       first .refuse-if .ensures,
-      first .before .update .ensures,
+      first .before .refusal .ensures,
       second .before .in-order .ensures,
       ap (λ (h : UpdateHeader). h .origin) (header-in (of .of .result) (a .frame .now) (of .of .ensures)),
     )

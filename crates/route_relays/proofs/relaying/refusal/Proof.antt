@@ -28,7 +28,7 @@ returns c =
       second .refuse-if2 .ensures,
       first .refuse-if .ensures,
       fourth .before .in-order .ensures,
-      unread .data-frame .ensures,
+      unread .refusal .ensures,
       ap (λ (l : Lent). length (l .bytes) + 10) (size .payload .ensures) ∙ copy-length (a .frame .now),
       header-in (header .of .result) (a .frame .now) (header .of .ensures),
     )

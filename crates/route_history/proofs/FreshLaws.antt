@@ -1,6 +1,6 @@
 -- Freshness: a row that is not withdrawn is at least as old as the last accepted update from its next hop.
 -- Assumes nothing.
-use mathlib.Core.Path.{_≡_, refl, sym, ap, _∙_}
+use mathlib.Core.Path.{_≡_, refl, sym, ap, subst, _∙_}
 use mathlib.Core.Bool.{Bool, true, false, not, _||_, cond, and-eq-true-iff, false≢true}
 use mathlib.Core.List.{List, [], _∷_}
 use mathlib.Core.Logic.{⊎-elim}
@@ -105,6 +105,6 @@ module _ (t : Table) (k : Clock) (times : Times) (a : Accounts t k times) (d tim
       let (live, young) = and-eq-true-iff (not (row .withdrawn)) (leb (ageAt time (row .time)) 300000) .0 (f .carries) in
       let past = ruled (t .own) (t .time) row (known (rowRule (t .own) (t .time)) (within t (f .within) .rules)) .past in
       let b = known (borne (k .elapsed) (t .time) times) (a .rows) in
-      rw (a .shown)
+      subst (λ (last : ℕ). Heard (times (row .«next_hop»)) (k .elapsed + ageAt time last)) (sym (a .shown))
       (by-last (times (row .«next_hop»)) refl (leb-true _ _ young) (ages-add (row .time) (t .time) time past (f .timely))
       (rw (not-true (row .withdrawn) live) at b) (a .past (row .«next_hop»)))

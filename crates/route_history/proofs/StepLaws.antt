@@ -1,6 +1,6 @@
 -- One call after the other: what holds of a table and of when units were heard stays so.
 -- Assumes nothing.
-use mathlib.Core.Path.{_≡_, refl, ap, _∙_}
+use mathlib.Core.Path.{_≡_, refl, sym, ap, subst, _∙_}
 use mathlib.Core.Bool.{Bool, true, false, _&&_, cond}
 use mathlib.Core.List.{List, [], _∷_, map}
 use Prim.Native.Nat.{ℕ, _+_}
@@ -57,7 +57,7 @@ module _ (t : Table) (k : Clock) (times : Times) (g : Good t k times) where
   -- the rows at the time of an accepted call
   aged : (time : ℕ) → inOrder (t .time) time ≡ true → every (borne (nowAt k time) time times) rs ≡ true
   aged time o =
-      rw (g .accounts .shown)
+      subst (λ (last : ℕ). every (borne (k .elapsed + ageAt time last) time times) rs ≡ true) (sym (g .accounts .shown))
       (every-both (rowRule (t .own) (t .time)) (borne (k .elapsed) (t .time) times) (borne (k .elapsed + ageAt time (t .time)) time times)
       (λ r a b. borne-later (k .elapsed) (t .time) time times r o (ruled (t .own) (t .time) r a .past) b) rs (within t (g .rule) .rules) (g .accounts .rows))
 

@@ -1,7 +1,7 @@
 -- The theorems on tables: freshness, the rule, gone rows.
 -- Assumes nothing.
-use mathlib.Core.Path.{_≡_, sym, subst, _∙_}
-use mathlib.Core.Bool.{true, false≢true}
+use mathlib.Core.Path.{_≡_, sym, ap, subst, _∙_}
+use mathlib.Core.Bool.{true, false, false≢true}
 use mathlib.Core.List.{List, [], _∷_}
 use Prim.Native.Nat.{ℕ}
 use native.Mathlib.Omega.{arith}
@@ -24,7 +24,7 @@ use Rattle.route_relays.proofs.AlikeLaws.{relay-alike}
 use Rattle.route_relays.proofs.RelayLaws.{unrefused, onward, onto, relay-number, relay-ours}
 use Rattle.route_forwards.proofs.AlikeLaws.{forward-refused, forward-written, forward-held, forward-table}
 use Rattle.route_forwards.proofs.ForwardLaws.{forward-within}
-use Rattle.route_history.specs.TableCalls.{Call, merge, forget, forward, lookup, relay, page, answer, next}
+use Rattle.route_history.specs.TableCalls.{Call, merge, forget, forward, lookup, relay, page, Answer, answer, next}
 use Rattle.route_history.specs.TableLaws.{Times, Heard, AnswersHeard, FromFresh, Freshness, Accounts, FreshnessFrom, KeepsRule, StaysWithinRule, GoneRowsDoNotMatter}
 use Rattle.route_history.proofs.FreshLaws.{heard}
 use Rattle.route_history.proofs.StepLaws.{good-after, good-fresh}
@@ -72,15 +72,20 @@ keeps-rule = (fresh-within, every-call)
     every-call t (page p time out) e = paged t p time out e
 
 -- ---- gone rows
+-- the answer to a call that is not about a next hop
+abbrev plain : ℕ → ℕ → ℕ → List ℕ → Answer
+plain refused skipped size held = record { refused = refused; ours = false; nextHop = 0; hops = 0; skipped = skipped; size = size; held = held }
+
 pub gone-rows-do-not-matter : GoneRowsDoNotMatter
 gone-rows-do-not-matter t (merge s quality time) e =
     let (refusal, skipped) = dropped-merge t s quality time e in
-    (rw (refusal, skipped), λ z c. dropped-merges t s quality time e z)
-gone-rows-do-not-matter t (forget unit time) e = (rw (dropped-forget time t e unit), λ z c. dropped-forgets time t e unit z)
-gone-rows-do-not-matter t (forward network s delay time out) e = (
-  rw (forward-refused time t e network s delay out, forward-written time t e network s delay out, forward-held time t e network s delay out),
-  λ z c. forward-table time t e network s delay out z,
-)
+    (λ i. plain (refusal i) (skipped i) 0 [], λ z c. dropped-merges t s quality time e z)
+gone-rows-do-not-matter t (forget unit time) e = (ap (λ (n : ℕ). plain n 0 0 []) (dropped-forget time t e unit), λ z c. dropped-forgets time t e unit z)
+gone-rows-do-not-matter t (forward network s delay time out) e =
+    let refusal = forward-refused time t e network s delay out in
+    let written = forward-written time t e network s delay out in
+    let held = forward-held time t e network s delay out in
+    (λ i. plain (refusal i) 0 (written i) (held i), λ z c. forward-table time t e network s delay out z)
 gone-rows-do-not-matter t (lookup d time) e = (rw (dropped-lookup time t e d), λ z c. absurd (false≢true c))
 gone-rows-do-not-matter t (relay s time out) e = (rw (relay-alike time t e s out), λ z c. absurd (false≢true c))
 gone-rows-do-not-matter t (page p time out) e = (rw (page-alike time t e p out), λ z c. absurd (false≢true c))

@@ -13,6 +13,7 @@ use Rattle.octets.specs.Layouts.{Bytes}
 use Rattle.moments.specs.Moments.{inOrder}
 use Rattle.frame_kinds.specs.Reading.{refusalAs}
 use Rattle.frame_kinds.specs.Shape.{partIn}
+use Rattle.frame_requests.specs.Requests.{joinResponseFrom}
 use Rattle.frame_traffic.specs.declared.data_frame.DataHeader.{DataHeader}
 use Rattle.frame_traffic.specs.Traffic.{dataKind, dataValues, update, entriesOf, entryValues}
 use Rattle.frame_beacons.specs.declared.beacon.Beacon.{Beacon}
@@ -61,9 +62,9 @@ ResponsesRead =
     (joined .refused ≡ 0 → Responded (joinIn s .node) time (joined .book) (joined .written) (joined .held))
     × (asked .refused ≡ 0 → Responded (askIn s .node) time (asked .book) (asked .written) (asked .held))
 
--- the slot that a response says, behind type, unit and status
+-- the slot that a response says, whose fields stand behind its type
 abbrev pub slotSaid : Said → ℕ
-slotSaid said = getD (said .values) 3 0
+slotSaid said = joinResponseFrom (drop 1 (said .values)) .slot
 
 -- the slots that so many response frames in a buffer tell, as the reader of frames reads each
 abbrev pub slotsRead : ℕ → List ℕ → List ℕ

@@ -5,7 +5,7 @@ use Prim.Native.Nat.{ℕ}
 use mathlib.Core.Bool.{Bool, true, false, _&&_, cond}
 use mathlib.Core.List.{List, [], _∷_, map}
 use lib.Dec.{eqb}
-use lib.ListN.{getD}
+use Rattle.octets.specs.Told.{writtenIn}
 use Rattle.moments.specs.Elapsed.{Clock, nowAt, Step, moved, clockAfter}
 use Rattle.route_table.specs.declared.table.Table.{Table}
 use Rattle.route_table.specs.Tables.{lookupOf, forgetOf}
@@ -90,7 +90,7 @@ outcome t (relay s time out) =
 outcome t (page p time out) =
     let w = pageOf t p time out in
     record {
-      answer = record { refused = w .said .refusal; ours = false; nextHop = 0; hops = 0; skipped = 0; size = getD (w .said .values) 0 0; held = w .held };
+      answer = record { refused = w .said .refusal; ours = false; nextHop = 0; hops = 0; skipped = 0; size = writtenIn w; held = w .held };
       table = t;
     }
 

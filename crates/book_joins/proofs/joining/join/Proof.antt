@@ -34,7 +34,7 @@ cast-settle c =
 -- what is known before it is judged
 known : (bytes : tie.After-bytes-for) → let own = bytes .before in let census = own .before .before .before .before in let request = census .before .before .before .before in
     let a = request .before .before .before .args in
-    Joining (a .book) (a .time) (now (a .frame)) (request .of .result .node) (own .before .before .either .result) (slotsOf (own .seated .result))
+    Joining (a .book) (a .time) (now (a .frame)) (request .of .result .node) (own .before .before .either-size .result) (slotsOf (own .seated .result))
     (not (ltb (census .counted .result .own) (own .before .before .before .in-use .result)) && eqb (census .counted .result .vacant) 0) (bytes .bytes-for .result)
 known bytes =
     let own = bytes .before in

@@ -7,6 +7,15 @@ use borrow.Author.Needs.{needs}
 use Rattle.frame_requests.proofs.JoinResponse.put.Statement.{statement}
 use Rattle.frame_requests.proofs.JoinResponse.put.Tie as tie
 
+returns : tie.Need-returns
+returns c =
+    let network = c .before .before in
+    let time = network .before .before .before .before in
+    let slot = time .before .before .before .before in
+    let status = slot .before .before .before .before in
+    let node = status .before .before .before .before in
+    let code = node .before .before .before .before in
+    all-laid _ 0 (1 ∷ joinResponse .widths) (joinResponse .code ∷ joinResponseValues _) _ (rw (network .put163 .ensures, time .put32 .ensures, slot .put162 .ensures, status .put82 .ensures, node .put16 .ensures, code .put8 .ensures))
+
 pub put-spec : {M : Type 1} → statement M
-put-spec =
-    tie.close (tie.spec (λ c κs. search needs) (λ c κs. search needs) (λ c κs. search needs) (λ c κs. search needs) (λ c κs. search needs) (λ c κs. search needs) (λ c. search needs) (λ c. all-laid _ 0 (1 ∷ joinResponse .widths) (joinResponse .code ∷ joinResponseValues _) _ cc))
+put-spec = tie.close (tie.spec (λ c κs. search needs) (λ c κs. search needs) (λ c κs. search needs) (λ c κs. search needs) (λ c κs. search needs) (λ c κs. search needs) (λ c. search needs) returns)

@@ -64,7 +64,7 @@ module _ (brings : ℕ → Bool) (at time : ℕ) (times : Times) where
   before-on unit e = go (brings unit)
     where
       go : (b : Bool) → before at (cond b (at ∷ times unit) (times unit)) ≡ true
-      go true = le-leb at at (omega arith)
+      go true = rw (le-leb at at (omega arith)) e
       go false = e
 
 -- a row that is withdrawn needs no bearer
@@ -77,7 +77,9 @@ borne-forgotten now times unit time r b = by-forgotten (λ x. borne now time tim
 -- ---- what was heard is past
 pub before-later : (now later : ℕ) → now ≤ later → (heard : List ℕ) → before now heard ≡ true → before later heard ≡ true
 before-later now later o [] e = refl
-before-later now later o (last ∷ earlier) e = le-leb last later (omega (arith, leb-true last now e))
+before-later now later o (last ∷ earlier) e =
+    let (here, rest) = and-eq-true-iff (leb last now) (before now earlier) .0 e in
+    rw (le-leb last later (omega (arith, leb-true last now here))) (before-later now later o earlier rest)
 
 -- ---- a lookup's next hop was heard
 module _ (t : Table) (k : Clock) (times : Times) (a : Accounts t k times) (d time : ℕ) (z : lookupOf t d time .refused ≡ 0) where
@@ -96,7 +98,7 @@ module _ (t : Table) (k : Clock) (times : Times) (a : Accounts t k times) (d tim
       → since (k .elapsed) (ageAt (t .time) (row .time)) ts ≡ true → before (k .elapsed) ts ≡ true → Heard (times (row .«next_hop»)) (k .elapsed + ageAt time (t .time))
   by-last [] q young adds b e = absurd (false≢true b)
   by-last (last ∷ earlier) q young adds b e =
-      let l = leb-true last (k .elapsed) e in
+      let l = leb-true last (k .elapsed) (and-eq-true-iff (leb last (k .elapsed)) (before (k .elapsed) earlier) .0 e .0) in
       let m = leb-true (k .elapsed) (last + ageAt (t .time) (row .time)) b in
       record { last = last; earlier = earlier; were = q; past = omega arith; recent = omega arith }
 

@@ -1,7 +1,7 @@
 -- What holds of every table that comes from a fresh one or a stored one, as statements.
 -- Assumes nothing.
 use mathlib.Core.Path.{_≡_}
-use mathlib.Core.Bool.{Bool, true, false, not, _||_}
+use mathlib.Core.Bool.{Bool, true, false, not, _&&_, _||_}
 use mathlib.Core.List.{List, [], _∷_, map}
 use Prim.Native.Nat.{ℕ, _+_, _%_, _^_, _≤_}
 use lib.Dec.{leb}
@@ -59,10 +59,10 @@ since now age (last ∷ earlier) = leb now (last + age)
 abbrev pub borne : ℕ → ℕ → Times → Row → Bool
 borne now time times r = r .withdrawn || since now (ageAt time (r .time)) (times (r .«next_hop»))
 
--- the first of some elapsed times is no later than now
+-- some elapsed times are no later than now
 abbrev pub before : ℕ → List ℕ → Bool
 before now [] = true
-before now (last ∷ earlier) = leb last now
+before now (last ∷ earlier) = leb last now && before now earlier
 
 -- a clock, and when units were heard, account for a table: the clock shows the table's last accepted time, and by then every row is borne and nobody was
 -- heard later

@@ -1,26 +1,22 @@
 // Relaying a data frame.
 ghost use mathlib.Core.Path.{_≡_};
 ghost use mathlib.Core.Bool.{cond};
-ghost use mathlib.Core.List.{[], _∷_};
 ghost use lib.ListN.{length};
 ghost use lib.Seq.{sets};
 ghost use Prim.Native.Nat.{_+_, _-_, _≤_};
 ghost use Rattle.octets.specs.Answers.{first};
-ghost use Rattle.octets.specs.Layouts.{bytes};
 ghost use Rattle.octets.specs.Parts.{lent};
 ghost use Rattle.frame_kinds.specs.Shape.{frameOf};
 ghost use Rattle.frame_traffic.specs.Traffic.{dataKind, dataValues};
 ghost use Rattle.route_relays.specs.Relays.{passedOn, unrelayedReasons, relayOf, relayBy, relayIn, handedBack, unwritten, relayed};
+use frame_kinds::sealing::seal;
 use frame_traffic::data_frame::DataHeader;
 use frame_traffic::data_frame::payload;
 use moments::in_order;
 use octets::answers::Refusal;
 use octets::answers::refuse_if;
-use octets::fixed::put8;
-use octets::fixed::put16;
 use octets::parts::part;
 use octets::parts::put_bytes;
-use octets::sums::xor_of;
 use route_bytes::tables::head_of;
 use route_in_place::finding;
 use route_in_place::judging::holds_table;
@@ -91,28 +87,14 @@ fn unwritten(refused: u8, count: u8) -> Relayed
     }
 }
 
-// Writes the type and the fields.
-fn put_header(out: &mut [u8], header: DataHeader)
-    ensures { λ _. ⌜ now (out .exit) ≡ sets (now (out .entry)) 0 (bytes (1 ∷ dataKind .widths) (dataKind .code ∷ dataValues header)) ⌝ }
-{
-    put8(out, 0, 0x11);
-    put16(out, 1, header.source);
-    put16(out, 3, header.destination);
-    put8(out, 5, header.ttl);
-    put16(out, 6, header.sequence);
-    put8(out, 8, header.count);
-}
-
 // Writes the frame with this header and this payload. The writer of any kind of frame would judge again what was judged when it was read.
 fn put_frame(out: &mut [u8], header: DataHeader, part: &[u8])
     requires { ⌜ 10 + length (now part) ≤ length (now out) ⌝ }
     ensures { λ _. ⌜ now (out .exit) ≡ sets (now (out .entry)) 0 (frameOf dataKind (dataValues header) (now (part .entry))) ⌝ }
 {
-    put_header(out, header);
+    header.put(out);
     put_bytes(out, 9, part);
-    let end = 9 + part.len();
-    let sum = xor_of(out, end);
-    out[end] = sum;
+    seal(out, 9 + part.len());
 }
 
 // Relays by a table within rule, of which this is known. A payload for this unit is told and nothing is written; any other frame is written with its ttl

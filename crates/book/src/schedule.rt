@@ -15,6 +15,7 @@ use book_members::rows::in_use;
 use book_members::rows::row_for;
 use book_members::rows::slots_at;
 use moments::in_order;
+use octets::addresses::is_address;
 use octets::answers::Refusal;
 use octets::answers::Written;
 use octets::answers::refuse_if;
@@ -73,12 +74,11 @@ fn refusal(book: Book, unit: u16, hop: u32, time: u32, live: bool, room: usize) 
     ensures { λ r. ⌜ r ≡ scheduleRefusal (contents book) unit hop time room ⌝ }
 {
     let plan = book.plan;
-    let address = (1 <= unit) & (unit <= 0xFFFE);
     let refused = refuse_if(room < plan.slots() as usize, Refusal::ROOM, 0);
     let refused = refuse_if(!live, Refusal::NO_MEMBER, refused);
     let refused = refuse_if(!hop_within_rule(plan, unit, hop), Refusal::RULE, refused);
     let refused = refuse_if(!in_order(book.time, time), Refusal::EARLIER, refused);
-    let refused = refuse_if(!address, Refusal::FIELD, refused);
+    let refused = refuse_if(!is_address(unit), Refusal::FIELD, refused);
     refuse_if(!book.within_rule(), Refusal::RULE, refused)
 }
 

@@ -16,6 +16,7 @@ use book_members::rows::row_for;
 use book_members::rows::slots_at;
 use book_members::rows::with_row;
 use moments::in_order;
+use octets::addresses::is_address;
 use octets::answers::Refusal;
 use octets::answers::refuse_if;
 
@@ -23,10 +24,9 @@ use octets::answers::refuse_if;
 fn refusal(book: Book, unit: u16, time: u32, found: bool) -> u8
     ensures { λ r. ⌜ r ≡ first (reason (not (withinRule (contents book))) 14 ∷ reason (not (address unit)) 4 ∷ reason (not (inOrder (book .time) time)) 8 ∷ reason (not found) 13 ∷ []) ⌝ }
 {
-    let address = (1 <= unit) & (unit <= 0xFFFE);
     let refused = refuse_if(!found, Refusal::NO_MEMBER, 0);
     let refused = refuse_if(!in_order(book.time, time), Refusal::EARLIER, refused);
-    let refused = refuse_if(!address, Refusal::FIELD, refused);
+    let refused = refuse_if(!is_address(unit), Refusal::FIELD, refused);
     refuse_if(!book.within_rule(), Refusal::RULE, refused)
 }
 

@@ -9,6 +9,7 @@ ghost use Rattle.book_members.specs.Rules.{emptyIs, rowRule, pastTime, d
 use crate::member::Member;
 use crate::rows::in_use;
 use moments::in_order;
+use octets::addresses::is_address;
 use slot_sets::masks::apart;
 use slot_sets::masks::below;
 use slot_sets::masks::is_empty;
@@ -32,7 +33,7 @@ impl Member {
             return self.is_empty();
         }
         let outside = without(self.slots, below(data_slots as u32));
-        ((1 <= self.unit) & (self.unit <= 0xFFFE))
+        is_address(self.unit)
             & one_to_four(self.slots)
             & is_empty(outside)
             & ((self.unit == manager) | in_order(self.time, last))

@@ -5,6 +5,7 @@ ghost use Rattle.route_table.specs.Places.{okRow};
 ghost use Rattle.route_table.specs.Rows.{none, usable, leads, stands, rowRule, isNone, withdrawnAt, lost, forgotten};
 use moments::age;
 use moments::in_order;
+use octets::addresses::is_address;
 
 pub struct Row {
     pub destination: u16,
@@ -84,9 +85,9 @@ impl Row {
     pub fn good(self, own: u16, last: u32) -> bool
         ensures { λ r. ⌜ r ≡ rowRule own last self ⌝ }
     {
-        ((1 <= self.destination) & (self.destination <= 0xFFFE))
+        is_address(self.destination)
             & !(self.destination == own)
-            & (((1 <= self.next_hop) & (self.next_hop <= 0xFFFE)) & !(self.next_hop == own))
+            & (is_address(self.next_hop) & !(self.next_hop == own))
             & ((1 <= self.hops) & (self.hops <= Row::MOST_HOPS))
             & (Row::LEAST_QUALITY <= self.quality)
             & in_order(self.time, last)

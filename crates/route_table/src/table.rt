@@ -10,6 +10,7 @@ use crate::row::Row;
 use crate::row::either;
 use crate::standing::standing_places;
 use moments::in_order;
+use octets::addresses::is_address;
 use octets::answers::Refusal;
 use octets::answers::refuse_if;
 
@@ -65,7 +66,7 @@ pub fn pair_ok(forwarded: bool, origin: u16, sequence: u16) -> bool
     ensures { λ r. ⌜ r ≡ pairOk forwarded origin sequence ⌝ }
 {
     if forwarded {
-        (1 <= origin) & (origin <= 0xFFFE)
+        is_address(origin)
     } else {
         (origin == 0) & (sequence == 0)
     }
@@ -152,20 +153,21 @@ pub fn found_or(refused: u8, row: Row) -> Found
 pub fn found_by(last: u32, row: Row, destination: u16, time: u32) -> Found
     ensures { λ r. ⌜ r ≡ foundBy last row destination time ⌝ }
 {
-    let address = (1 <= destination) & (destination <= 0xFFFE);
     let refused = refuse_if(!row.leads(destination, time), Refusal::NO_ROUTE, 0);
     let refused = refuse_if(!in_order(last, time), Refusal::EARLIER, refused);
-    found_or(refuse_if(!address, Refusal::FIELD, refused), row)
+    found_or(
+        refuse_if(!is_address(destination), Refusal::FIELD, refused),
+        row,
+    )
 }
 
 // Why a table within rule of the unit `own`, with this last accepted time, does not forget a unit; 0 where it does.
 pub fn why_unforgotten(own: u16, last: u32, unit: u16, time: u32) -> u8
     ensures { λ r. ⌜ r ≡ first (unforgottenReasons own last unit time) ⌝ }
 {
-    let address = (1 <= unit) & (unit <= 0xFFFE);
     let refused = refuse_if(!in_order(last, time), Refusal::EARLIER, 0);
     let refused = refuse_if(unit == own, Refusal::OWN, refused);
-    refuse_if(!address, Refusal::FIELD, refused)
+    refuse_if(!is_address(unit), Refusal::FIELD, refused)
 }
 
 impl Table {
@@ -173,9 +175,8 @@ impl Table {
     pub fn fresh(own: u16, time: u32) -> Changed
         ensures { λ r. ⌜ r ≡ freshOf own time ⌝ }
     {
-        let address = (1 <= own) & (own <= 0xFFFE);
         settled(
-            refuse_if(!address, Refusal::FIELD, 0),
+            refuse_if(!is_address(own), Refusal::FIELD, 0),
             zeros(0, 0),
             zeros(own, time),
         )
@@ -198,7 +199,7 @@ impl Table {
         ensures { λ r. ⌜ r ≡ withinRule self ⌝ }
     {
         let rows = self.rows;
-        ((1 <= self.own) & (self.own <= 0xFFFE))
+        is_address(self.own)
             & pair_ok(self.forwarded, self.origin, self.sequence)
             & places_ok(self.own, self.time, rows)
     }

@@ -3,6 +3,7 @@ ghost use mathlib.Core.Path.{_≡_};
 ghost use mathlib.Core.Bool.{_&&_};
 ghost use lib.Dec.{leb};
 ghost use Rattle.site_plan.specs.Plans.{planRule, planOf, toldPlan};
+use octets::addresses::is_address;
 use octets::answers::Refusal;
 
 pub struct Plan {
@@ -61,7 +62,7 @@ impl Plan {
         ensures { λ r. ⌜ r ≡ planRule self ⌝ }
     {
         (1 <= self.network)
-            & ((1 <= self.manager) & (self.manager <= 0xFFFE))
+            & is_address(self.manager)
             & ((1 <= self.max_hops) & (self.max_hops <= Plan::MOST_HOPS))
             & (Plan::FEWEST_ROWS <= self.rows)
             & (self.rows <= self.data_slots)

@@ -18,13 +18,14 @@ returns-2 c =
 returns-3 : tie.Need-returns-3
 returns-3 c =
     let flag = c .before in
-    let pair = flag .before .before .before in
+    let pair = flag .before .before in
     let test = pair .before in
     let rows = test .before in
     let head = rows .before in
     let s = head .before .before .before .args .s .now in
-    all-judged s (head .before .if1 .left) (head .head-of .result) (head .head-of .ensures) (rows .rows-used .result) (rows .rows-used .ensures .1) (test .if2 .left) _ _ _ (flag .number8 .ensures) (pair .pair-ok .ensures) (c .zeros-from .ensures)
+    rw (flag .before .is-address .ensures)
+    (all-judged s (head .before .if1 .left) (head .head-of .result) (head .head-of .ensures) (rows .rows-used .result) (rows .rows-used .ensures .1) (test .if2 .left) _ _ _ (flag .number8 .ensures) (pair .pair-ok .ensures) (c .zeros-from .ensures))
 
 pub holds-table-spec : {M : Type 1} → statement M
 holds-table-spec =
-    tie.close (tie.spec returns (λ c κs. search needs) (λ c κs. search needs) returns-2 (λ c κs. search needs) (λ c κs. search needs) (λ c. search needs) (λ c. search needs) (λ c. search needs) (λ c κs. search needs) returns-3)
+    tie.close (tie.spec returns (λ c κs. search needs) (λ c κs. search needs) returns-2 (λ c κs. search needs) (λ c κs. search needs) (λ c κs. search needs) (λ c. search needs) (λ c. search needs) (λ c. search needs) (λ c κs. search needs) returns-3)

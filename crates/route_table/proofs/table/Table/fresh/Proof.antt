@@ -8,8 +8,8 @@ use Rattle.route_table.proofs.table.Table.fresh.Tie as tie
 
 returns : tie.Need-returns
 unfolding freshOf
-returns c = c .settled .ensures ∙ rw (c .before .before .before .refuse-if .ensures, c .before .before .zeros .ensures, c .before .zeros2 .ensures)
+returns c = c .settled .ensures ∙ rw (c .before .before .before .refuse-if .ensures, c .before .before .before .before .is-address .ensures, c .before .before .zeros .ensures, c .before .zeros2 .ensures)
 
 pub fresh-spec : {M : Type 1} → statement M
 fresh-spec =
-    tie.close (tie.spec (λ c κs. search needs) (λ c κs. search needs) (λ c κs. search needs) (λ c κs. search needs) returns)
+    tie.close (tie.spec (λ c κs. search needs) (λ c κs. search needs) (λ c κs. search needs) (λ c κs. search needs) (λ c κs. search needs) returns)

@@ -6,6 +6,7 @@ use mathlib.Core.Bool.{Bool, true, _&&_, cond}
 use mathlib.Core.List.{List, [], _∷_, _++_}
 use lib.Dec.{eqb}
 use lib.ListN.{take, drop}
+use Rattle.octets.specs.Lists.{all}
 use Rattle.octets.specs.Layouts.{total, fields, bytes}
 use Rattle.octets.specs.Parts.{Lent, partOf}
 use Rattle.octets.specs.Sums.{xors}
@@ -38,15 +39,6 @@ abbrev pub tested : List Field → List ℕ → List Bool → List Bool
 tested [] vs more = more
 tested (f ∷ fs) [] more = more
 tested (f ∷ fs) (v ∷ vs) more = askedOf (f .tests) v (tested fs vs more)
-
--- all of them hold, judged from the first to the last
-abbrev pub allFrom : Bool → List Bool → Bool
-allFrom b [] = b
-allFrom b (c ∷ cs) = allFrom (b && c) cs
-
-abbrev pub all : List Bool → Bool
-all [] = true
-all (b ∷ bs) = allFrom b bs
 
 -- a kind by its fields, how many bytes follow them, and what is asked beside the fields' own tests
 abbrev pub followed : ℕ → List Field → (List ℕ → ℕ) → (List ℕ → List ℕ → List Bool) → Kind

@@ -1,4 +1,4 @@
-// Requests: the five kinds that a unit and the manager send each other. Of each: its record, the record of a frame's bytes, whether it keeps its rules, and
+// The five kinds that a unit and the manager send each other. Of each: its record, the record of a frame's bytes, whether it keeps its rules, and
 // its numbers, the type first; and what refuses its bytes, where a call wants the kind alone.
 ghost use mathlib.Core.Path.{_≡_};
 ghost use mathlib.Core.List.{[], _∷_};

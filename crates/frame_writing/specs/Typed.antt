@@ -1,4 +1,4 @@
--- Writing the numbers of a frame by its type, its type first: what the writer of any kind sees of it.
+-- Needs no belief, laws carry it to the writing of a kind: what the writer of any kind sees of a frame's numbers, its type first.
 -- Assumes nothing.
 use Prim.Native.Nat.{ℕ, _+_}
 use mathlib.Core.Bool.{Bool}

@@ -1,5 +1,5 @@
--- What the code sees of a table's bytes while it walks over them, the rows in use from a place on; and of a page, how many rows stand on it. The laws carry
--- it to the table that they hold and to the page.
+-- Needs no belief, laws carry it to the table and to the page: what the code sees of a table's bytes while it walks over them, the rows in use from a place
+-- on; and of a page, how many rows stand on it.
 -- Assumes nothing.
 use Prim.Native.Nat.{ℕ, _+_, _*_}
 use mathlib.Core.Bool.{not, _||_}

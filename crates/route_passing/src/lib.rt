@@ -1,4 +1,4 @@
-// Passing: what a forwarder needs of a beacon, apart from any layout; why a table does not pass it on, and what it records when it does.
+// What a forwarder needs of a beacon, apart from any layout; why a table does not pass it on, and what it records when it does.
 ghost use mathlib.Core.Path.{_≡_};
 ghost use Rattle.octets.specs.Answers.{first};
 ghost use Rattle.route_passing.specs.Passes.{again, passingReasons, passedHead, passOf};

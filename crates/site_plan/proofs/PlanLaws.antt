@@ -12,9 +12,10 @@ use lib.Dec.{leb, ltb}
 use lib.ListN.{getD}
 use Rattle.octets.specs.Lists.{tab}
 use Rattle.octets.proofs.ListLaws.{getD-tab}
+use Rattle.octets.specs.Lists.{all, allFrom}
 use Rattle.octets.specs.Addresses.{address, network}
 use Rattle.site_plan.specs.declared.plan.Plan.{Plan}
-use Rattle.site_plan.specs.Plans.{slots, planRule, discoverySlots, active, slotsIn, superframeMs, planRules, andAll}
+use Rattle.site_plan.specs.Plans.{slots, planRule, discoverySlots, active, slotsIn, superframeMs, planRules}
 use Rattle.site_plan.specs.Laws.{LengthsByTable, RuleBounds}
 
 -- ---- the length of a superframe and its time
@@ -76,7 +77,7 @@ pub record Kept (p : Plan) : Type 0 where
   pub short : superframeMs p ≤ 65535
 
 -- each test of a list that holds, by its place
-all-hold : (so : Bool) (tests : List Bool) → andAll so tests ≡ true → (so ≡ true) × ((i : ℕ) → getD tests i true ≡ true)
+all-hold : (so : Bool) (tests : List Bool) → allFrom so tests ≡ true → (so ≡ true) × ((i : ℕ) → getD tests i true ≡ true)
 all-hold so [] e = (e, λ i. refl)
 all-hold so (test ∷ tests) e =
     let (both, behind) = all-hold (so && test) tests e in
@@ -132,7 +133,7 @@ abbrev fits : Plan → List Bool
 fits p = leb (p .«max_hops») 255 ∷ leb (p .rows) 255 ∷ leb (p .«data_slots») 255 ∷ leb (p .«slot_ms») 65535 ∷ []
 
 abbrev fitting : Plan → Bool
-fitting p = andAll true (fits p)
+fitting p = all (fits p)
 
 pub record Fitting (p : Plan) : Type 0 where
   pub hops : p .«max_hops» ≤ 255

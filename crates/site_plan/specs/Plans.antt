@@ -5,6 +5,7 @@ use mathlib.Core.Bool.{Bool, true, not, _&&_}
 use mathlib.Core.List.{List, [], _∷_}
 use lib.Dec.{leb}
 use Rattle.octets.specs.Answers.{Said, accepted, refused, reason, first, unless}
+use Rattle.octets.specs.Lists.{all}
 use Rattle.octets.specs.Addresses.{address, network}
 use Rattle.site_plan.specs.declared.plan.Plan.{Plan}
 use Rattle.site_plan.specs.declared.plan.Made.{Made}
@@ -69,13 +70,8 @@ planRules p =
     leb (superframeMs p) 65535 ∷
     []
 
--- so it is, and every test of a list holds
-abbrev pub andAll : Bool → List Bool → Bool
-andAll so [] = so
-andAll so (test ∷ tests) = andAll (so && test) tests
-
 abbrev pub planRule : Plan → Bool
-planRule p = andAll true (planRules p)
+planRule p = all (planRules p)
 
 -- ---- making one
 -- the six numbers in the paper's order

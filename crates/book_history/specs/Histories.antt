@@ -37,11 +37,8 @@ pub record Answer : Type 0 where
   pub written : ℕ
   pub held : List ℕ
 
-abbrev pub answers : ℕ → ℕ → List ℕ → Answer
-answers refused written held = record { refused = refused; written = written; held = held }
-
 abbrev pub answer : Contents → Call → Answer
-answer b c = let o = outcome b c in answers (o .refused) (o .written) (o .held)
+answer b c = let o = outcome b c in record { refused = o .refused; written = o .written; held = o .held }
 
 -- a call with its answer, and those of a history in their order
 pub record Happened : Type 0 where

@@ -8,7 +8,7 @@ use Rattle.octets.specs.Layouts.{Bytes}
 use Rattle.book_history.specs.Calls.{Call, join, ask, heard, leave, schedule, image}
 use Rattle.site_plan.specs.PlanBytes.{planAt}
 use Rattle.book_bytes.specs.BookBytes.{bookIn}
-use Rattle.book_history.specs.Histories.{Start, Answer, answers, Happened, recentSince, grantedSince}
+use Rattle.book_history.specs.Histories.{Start, Answer, Happened, recentSince, grantedSince}
 use Rattle.book_history.specs.Histories as histories
 use Rattle.octets.specs.Calls.{WriteLeft}
 use Rattle.octets.specs.Lists.{Each}
@@ -74,7 +74,7 @@ leaves s c filled = returned s c filled .book
 
 -- what the caller sees
 abbrev pub answerInC : List ℕ → Call → ℕ → Answer
-answerInC s c filled = let r = returned s c filled in answers (r .status) (r .written) (r .out)
+answerInC s c filled = let r = returned s c filled in record { refused = r .status; written = r .written; held = r .out }
 
 -- ---- calls one after the other
 abbrev pub bufferAfter : List ℕ → List InC → List ℕ

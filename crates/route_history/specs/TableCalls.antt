@@ -68,18 +68,20 @@ pub record Outcome : Type 0 where
   pub answer : Answer
   pub table : Table
 
+-- of a call that gives a number, and may fill a buffer
+abbrev gives : ℕ → ℕ → List ℕ → Table → Outcome
+gives refused size held table =
+    record { answer = record { refused = refused; ours = false; nextHop = 0; hops = 0; skipped = 0; size = size; held = held }; table = table }
+
 -- merge, forget and forward hand a table back, also where they are refused; the others only read
 abbrev pub outcome : Table → Call → Outcome
 outcome t (merge s quality time) =
     let m = mergeOf t s quality time in
     record { answer = record { refused = m .refused; ours = false; nextHop = 0; hops = 0; skipped = m .skipped; size = 0; held = [] }; table = m .table }
-outcome t (forget unit time) =
-    let f = forgetOf t unit time in
-    record { answer = record { refused = f .refused; ours = false; nextHop = 0; hops = 0; skipped = 0; size = 0; held = [] }; table = f .table }
+outcome t (forget unit time) = let f = forgetOf t unit time in gives (f .refused) 0 [] (f .table)
 outcome t (forward network s delay time out) =
     let f = forwardOf t network s delay time out in
-    let a = f .answer in
-    record { answer = record { refused = a .refused; ours = false; nextHop = 0; hops = 0; skipped = 0; size = a .written; held = f .held }; table = a .table }
+    gives (f .answer .refused) (f .answer .written) (f .held) (f .answer .table)
 outcome t (lookup d time) =
     let f = lookupOf t d time in
     record { answer = record { refused = f .refused; ours = false; nextHop = f .«next_hop»; hops = f .hops; skipped = 0; size = 0; held = [] }; table = t }
@@ -87,12 +89,7 @@ outcome t (relay s time out) =
     let r = relayOf t s time out in
     let a = r .answer in
     record { answer = record { refused = a .refused; ours = a .ours; nextHop = a .«next_hop»; hops = 0; skipped = 0; size = a .size; held = r .held }; table = t }
-outcome t (page p time out) =
-    let w = pageOf t p time out in
-    record {
-      answer = record { refused = w .said .refusal; ours = false; nextHop = 0; hops = 0; skipped = 0; size = writtenIn w; held = w .held };
-      table = t;
-    }
+outcome t (page p time out) = let w = pageOf t p time out in gives (w .said .refusal) (writtenIn w) (w .held) t
 
 abbrev pub answer : Table → Call → Answer
 answer t c = outcome t c .answer

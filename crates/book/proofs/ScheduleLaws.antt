@@ -1,16 +1,6 @@
 -- A schedule in a buffer.
 -- Assumes nothing.
-use mathlib.Core.Path.{_≡_, refl, sym, ap, ap₂, _∙_}
-use mathlib.Core.Bool.{Bool, true, false, _&&_, cond, and-eq-true-iff}
-use mathlib.Core.List.{List, _∷_, _++_}
-use Prim.Native.Nat.{ℕ, zero, suc, _+_, _-_, _≤_, _<_, min}
-use native.Mathlib.Omega.{arith}
-use native.Mathlib.Nat.{zero-add, suc-add}
-use native.Mathlib.Numerals.{add-one}
-use borrow.Author.Tests.{ne-eqb, eqb-true, leb-true, ltb-false, not-false}
-use lib.Dec.{eqb, leb}
-use lib.ListN.{length, getD, drop, set, replicate}
-use lib.Seq.{sets, sets-eq}
+use Rattle.octets.proofs.Words.{_≡_, refl, sym, ap, ap₂, _∙_, Bool, true, false, _&&_, cond, and-eq-true-iff, List, _∷_, _++_, ℕ, zero, suc, _+_, _-_, _≤_, _<_, min, zero-add, suc-add, add-one, arith, ne-eqb, eqb-true, leb-true, ltb-false, not-false, eqb, leb, length, getD, drop, set, replicate, sets, sets-eq}
 use Rattle.octets.specs.Lists.{tab}
 use Rattle.octets.specs.declared.answers.Written.{Written}
 use Rattle.octets.specs.Told.{wrote}

@@ -1,15 +1,6 @@
 -- The calls on a member, from what the rows say.
 -- Assumes nothing.
-use mathlib.Core.Path.{_≡_, refl, sym, ap, _∙_}
-use mathlib.Core.Bool.{Bool, true, not, _&&_}
-use mathlib.Core.List.{List, [], _∷_, map}
-use Prim.Native.Nat.{ℕ, zero, suc, min, _<_}
-use native.Mathlib.Decide.{ℕ-discrete}
-use native.Mathlib.Omega.{arith}
-use borrow.Author.Tests.{ne-eqb, ltb-true, not-false}
-use lib.Dec.{eqb, ltb}
-use lib.ListN.{length, getD, take, set}
-use lib.Seq.{getD-take}
+use Rattle.octets.proofs.Words.{_≡_, refl, sym, ap, _∙_, Bool, true, not, _&&_, List, [], _∷_, map, ℕ, zero, suc, min, _<_, ℕ-discrete, arith, ne-eqb, ltb-true, not-false, eqb, ltb, length, getD, take, set, getD-take}
 use Rattle.octets.specs.Answers.{first, Reason, reason}
 use Rattle.octets.proofs.AnswerLaws.{none-holds}
 use Rattle.octets.specs.Addresses.{address}

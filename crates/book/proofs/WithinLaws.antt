@@ -1,11 +1,6 @@
 -- A book within rule, in its parts.
 -- Assumes nothing.
-use mathlib.Core.Path.{_≡_}
-use mathlib.Core.Bool.{Bool, true, _&&_, and-eq-true-iff}
-use mathlib.Core.List.{List}
-use Prim.Native.Nat.{ℕ, _≤_}
-use native.Mathlib.Omega.{arith}
-use lib.ListN.{drop}
+use Rattle.octets.proofs.Words.{_≡_, Bool, true, _&&_, and-eq-true-iff, List, ℕ, _≤_, arith, drop}
 use Rattle.octets.specs.Lists.{every}
 use Rattle.site_plan.specs.Plans.{planRule}
 use Rattle.site_plan.proofs.PlanLaws.{rule-bounds}

@@ -12,7 +12,7 @@ ghost use Rattle.book.specs.Schedules.{hopRule, scheduleRefusal, schedul
 use crate::book::Book;
 use book_members::rows::current;
 use book_members::rows::in_use;
-use book_members::rows::row_for;
+use book_members::rows::place_for;
 use book_members::rows::slots_at;
 use moments::in_order;
 use octets::addresses::is_address;
@@ -90,7 +90,7 @@ impl Book {
         let plan = self.plan;
         let rows = self.rows;
         let now = current(rows, time);
-        let at = row_for(now, plan.rows, unit);
+        let at = place_for(now, plan.rows, unit);
         let live = at < in_use(plan.rows);
         let refused = refusal(self, unit, hop, time, live, out.len());
         if refused != 0 {

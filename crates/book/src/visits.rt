@@ -12,7 +12,7 @@ use crate::book::settled;
 use book_members::member::Member;
 use book_members::rows::current;
 use book_members::rows::in_use;
-use book_members::rows::row_for;
+use book_members::rows::place_for;
 use book_members::rows::slots_at;
 use book_members::rows::with_row;
 use moments::in_order;
@@ -38,7 +38,7 @@ impl Book {
         let plan = self.plan;
         let rows = self.rows;
         let now = current(rows, time);
-        let at = row_for(now, plan.rows, unit);
+        let at = place_for(now, plan.rows, unit);
         let live = at < in_use(plan.rows);
         let refused = refusal(self, unit, time, live);
         let slots = slots_at(now, at);
@@ -61,7 +61,7 @@ impl Book {
         let plan = self.plan;
         let rows = self.rows;
         let now = current(rows, time);
-        let at = row_for(now, plan.rows, unit);
+        let at = place_for(now, plan.rows, unit);
         let live = at < in_use(plan.rows);
         let refused = refusal(self, unit, time, live & !(unit == plan.manager));
         let next = with_row(

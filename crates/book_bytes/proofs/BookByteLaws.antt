@@ -1,10 +1,6 @@
 -- The bytes of a book: its rows one behind the other, how many they all are, and all of it stored.
 -- Assumes nothing.
-use mathlib.Core.Path.{_≡_, refl}
-use mathlib.Core.List.{List, _++_}
-use Prim.Native.Nat.{ℕ}
-use lib.ListN.{length, length-append}
-use lib.Seq.{sets}
+use Rattle.octets.proofs.Words.{_≡_, refl, List, _++_, ℕ, length, length-append, sets}
 use Rattle.octets.specs.Numbers.{digits}
 use Rattle.octets.proofs.NumberLaws.{length-digits}
 use Rattle.octets.proofs.StoreLaws.{sets-append}

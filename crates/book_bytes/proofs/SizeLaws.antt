@@ -1,11 +1,6 @@
 -- Books whose numbers fit their bytes: those that are read from bytes, and those in which a row is written. A set of 64 slots always fits its 8 bytes.
 -- Assumes nothing.
-use mathlib.Core.Path.{refl, _∙_}
-use mathlib.Core.List.{List, [], _∷_}
-use Prim.Native.Nat.{ℕ, _+_, _*_, _<_}
-use native.Mathlib.Omega.{arith}
-use lib.Dec.{eqb}
-use lib.ListN.{length-set}
+use Rattle.octets.proofs.Words.{refl, _∙_, List, [], _∷_, ℕ, _+_, _*_, _<_, arith, eqb, length-set}
 use Rattle.octets.specs.Calls.{after}
 use Rattle.octets.specs.Layouts.{total, Fit, Bytes}
 use Rattle.octets.specs.Lists.{Each}

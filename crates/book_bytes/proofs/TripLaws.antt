@@ -1,11 +1,6 @@
 -- The round trips of a book and its bytes.
 -- Assumes nothing.
-use mathlib.Core.Path.{_≡_, refl, ap, _∙_}
-use mathlib.Core.List.{List, _++_, append-assoc}
-use Prim.Native.Nat.{ℕ, _+_, _*_, _≤_}
-use native.Mathlib.Omega.{arith}
-use lib.ListN.{length, take, drop}
-use lib.Seq.{take-all, take-add}
+use Rattle.octets.proofs.Words.{_≡_, refl, ap, _∙_, List, _++_, append-assoc, ℕ, _+_, _*_, _≤_, arith, length, take, drop, take-all, take-add}
 use Rattle.octets.specs.Layouts.{fields, bytes, Bytes}
 use Rattle.octets.specs.Lists.{tab, Each}
 use Rattle.octets.specs.Numbers.{num, digits}

@@ -1,9 +1,6 @@
 -- Document 01's example of what slotview prints, byte for byte.
 -- Assumes nothing.
-use mathlib.Core.Path.{_≡_, refl}
-use mathlib.Core.List.{[], _∷_}
-use Prim.Native.Nat.{ℕ}
-use lib.ListN.{replicate}
+use Rattle.octets.proofs.Words.{_≡_, refl, [], _∷_, ℕ, replicate}
 use Rattle.octets.specs.Lists.{tab}
 use Rattle.slot_sets.specs.Sets.{has, bits, slotsOf}
 use Rattle.site_plan.specs.Plans.{slotsIn}

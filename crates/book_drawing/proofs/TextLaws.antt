@@ -1,13 +1,6 @@
 -- Texts stored one behind the other, and the digits of numbers.
 -- Assumes nothing.
-use mathlib.Core.Path.{_≡_, refl, _∙_}
-use lib.Dec.{ltb}
-use mathlib.Core.List.{List, [], _∷_, _++_}
-use Prim.Native.Nat.{ℕ, _+_, _/_, _%_, _≤_, _<_}
-use native.Mathlib.Omega.{arith}
-use borrow.Author.Tests.{lt-ltb, le-ltb}
-use lib.ListN.{length, length-append}
-use lib.Seq.{sets}
+use Rattle.octets.proofs.Words.{_≡_, refl, _∙_, List, [], _∷_, _++_, ℕ, _+_, _/_, _%_, _≤_, _<_, arith, lt-ltb, le-ltb, ltb, length, length-append, sets}
 use Rattle.octets.specs.Lists.{tab}
 use Rattle.octets.proofs.ListLaws.{tab-snoc, length-tab}
 use Rattle.octets.proofs.StoreLaws.{sets-append}

@@ -1,12 +1,6 @@
 -- The text of an image, from what restoring it answers.
 -- Assumes nothing.
-use mathlib.Core.Path.{_≡_, refl, sym, ap, _∙_}
-use mathlib.Core.Bool.{Bool, true, false, not, cond}
-use mathlib.Core.List.{List, [], _∷_, _++_}
-use Prim.Native.Nat.{ℕ, suc, _+_, _*_, _≤_, min}
-use native.Mathlib.Omega.{arith}
-use lib.Seq.{sets, length-sets}
-use lib.ListN.{length, take, length-append, length-take}
+use Rattle.octets.proofs.Words.{_≡_, refl, sym, ap, _∙_, Bool, true, false, not, cond, List, [], _∷_, _++_, ℕ, suc, _+_, _*_, _≤_, min, arith, length, take, length-append, length-take, sets, length-sets}
 use Rattle.octets.proofs.ListLaws.{length-tab}
 use Rattle.octets.proofs.TestLaws.{of-choice}
 use Rattle.site_plan.specs.declared.plan.Plan.{Plan}

@@ -1,13 +1,6 @@
 -- The theorems on books that follow from each book of a history being within rule, joining, counting, sending; and that their elapsed time is true time.
 -- Assumes nothing.
-use mathlib.Core.Path.{_≡_, refl, sym, ap, _∙_}
-use mathlib.Core.Bool.{Bool, true, false, not, cond, and-eq-true-iff}
-use mathlib.Core.List.{List, [], _∷_, map}
-use Prim.Native.Nat.{ℕ, _+_, _≤_, min}
-use native.Mathlib.Omega.{arith}
-use borrow.Author.Tests.{ne-eqb, le-leb, leb-true, ltb-true}
-use lib.Dec.{leb}
-use lib.ListN.{length, drop}
+use Rattle.octets.proofs.Words.{_≡_, refl, sym, ap, _∙_, Bool, true, false, not, cond, and-eq-true-iff, List, [], _∷_, map, ℕ, _+_, _≤_, min, arith, ne-eqb, le-leb, leb-true, ltb-true, leb, length, drop}
 use Rattle.moments.specs.Moments.{inOrder}
 use Rattle.moments.proofs.ElapsedLaws as elapsed
 use Rattle.octets.specs.Addresses.{address}

@@ -1,13 +1,6 @@
 -- Every book of a history is within rule, and 14 is only for a hop.
 -- Assumes nothing.
-use mathlib.Core.Path.{_≡_, refl, sym, ap, _∙_}
-use mathlib.Core.Bool.{Bool, true, false, not, _&&_, _||_, cond, and-eq-true-iff, or-true}
-use mathlib.Core.List.{List, [], _∷_}
-use Prim.Native.Nat.{ℕ, zero, suc}
-use native.Mathlib.Omega.{arith}
-use borrow.Author.Tests.{eq-eqb, not-false}
-use lib.Dec.{eqb}
-use lib.ListN.{length, take, length-take}
+use Rattle.octets.proofs.Words.{_≡_, refl, sym, ap, _∙_, Bool, true, false, not, _&&_, _||_, cond, and-eq-true-iff, or-true, List, [], _∷_, ℕ, zero, suc, arith, eq-eqb, not-false, eqb, length, take, length-take}
 use Rattle.octets.specs.Answers.{reason, first}
 use Rattle.octets.proofs.AnswerLaws.{never-given, none-holds, unless-number}
 use Rattle.octets.specs.Lists.{every}

@@ -1,12 +1,6 @@
 -- What holds where a call on a book is not refused.
 -- Assumes nothing.
-use mathlib.Core.Path.{_≡_, sym, _∙_}
-use mathlib.Core.Bool.{Bool, true, false}
-use mathlib.Core.List.{List}
-use Prim.Native.Nat.{ℕ}
-use borrow.Author.Tests.{eqb-true, not-false}
-use lib.Dec.{ltb}
-use lib.ListN.{length}
+use Rattle.octets.proofs.Words.{_≡_, sym, _∙_, Bool, true, false, List, ℕ, eqb-true, not-false, ltb, length}
 use Rattle.octets.specs.Answers.{first}
 use Rattle.octets.proofs.AnswerLaws.{refusing-numbered, none-holds, unless-number}
 use Rattle.moments.specs.Moments.{inOrder}

@@ -1,13 +1,6 @@
 -- A fresh book is within rule.
 -- Assumes nothing.
-use mathlib.Core.Path.{_≡_, refl, sym, ap, _∙_}
-use mathlib.Core.Bool.{Bool, true, false, not, cond, and-eq-true-iff, or-true}
-use mathlib.Core.List.{[], _∷_}
-use Prim.Native.Nat.{ℕ, zero, suc, _-_, _*_, _≤_}
-use native.Mathlib.Omega.{arith}
-use borrow.Author.Tests.{eq-eqb, ne-eqb, lt-ltb, ltb-true, not-false}
-use lib.Dec.{ltb}
-use lib.ListN.{take, drop, replicate}
+use Rattle.octets.proofs.Words.{_≡_, refl, sym, ap, _∙_, Bool, true, false, not, cond, and-eq-true-iff, or-true, [], _∷_, ℕ, zero, suc, _-_, _*_, _≤_, arith, eq-eqb, ne-eqb, lt-ltb, ltb-true, not-false, ltb, take, drop, replicate}
 use Rattle.octets.specs.Answers.{reason}
 use Rattle.octets.proofs.AnswerLaws.{none-holds}
 use Rattle.octets.specs.Lists.{every}

@@ -1,12 +1,6 @@
 -- How many slots are granted to a newcomer and to a member that asks, and where they come from.
 -- Assumes nothing.
-use mathlib.Core.Path.{_≡_, refl, _∙_}
-use mathlib.Core.Bool.{Bool, true, false, cond}
-use mathlib.Core.List.{List}
-use Prim.Native.Nat.{ℕ, _+_, _-_, _≤_, min}
-use native.Mathlib.Omega.{arith}
-use borrow.Author.Tests.{leb-true, leb-false}
-use lib.Dec.{leb}
+use Rattle.octets.proofs.Words.{_≡_, refl, _∙_, Bool, true, false, cond, List, ℕ, _+_, _-_, _≤_, min, arith, leb-true, leb-false, leb}
 use Rattle.slot_sets.specs.Sets.{Slots, count, Subset, Apart, union, lowest, withoutHighest}
 use Rattle.slot_sets.proofs.SetLaws.{disjoint-is-apart, in-left, in-right, in-union}
 use Rattle.slot_sets.proofs.CountLaws.{count-of-union}

@@ -1,13 +1,6 @@
 -- Who holds what: no slot is held by two, a call changes no other unit's holding, and a live member that calls again keeps its own.
 -- Assumes nothing.
-use mathlib.Core.Path.{_≡_, refl, sym, ap, _∙_}
-use mathlib.Core.Bool.{true, false≢true}
-use mathlib.Core.List.{List}
-use Prim.Native.Nat.{ℕ, zero, suc, _<_}
-use native.Mathlib.Decide.{ℕ-discrete}
-use native.Mathlib.Omega.{arith}
-use lib.ListN.{length, length-set}
-use lib.Seq.{getD-set-other}
+use Rattle.octets.proofs.Words.{_≡_, refl, sym, ap, _∙_, true, false≢true, List, ℕ, zero, suc, _<_, ℕ-discrete, arith, length, length-set, getD-set-other}
 use Rattle.moments.specs.Moments.{inOrder}
 use Rattle.octets.specs.Addresses.{address}
 use Rattle.octets.proofs.AddressLaws.{address-some}

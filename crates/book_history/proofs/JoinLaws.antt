@@ -1,14 +1,6 @@
 -- Joining and asking: who is refused for room, and how many slots the others hold.
 -- Assumes nothing.
-use mathlib.Core.Path.{_≡_, refl, sym, ap, ap₂, _∙_}
-use mathlib.Core.Bool.{Bool, true, false, not, _&&_, _||_, cond, false≢true}
-use mathlib.Core.List.{List, [], _∷_}
-use Prim.Native.Nat.{ℕ, _+_, _*_, _≤_}
-use native.Mathlib.Omega.{arith}
-use native.Mathlib.Nat.{zero-add}
-use borrow.Author.Tests.{ne-eqb, eqb-false, le-ltb}
-use lib.Dec.{eqb, ltb}
-use lib.ListN.{length}
+use Rattle.octets.proofs.Words.{_≡_, refl, sym, ap, ap₂, _∙_, Bool, true, false, not, _&&_, _||_, cond, false≢true, List, [], _∷_, ℕ, _+_, _*_, _≤_, zero-add, arith, ne-eqb, eqb-false, le-ltb, eqb, ltb, length}
 use Rattle.octets.specs.Answers.{first}
 use Rattle.octets.specs.Lists.{every}
 use Rattle.slot_sets.specs.Sets.{Slots, count}

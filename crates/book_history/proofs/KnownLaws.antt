@@ -1,14 +1,6 @@
 -- What the answers to a unit's own calls say of it is what the book has for it, at every time that may come: kept by every call.
 -- Assumes nothing.
-use mathlib.Core.Path.{_≡_, refl, sym, ap, subst, _∙_}
-use mathlib.Core.Bool.{Bool, true, false, _&&_, _||_, cond}
-use mathlib.Core.List.{List, [], _∷_, map}
-use Prim.Native.Nat.{ℕ, suc, _+_, _^_, _≤_, _<_}
-use native.Mathlib.Decide.{ℕ-discrete}
-use native.Mathlib.Omega.{arith}
-use borrow.Author.Tests.{eq-eqb, ne-eqb, eqb-true, lt-ltb, le-ltb, lt-leb, leb-true}
-use lib.Dec.{eqb, leb}
-use lib.ListN.{length, set}
+use Rattle.octets.proofs.Words.{_≡_, refl, sym, ap, subst, _∙_, Bool, true, false, _&&_, _||_, cond, List, [], _∷_, map, ℕ, suc, _+_, _^_, _≤_, _<_, ℕ-discrete, arith, eq-eqb, ne-eqb, eqb-true, lt-ltb, le-ltb, lt-leb, leb-true, eqb, leb, length, set}
 use Rattle.octets.specs.Lists.{every}
 use Rattle.octets.proofs.ListLaws.{every-at}
 use Rattle.moments.specs.Moments.{ageAt, inOrder}

@@ -1,12 +1,6 @@
 -- A unit's slots stay its own over every call that is neither its own request nor its leaving, as long as it is not silent.
 -- Assumes nothing.
-use mathlib.Core.Path.{_≡_, refl, sym, ap, subst, _∙_}
-use mathlib.Core.Bool.{Bool, true, false, not, _&&_, _||_, cond, false≢true, and-eq-true-iff}
-use mathlib.Core.List.{List, [], _∷_, _++_, map}
-use Prim.Native.Nat.{ℕ, _+_, _≤_}
-use native.Mathlib.Omega.{arith}
-use borrow.Author.Tests.{eq-eqb, le-leb, leb-true, not-true}
-use lib.Dec.{eqb, leb}
+use Rattle.octets.proofs.Words.{_≡_, refl, sym, ap, subst, _∙_, Bool, true, false, not, _&&_, _||_, cond, false≢true, and-eq-true-iff, List, [], _∷_, _++_, map, ℕ, _+_, _≤_, arith, eq-eqb, le-leb, leb-true, not-true, eqb, leb}
 use Rattle.octets.specs.Lists.{every}
 use Rattle.moments.specs.Elapsed.{Clock, started, nowAt, moved, clockAfter}
 use Rattle.moments.specs.Moments.{ageAt, inOrder}

@@ -1,10 +1,6 @@
 -- Every call keeps the rule and the plan, and one that is refused leaves the book as it was.
 -- Assumes nothing.
-use mathlib.Core.Path.{_≡_, refl, ap, _∙_}
-use mathlib.Core.Bool.{true}
-use Prim.Native.Nat.{ℕ}
-use lib.Dec.{eqb}
-use lib.ListN.{length, length-set}
+use Rattle.octets.proofs.Words.{_≡_, refl, ap, _∙_, true, ℕ, eqb, length, length-set}
 use Rattle.octets.specs.Calls.{after}
 use Rattle.octets.proofs.CallLaws.{after-refused}
 use Rattle.octets.proofs.TestLaws.{of-choice}

@@ -1,15 +1,6 @@
 -- Who sends in a slot, by schedules from one book: the statements of specs/Laws on it, proved.
 -- Assumes nothing.
-use mathlib.Core.Path.{_≡_, refl, ap, _∙_}
-use mathlib.Core.Bool.{Bool, true, false, _||_, and-eq-true-iff}
-use mathlib.Core.List.{List, _++_}
-use Prim.Native.Nat.{ℕ, _<_, _≤_}
-use native.Mathlib.Nat.{zero-add}
-use native.Mathlib.Omega.{arith}
-use borrow.Author.Tests.{eq-eqb, ltb-true}
-use lib.Dec.{leb, ltb}
-use lib.ListN.{length, getD, drop, List·getD-append}
-use lib.Seq.{sets, sets-eq}
+use Rattle.octets.proofs.Words.{_≡_, refl, ap, _∙_, Bool, true, false, _||_, and-eq-true-iff, List, _++_, ℕ, _<_, _≤_, zero-add, arith, eq-eqb, ltb-true, leb, ltb, length, getD, drop, List·getD-append, sets, sets-eq}
 use Rattle.octets.specs.Lists.{tab}
 use Rattle.octets.proofs.ListLaws.{length-tab, getD-tab}
 use Rattle.site_plan.specs.declared.plan.Plan.{Plan}

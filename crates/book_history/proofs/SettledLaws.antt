@@ -1,8 +1,6 @@
 -- When an accepted call that changes the book was: at a time in order with the book's, which is then the book's.
 -- Assumes nothing.
-use mathlib.Core.Path.{_≡_, ap}
-use mathlib.Core.Bool.{true}
-use Prim.Native.Nat.{ℕ}
+use Rattle.octets.proofs.Words.{_≡_, ap, true, ℕ}
 use Rattle.moments.specs.Moments.{inOrder}
 use Rattle.slot_sets.specs.Sets.{Slots}
 use Rattle.book.specs.Books.{Contents}

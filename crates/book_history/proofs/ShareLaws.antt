@@ -1,10 +1,6 @@
 -- The slots that a unit may have with its row: its own, those that a newcomer is granted, those that a member is left with.
 -- Assumes nothing.
-use mathlib.Core.Path.{_≡_}
-use mathlib.Core.List.{List}
-use Prim.Native.Nat.{ℕ, _+_, _-_, _≤_, _<_, min}
-use native.Mathlib.Omega.{arith}
-use lib.ListN.{length}
+use Rattle.octets.proofs.Words.{_≡_, List, ℕ, _+_, _-_, _≤_, _<_, min, arith, length}
 use Rattle.slot_sets.specs.Sets.{Slots, count}
 use Rattle.slot_sets.proofs.SetLaws.{in-left, in-right}
 use Rattle.book_members.specs.Members.{Row, vacantRow, placeFor, free, vacant, spare}

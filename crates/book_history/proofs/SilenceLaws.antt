@@ -1,15 +1,6 @@
 -- Members and time: the row and the slots of one that is live stay, and how long it is live.
 -- Assumes nothing.
-use mathlib.Core.Path.{_≡_, refl, sym, ap, _∙_}
-use mathlib.Core.Bool.{Bool, true, false, _||_, false≢true}
-use mathlib.Core.List.{List}
-use Prim.Native.Nat.{ℕ, _<_}
-use native.Mathlib.Decide.{ℕ-discrete}
-use native.Mathlib.Omega.{arith}
-use borrow.Author.Tests.{eq-eqb, ne-eqb, ltb-true, lt-ltb, le-ltb}
-use lib.Dec.{eqb, leb, ltb}
-use lib.ListN.{length}
-use lib.Seq.{getD-set-same}
+use Rattle.octets.proofs.Words.{_≡_, refl, sym, ap, _∙_, Bool, true, false, _||_, false≢true, List, ℕ, _<_, ℕ-discrete, arith, eq-eqb, ne-eqb, ltb-true, lt-ltb, le-ltb, eqb, leb, ltb, length, getD-set-same}
 use Rattle.octets.proofs.AddressLaws.{address-some}
 use Rattle.moments.specs.Moments.{ageAt}
 use Rattle.slot_sets.specs.Sets.{Slots}

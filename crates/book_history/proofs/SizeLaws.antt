@@ -1,7 +1,6 @@
 -- A call on a book whose numbers fit their bytes leaves such a book: where it is accepted, one row is written, of a unit with an address or of none.
 -- Assumes nothing.
-use mathlib.Core.Path.{_≡_, sym, subst}
-use Prim.Native.Nat.{ℕ, _<_}
+use Rattle.octets.proofs.Words.{_≡_, sym, subst, ℕ, _<_}
 use Rattle.octets.proofs.AddressLaws.{address-fits}
 use Rattle.slot_sets.specs.Sets.{Slots}
 use Rattle.book_members.specs.Members.{emptyRow, placeFor, memberWith}

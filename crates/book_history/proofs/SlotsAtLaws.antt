@@ -1,14 +1,6 @@
 -- What a book has for a unit at a time, by the unit's row: the same where the holding is the same, what the row says as long as it counts, nothing else.
 -- Assumes nothing.
-use mathlib.Core.Path.{_≡_, refl, sym, ap, _∙_}
-use mathlib.Core.Bool.{Bool, true, false, not, _||_, cond}
-use mathlib.Core.Logic.{inl, inr}
-use mathlib.Core.List.{[]}
-use Prim.Native.Nat.{ℕ, _+_, _≤_}
-use native.Mathlib.Omega.{arith}
-use borrow.Author.Tests.{eq-eqb, ne-eqb, le-leb, lt-leb, leb-true, leb-false, ltb-true}
-use lib.Dec.{eqb, leb}
-use lib.ListN.{length}
+use Rattle.octets.proofs.Words.{_≡_, refl, sym, ap, _∙_, Bool, true, false, not, _||_, cond, [], inl, inr, ℕ, _+_, _≤_, arith, eq-eqb, ne-eqb, le-leb, lt-leb, leb-true, leb-false, ltb-true, eqb, leb, length}
 use Rattle.moments.specs.Moments.{ageAt, inOrder}
 use Rattle.moments.proofs.MomentLaws.{ages-add}
 use Rattle.book_members.specs.Members.{Row, placeFor}

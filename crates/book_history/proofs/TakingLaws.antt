@@ -1,14 +1,6 @@
 -- What an accepted call leaves: a unit has a row that it may have, with slots that it may have, since now; or its row is free.
 -- Assumes nothing.
-use mathlib.Core.Path.{_≡_, refl, sym, ap, _∙_}
-use mathlib.Core.Bool.{Bool, true, false, not, _&&_, cond, and-eq-true-iff}
-use mathlib.Core.List.{List}
-use Prim.Native.Nat.{ℕ, _<_}
-use native.Mathlib.Omega.{arith}
-use borrow.Author.Tests.{eqb-false, lt-ltb, ltb-true, not-true}
-use lib.Dec.{eqb}
-use lib.ListN.{length, set, length-set}
-use lib.Seq.{getD-set-same}
+use Rattle.octets.proofs.Words.{_≡_, refl, sym, ap, _∙_, Bool, true, false, not, _&&_, cond, and-eq-true-iff, List, ℕ, _<_, arith, eqb-false, lt-ltb, ltb-true, not-true, eqb, length, set, length-set, getD-set-same}
 use Rattle.octets.proofs.CallLaws.{after-accepted}
 use Rattle.octets.proofs.AddressLaws.{address-some}
 use Rattle.moments.proofs.MomentLaws.{in-order-self}

@@ -1,12 +1,6 @@
 -- What an accepted request is answered with: the responses in the buffer tell the slots that the unit then has.
 -- Assumes nothing.
-use mathlib.Core.Path.{_≡_, ap₂, _∙_}
-use mathlib.Core.Bool.{true}
-use mathlib.Core.List.{List}
-use Prim.Native.Nat.{ℕ, _+_, _/_, _^_, _≤_, _<_}
-use native.Mathlib.Omega.{arith}
-use borrow.Author.Tests.{ltb-false}
-use lib.ListN.{length, length-take}
+use Rattle.octets.proofs.Words.{_≡_, ap₂, _∙_, true, List, ℕ, _+_, _/_, _^_, _≤_, _<_, arith, ltb-false, length, length-take}
 use Rattle.octets.proofs.CallLaws.{after-accepted}
 use Rattle.slot_sets.specs.Sets.{Slots}
 use Rattle.site_plan.specs.Plans.{planRule, dataAt}

@@ -1,15 +1,6 @@
 -- Rows weighed unit by unit: over all units up to one that no row's is above, they weigh what all the rows do, if free rows weigh nothing.
 -- Assumes nothing.
-use mathlib.Core.Path.{_≡_, refl, sym, ap, ap₂, _∙_}
-use mathlib.Core.Bool.{Bool, true, false, cond, and-eq-true-iff}
-use mathlib.Core.List.{List, [], _∷_}
-use Prim.Native.Nat.{ℕ, zero, suc, _+_, _≤_}
-use native.Mathlib.Decide.{ℕ-discrete}
-use native.Mathlib.Numerals.{one-add}
-use native.Mathlib.Omega.{arith}
-use borrow.Author.Tests.{eq-eqb, ne-eqb, eqb-true, leb-true, lt-ltb}
-use lib.Dec.{leb, ltb, leb·suc-suc}
-use lib.ListN.{length}
+use Rattle.octets.proofs.Words.{_≡_, refl, sym, ap, ap₂, _∙_, Bool, true, false, cond, and-eq-true-iff, List, [], _∷_, ℕ, zero, suc, _+_, _≤_, ℕ-discrete, one-add, arith, eq-eqb, ne-eqb, eqb-true, leb-true, lt-ltb, leb, ltb, leb·suc-suc, length}
 use Rattle.octets.specs.Lists.{every}
 use Rattle.octets.specs.Addresses.{address}
 use Rattle.slot_sets.specs.Sets.{noSlots}

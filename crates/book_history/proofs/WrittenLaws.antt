@@ -1,14 +1,7 @@
 -- The book in which one row was written: its rows, and when it is within rule.
 -- Assumes nothing.
-use mathlib.Core.Path.{_≡_, refl, ap, _∙_}
-use mathlib.Core.Bool.{true}
-use mathlib.Core.List.{List}
-use Prim.Native.Nat.{ℕ, zero, suc, _<_}
-use native.Mathlib.Omega.{arith}
-use lib.ListN.{length, set, length-take}
-use lib.Seq.{take-set-lt, drop-set-lt}
-use Rattle.slot_sets.specs.Sets.{Slots}
-use Rattle.book_members.specs.Members.{Row, kept, current, memberWith}
+use Rattle.octets.proofs.Words.{_≡_, refl, ap, _∙_, true, List, ℕ, zero, suc, _<_, arith, length, set, length-take, take-set-lt, drop-set-lt}
+use Rattle.book_members.specs.Members.{Row, kept, current}
 use Rattle.book_members.specs.Rules.{emptyIs}
 use Rattle.book_members.proofs.RowLaws.{row, DroppedOn, kept-again, length-current, every-behind, keptAt, current-set}
 use Rattle.book_members.proofs.RowRuleLaws.{empty-is}

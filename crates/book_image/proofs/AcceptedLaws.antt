@@ -1,18 +1,9 @@
 -- An accepted image in its parts, and that these are document 01's list.
 -- Assumes nothing.
-use mathlib.Core.Path.{_≡_, refl, ap, ap₂, _∙_}
-use mathlib.Core.Bool.{true, false≢true, and-eq-true-iff}
-use mathlib.Core.List.{List, [], _∷_, map}
-use mathlib.Core.Logic.{_⊎_, inl, inr}
-use Prim.Native.Nat.{ℕ, _<_}
-use native.Mathlib.Omega.{arith}
-use borrow.Author.Tests.{eq-eqb, eqb-true, lt-ltb, le-ltb, le-leb}
-use lib.Dec.{eqb}
-use lib.ListN.{length, getD, drop}
+use Rattle.octets.proofs.Words.{_≡_, refl, ap, ap₂, _∙_, true, false≢true, and-eq-true-iff, List, [], _∷_, map, _⊎_, inl, inr, ℕ, _<_, arith, eq-eqb, eqb-true, lt-ltb, le-ltb, le-leb, eqb, length, getD, drop}
 use Rattle.octets.specs.Layouts.{fields}
 use Rattle.octets.specs.Lists.{tab, every}
 use Rattle.octets.proofs.ListLaws.{length-tab, getD-tab, tab-same, take-tab, map-tab, every-at, every-tab, every-behind-tab}
-use Rattle.octets.proofs.AddressLaws.{address-some}
 use Rattle.site_plan.specs.Plans.{planRule}
 use Rattle.site_plan.proofs.PlanLaws.{rule-bounds, kept}
 use Rattle.slot_sets.specs.Sets.{count}

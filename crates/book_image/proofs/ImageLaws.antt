@@ -1,13 +1,6 @@
 -- The bytes of an image: its rows one behind the other, how many bytes its parts have, and all of it stored.
 -- Assumes nothing.
-use mathlib.Core.Path.{_≡_, refl, _∙_}
-use mathlib.Core.Bool.{Bool, true, false, _&&_}
-use mathlib.Core.List.{List, _++_, map}
-use Prim.Native.Nat.{ℕ, _+_, _-_, _*_, _≤_, _<_, min}
-use native.Mathlib.Omega.{arith}
-use lib.Dec.{eqb}
-use lib.ListN.{length, getD, take, drop, length-append, List·getD-map}
-use lib.Seq.{sets, getD-take}
+use Rattle.octets.proofs.Words.{_≡_, refl, _∙_, Bool, true, false, _&&_, List, _++_, map, ℕ, _+_, _-_, _*_, _≤_, _<_, min, arith, eqb, length, getD, take, drop, length-append, List·getD-map, sets, getD-take}
 use Rattle.octets.specs.Layouts.{bytes}
 use Rattle.octets.specs.Numbers.{num}
 use Rattle.octets.proofs.LayoutLaws.{length-bytes}

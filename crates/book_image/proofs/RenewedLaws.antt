@@ -1,11 +1,7 @@
 -- Rows whose times are another: within rule, they stay so.
 -- Assumes nothing.
-use mathlib.Core.Path.{_≡_, refl}
-use mathlib.Core.Bool.{Bool, true, false, _||_, cond, or-true}
-use mathlib.Core.List.{List, [], _∷_, map}
-use Prim.Native.Nat.{ℕ}
+use Rattle.octets.proofs.Words.{_≡_, refl, Bool, true, false, _||_, cond, or-true, List, [], _∷_, map, ℕ, eqb}
 use Rattle.octets.proofs.ListLaws.{every-map}
-use lib.Dec.{eqb}
 use Rattle.moments.specs.Moments.{inOrder}
 use Rattle.moments.proofs.MomentLaws.{in-order-self}
 use Rattle.book_members.specs.Members.{Row, vacantRow, restoredAt}

@@ -1,10 +1,6 @@
 -- A book restored from bytes, from what the code reads of them.
 -- Assumes nothing.
-use mathlib.Core.Path.{_≡_}
-use mathlib.Core.Bool.{Bool, not, _&&_, cond}
-use mathlib.Core.List.{List}
-use Prim.Native.Nat.{ℕ}
-use lib.Dec.{ltb}
+use Rattle.octets.proofs.Words.{_≡_, Bool, not, _&&_, cond, List, ℕ, ltb}
 use Rattle.octets.specs.Lists.{tab}
 use Rattle.site_plan.specs.declared.plan.Plan.{Plan}
 use Rattle.book_members.specs.Members.{Row, emptyRow}

@@ -1,14 +1,6 @@
 -- The round trips: an accepted image written again, and a book written and restored.
 -- Assumes nothing.
-use mathlib.Core.Path.{_≡_, refl, sym, ap, _∙_}
-use mathlib.Core.Bool.{Bool, true, false, and-eq-true-iff}
-use mathlib.Core.List.{List, [], _∷_, _++_, map, append-assoc}
-use Prim.Native.Nat.{ℕ, zero, suc, _+_, _*_, _≤_, _<_}
-use native.Mathlib.Omega.{arith}
-use borrow.Author.Tests.{eqb-true, leb-true}
-use lib.Dec.{leb, lit<}
-use lib.ListN.{length, getD, take, drop, length-append, length-take}
-use lib.Seq.{take-all, take-add}
+use Rattle.octets.proofs.Words.{_≡_, refl, sym, ap, _∙_, Bool, true, false, and-eq-true-iff, List, [], _∷_, _++_, map, append-assoc, ℕ, zero, suc, _+_, _*_, _≤_, _<_, arith, eqb-true, leb-true, leb, lit<, length, getD, take, drop, length-append, length-take, take-all, take-add}
 use Rattle.octets.specs.Layouts.{fields, bytes, Fit, Bytes}
 use Rattle.octets.specs.Lists.{tab, every}
 use Rattle.octets.specs.Numbers.{num}

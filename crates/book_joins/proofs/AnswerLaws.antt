@@ -1,11 +1,6 @@
 -- A join and a slot request, from what their parts say.
 -- Assumes nothing.
-use mathlib.Core.Path.{_≡_, sym, ap, _∙_}
-use mathlib.Core.Bool.{Bool, not, _&&_, cond}
-use mathlib.Core.List.{List}
-use Prim.Native.Nat.{ℕ, _+_, _*_, min}
-use lib.Dec.{eqb, ltb}
-use lib.ListN.{length, getD, take}
+use Rattle.octets.proofs.Words.{_≡_, sym, ap, _∙_, Bool, not, _&&_, cond, List, ℕ, _+_, _*_, min, eqb, ltb, length, getD, take}
 use Rattle.octets.specs.Answers.{first}
 use Rattle.frame_kinds.specs.Shape.{valuesIn}
 use Rattle.frame_requests.specs.declared.JoinRequest.{JoinRequest}

@@ -1,14 +1,6 @@
 -- What a join and a slot request take from the rows, and the end of both.
 -- Assumes nothing.
-use mathlib.Core.Path.{_≡_, sym, ap, _∙_}
-use mathlib.Core.Bool.{Bool, true, false, cond}
-use mathlib.Core.List.{List, [], _∷_}
-use Prim.Native.Nat.{ℕ, suc, _+_, _*_, _-_, _≤_, _<_, min}
-use native.Mathlib.Omega.{arith}
-use borrow.Author.Tests.{ne-eqb, le-leb, lt-leb}
-use lib.Dec.{eqb}
-use lib.ListN.{length, getD, take, set, length-take, List·getD-eq-default}
-use lib.Seq.{sets}
+use Rattle.octets.proofs.Words.{_≡_, sym, ap, _∙_, Bool, true, false, cond, List, [], _∷_, ℕ, suc, _+_, _*_, _-_, _≤_, _<_, min, arith, ne-eqb, le-leb, lt-leb, eqb, length, getD, take, set, length-take, List·getD-eq-default, sets}
 use Rattle.octets.specs.Calls.{after}
 use Rattle.slot_sets.specs.Sets.{Slots, union, count, lowest, withoutHighest, slotsOf}
 use Rattle.slot_sets.proofs.MaskLaws.{mask-nothing}

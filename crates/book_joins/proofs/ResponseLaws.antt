@@ -1,16 +1,6 @@
 -- Response frames: their lengths, and a turn of the loop that stores them.
 -- Assumes nothing.
-use mathlib.Core.Path.{_≡_, refl, sym, ap, ap₂, _∙_}
-use mathlib.Core.Bool.{Bool, true, false, _&&_, cond}
-use mathlib.Core.List.{List, [], _∷_, _++_, map, append-nil, append-assoc}
-use Prim.Native.Nat.{ℕ, zero, suc, _+_, _*_, _-_, _/_, _^_, _≤_, _<_}
-use native.Mathlib.Nat.{zero-add}
-use native.Mathlib.Numerals.{add-one}
-use native.Mathlib.Omega.{arith}
-use borrow.Author.Tests.{ltb-false}
-use lib.Dec.{ltb}
-use lib.ListN.{length, drop, length-append, length-map}
-use lib.Seq.{sets, sets-eq, drop-at}
+use Rattle.octets.proofs.Words.{_≡_, refl, sym, ap, ap₂, _∙_, Bool, true, false, _&&_, cond, List, [], _∷_, _++_, map, append-nil, append-assoc, ℕ, zero, suc, _+_, _*_, _-_, _/_, _^_, _≤_, _<_, zero-add, add-one, arith, ltb-false, ltb, length, drop, length-append, length-map, sets, sets-eq, drop-at}
 use Rattle.octets.specs.Layouts.{bytes}
 use Rattle.octets.specs.Numbers.{num, digits}
 use Rattle.octets.specs.Sums.{xors}

@@ -1,13 +1,7 @@
 -- The loops that go over the rows of a book from the last down: what the rows from a place on hold, how many are free, whether they are within rule, and
 -- where a unit is among them.
 -- Assumes nothing.
-use mathlib.Core.Path.{_≡_, sym, ap, _∙_}
-use mathlib.Core.Bool.{Bool, true, false, _&&_, cond}
-use mathlib.Core.List.{List, [], _∷_}
-use Prim.Native.Nat.{ℕ, _+_, _-_, _≤_, _<_, min}
-use native.Mathlib.Omega.{arith}
-use lib.Dec.{eqb}
-use lib.ListN.{length, getD, take, drop}
+use Rattle.octets.proofs.Words.{_≡_, sym, ap, _∙_, Bool, true, false, _&&_, cond, List, [], _∷_, ℕ, _+_, _-_, _≤_, _<_, min, arith, eqb, length, getD, take, drop}
 use mir.Val.{boolByte}
 use Rattle.slot_sets.specs.Sets.{slotsOf, union, disjoint}
 use Rattle.slot_sets.proofs.MaskLaws.{mask-nothing}

@@ -1,14 +1,6 @@
 -- The row of a unit: where it is found, and where it is found once a row was written.
 -- Assumes nothing.
-use mathlib.Core.Path.{_≡_, refl, sym, ap, _∙_}
-use mathlib.Core.Bool.{Bool, true, false, not, _||_, cond}
-use mathlib.Core.List.{List, [], _∷_}
-use Prim.Native.Nat.{ℕ, zero, suc, _+_, _≤_, _<_}
-use native.Mathlib.Omega.{arith}
-use native.Mathlib.Numerals.{one-add}
-use borrow.Author.Tests.{eq-eqb, ne-eqb, eqb-true, lt-ltb, ltb-true, not-false}
-use lib.Dec.{eqb, ltb, leb·suc-suc}
-use lib.ListN.{length, set}
+use Rattle.octets.proofs.Words.{_≡_, refl, sym, ap, _∙_, Bool, true, false, not, _||_, cond, List, [], _∷_, ℕ, zero, suc, _+_, _≤_, _<_, one-add, arith, eq-eqb, ne-eqb, eqb-true, lt-ltb, ltb-true, not-false, eqb, ltb, leb·suc-suc, length, set}
 use Rattle.book_members.specs.Members.{Row, emptyRow, placeFor}
 use Rattle.book_members.proofs.RowLaws.{row}
 use Rattle.book_members.proofs.RowSums.{weigh-at, one, tally, passes-there, only-one, some-tally, ofUnit}

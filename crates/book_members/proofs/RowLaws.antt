@@ -1,15 +1,6 @@
 -- Rows one by one: a test that every row passes, silent rows dropped, one row written, the rows at a time.
 -- Assumes nothing.
-use mathlib.Core.Path.{_≡_, refl, sym, ap, ap₂, _∙_}
-use mathlib.Core.Bool.{Bool, true, false, cond, and-eq-true-iff}
-use mathlib.Core.List.{List, [], _∷_, map}
-use mathlib.Core.Logic.{_⊎_, inl, inr}
-use Prim.Native.Nat.{ℕ, zero, suc}
-use native.Mathlib.Decide.{ℕ-discrete}
-use native.Mathlib.Omega.{arith}
-use borrow.Author.Tests.{le-leb, lt-leb, leb-true, leb-false}
-use lib.Dec.{leb}
-use lib.ListN.{length, getD, set, drop, length-map, List·getD-map}
+use Rattle.octets.proofs.Words.{_≡_, refl, sym, ap, ap₂, _∙_, Bool, true, false, cond, and-eq-true-iff, List, [], _∷_, map, _⊎_, inl, inr, ℕ, zero, suc, ℕ-discrete, arith, le-leb, lt-leb, leb-true, leb-false, leb, length, getD, set, drop, length-map, List·getD-map}
 use Rattle.octets.specs.Lists.{every}
 use Rattle.octets.proofs.ListLaws.{every-map}
 use Rattle.octets.proofs.TestLaws.{of-cond}

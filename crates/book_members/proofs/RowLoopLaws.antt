@@ -1,15 +1,6 @@
 -- The loops over the rows of a book: from the last row down, from the first up, and each row changed.
 -- Assumes nothing.
-use mathlib.Core.Path.{_≡_, refl, sym, ap, _∙_}
-use mathlib.Core.Bool.{Bool, true, false, _&&_}
-use mathlib.Core.List.{List, [], _∷_, _++_, map, append-nil}
-use Prim.Native.Nat.{ℕ, zero, suc, _+_, _-_, _≤_, _<_, min}
-use native.Mathlib.Numerals.{add-one}
-use native.Mathlib.Omega.{arith}
-use borrow.Author.Tests.{eq-eqb, ne-eqb, lt-ltb, le-leb, lt-leb}
-use lib.Dec.{eqb, leb, ltb}
-use lib.ListN.{length, getD, take, drop, set, length-map, length-take, List·getD-map, List·getD-eq-default, drop-of-length-le}
-use lib.Seq.{drop-cons, getD-take, take-all, take-suc-set, drop-set-lt, append-snoc, set-out}
+use Rattle.octets.proofs.Words.{_≡_, refl, sym, ap, _∙_, Bool, true, false, _&&_, List, [], _∷_, _++_, map, append-nil, ℕ, zero, suc, _+_, _-_, _≤_, _<_, min, add-one, arith, eq-eqb, ne-eqb, lt-ltb, le-leb, lt-leb, eqb, leb, ltb, length, getD, take, drop, set, length-map, length-take, List·getD-map, List·getD-eq-default, drop-of-length-le, drop-cons, getD-take, take-all, take-suc-set, drop-set-lt, append-snoc, set-out}
 use Rattle.book_members.specs.declared.member.Member.{Member}
 use Rattle.octets.specs.Lists.{every}
 use Rattle.moments.specs.Moments.{ageAt}

@@ -1,15 +1,8 @@
 -- The rule of rows as sums, and what keeps it: silent rows dropped, a member's row written, a row emptied.
 -- Assumes nothing.
-use mathlib.Core.Path.{_≡_, refl, sym, ap, _∙_}
-use mathlib.Core.Bool.{Bool, true, false, _&&_, cond, false≢true, and-eq-true-iff, or-true}
-use mathlib.Core.List.{List, [], _∷_, map}
-use Prim.Native.Nat.{ℕ, zero, suc, _+_, _≤_, _<_}
-use native.Mathlib.Omega.{arith}
-use borrow.Author.Tests.{eq-eqb, ne-eqb, eqb-true, le-leb, leb-true}
-use lib.Dec.{eqb, leb}
-use lib.ListN.{length, set}
+use Rattle.octets.proofs.Words.{_≡_, refl, sym, ap, _∙_, Bool, true, false, _&&_, cond, false≢true, and-eq-true-iff, or-true, List, [], _∷_, map, ℕ, zero, suc, _+_, _≤_, _<_, arith, eq-eqb, ne-eqb, eqb-true, le-leb, leb-true, eqb, leb, length, set}
 use Rattle.octets.specs.Lists.{every}
-use Rattle.octets.proofs.ListLaws.{every-at, every-map}
+use Rattle.octets.proofs.ListLaws.{every-at}
 use Rattle.moments.specs.Moments.{ageAt, inOrder}
 use Rattle.moments.proofs.MomentLaws.{young-in-order}
 use Rattle.octets.specs.Addresses.{address}

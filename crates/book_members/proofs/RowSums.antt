@@ -1,15 +1,6 @@
 -- Sums over the rows of a book. Rows that are free, slots held, rows of a unit, owners of a slot are each a sum, and to write a row changes one term.
 -- Assumes nothing.
-use mathlib.Core.Path.{_≡_, refl, sym, ap, ap₂, _∙_}
-use mathlib.Core.Bool.{Bool, true, false, not, _&&_, _||_, cond, false≢true, and-eq-true-iff}
-use mathlib.Core.List.{List, [], _∷_, map}
-use Prim.Native.Nat.{ℕ, zero, suc, _+_, _≤_, _<_}
-use native.Mathlib.Decide.{ℕ-discrete}
-use native.Mathlib.Numerals.{one-add}
-use native.Mathlib.Omega.{arith}
-use borrow.Author.Tests.{eq-eqb, ne-eqb, eqb-true, eqb-false, not-true, not-false}
-use lib.Dec.{eqb, eqb·suc-suc}
-use lib.ListN.{length, set}
+use Rattle.octets.proofs.Words.{_≡_, refl, sym, ap, ap₂, _∙_, Bool, true, false, not, _&&_, _||_, cond, false≢true, and-eq-true-iff, List, [], _∷_, map, ℕ, zero, suc, _+_, _≤_, _<_, ℕ-discrete, one-add, arith, eq-eqb, ne-eqb, eqb-true, eqb-false, not-true, not-false, eqb, eqb·suc-suc, length, set}
 use Rattle.octets.specs.Lists.{every}
 use Rattle.octets.proofs.TestLaws.{of-choice}
 use Rattle.slot_sets.specs.Sets.{has, Subset, disjoint}

@@ -1,13 +1,6 @@
 -- The rows that a unit may have: a live member its own, a newcomer a free one.
 -- Assumes nothing.
-use mathlib.Core.Path.{_≡_, sym, ap, _∙_}
-use mathlib.Core.Bool.{true, false, false≢true}
-use mathlib.Core.List.{List}
-use Prim.Native.Nat.{ℕ, _≤_, _<_}
-use native.Mathlib.Omega.{arith}
-use borrow.Author.Tests.{eq-eqb, ltb-false}
-use lib.Dec.{ltb}
-use lib.ListN.{length}
+use Rattle.octets.proofs.Words.{_≡_, sym, ap, _∙_, true, false, false≢true, List, ℕ, _≤_, _<_, arith, eq-eqb, ltb-false, ltb, length}
 use Rattle.slot_sets.specs.Sets.{Apart, firsts}
 use Rattle.slot_sets.proofs.SetLaws.{minus-both}
 use Rattle.book_members.specs.Members.{Row, vacantRow, placeFor, heldSlots, free, vacant}

@@ -1,15 +1,6 @@
 -- The times of rows within rule: but for the first, each is in order with the last accepted one.
 -- Assumes nothing.
-use mathlib.Core.Path.{_≡_, refl, sym, _∙_}
-use mathlib.Core.Bool.{Bool, true, false, _||_}
-use mathlib.Core.List.{List}
-use mathlib.Core.Logic.{inl, inr}
-use Prim.Native.Nat.{ℕ, _<_}
-use native.Mathlib.Decide.{decLt}
-use native.Mathlib.Omega.{arith}
-use borrow.Author.Tests.{eqb-true}
-use lib.Dec.{eqb}
-use lib.ListN.{length, List·getD-eq-default}
+use Rattle.octets.proofs.Words.{_≡_, refl, sym, _∙_, Bool, true, false, _||_, List, inl, inr, ℕ, _<_, decLt, arith, eqb-true, eqb, length, List·getD-eq-default}
 use Rattle.octets.proofs.AddressLaws.{address-some}
 use Rattle.octets.proofs.ListLaws.{every-at}
 use Rattle.moments.specs.Moments.{inOrder}

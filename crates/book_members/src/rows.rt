@@ -17,7 +17,7 @@ pub fn in_use(count: u8) -> usize
 }
 
 // The first row of a unit, or how many rows there are; of unit 0 the lowest free row.
-pub fn row_for(rows: [Member; 21], count: u8, unit: u16) -> usize
+pub fn place_for(rows: [Member; 21], count: u8, unit: u16) -> usize
     ensures { λ r. ⌜ (r ≡ placeFor unit (take count (rowsOf rows))) × (length (take count (rowsOf rows)) ≡ min count 21) ⌝ }
 {
     let used = in_use(count);

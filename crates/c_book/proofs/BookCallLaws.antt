@@ -1,13 +1,6 @@
 -- The calls on a stored book, from what the core answers.
 -- Assumes nothing.
-use mathlib.Core.Path.{_≡_, refl, sym, ap, ap₂, _∙_}
-use mathlib.Core.Bool.{not, cond}
-use mathlib.Core.List.{List, []}
-use Prim.Native.Nat.{ℕ, _≤_}
-use native.Mathlib.Omega.{arith}
-use borrow.Author.Tests.{eq-eqb, ne-eqb, eqb-true, not-false}
-use lib.Dec.{eqb}
-use lib.ListN.{length}
+use Rattle.octets.proofs.Words.{_≡_, refl, sym, ap, ap₂, _∙_, not, cond, List, [], ℕ, _≤_, arith, eq-eqb, ne-eqb, eqb-true, not-false, eqb, length}
 use Rattle.octets.specs.Answers.{first}
 use Rattle.octets.specs.Calls.{stored, writeLeft}
 use Rattle.octets.specs.declared.answers.Refusal.{Refusal}

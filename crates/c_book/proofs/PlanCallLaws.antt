@@ -1,13 +1,6 @@
 -- The calls on a plan, from what the core answers.
 -- Assumes nothing.
-use mathlib.Core.Path.{_≡_, sym, ap, _∙_}
-use mathlib.Core.Bool.{Bool, not, cond}
-use mathlib.Core.List.{List, [], _∷_}
-use Prim.Native.Nat.{ℕ, _≤_}
-use borrow.Author.Tests.{eq-eqb, ne-eqb, ltb-false}
-use lib.Dec.{eqb, ltb}
-use lib.ListN.{length}
-use lib.Seq.{sets}
+use Rattle.octets.proofs.Words.{_≡_, sym, ap, _∙_, Bool, not, cond, List, [], _∷_, ℕ, _≤_, eq-eqb, ne-eqb, ltb-false, eqb, ltb, length, sets}
 use Rattle.octets.specs.Answers.{Reason, reason, first}
 use Rattle.octets.specs.Calls.{stored}
 use Rattle.octets.specs.declared.answers.Refusal.{Refusal}

@@ -1,13 +1,6 @@
 -- The answers of calls from C, read by the reader of frames, grant what those of the same calls on values do, and as long.
 -- Assumes nothing.
-use mathlib.Core.Path.{_≡_, refl, sym, ap, ap₂, subst, _∙_}
-use mathlib.Core.Bool.{true, _&&_, cond}
-use mathlib.Core.List.{List, [], _∷_, map}
-use Prim.Native.Nat.{ℕ, _+_, min}
-use native.Mathlib.Decide.{ℕ-discrete}
-use borrow.Author.Tests.{ne-eqb}
-use lib.Dec.{eqb}
-use lib.ListN.{length, drop}
+use Rattle.octets.proofs.Words.{_≡_, refl, sym, ap, ap₂, subst, _∙_, true, _&&_, cond, List, [], _∷_, map, ℕ, _+_, min, ℕ-discrete, ne-eqb, eqb, length, drop}
 use Rattle.moments.specs.Elapsed.{Clock, started, nowAt, Step, moved, clockAfter}
 use Rattle.moments.specs.Moments.{inOrder}
 use Rattle.moments.proofs.ElapsedLaws.{true-time}

@@ -1,11 +1,7 @@
 -- The book of every start and after every call has 21 places and numbers that fit their bytes: what `book_bytes` and `book_history` say of books and of calls, of
 -- images and starts.
 -- Assumes nothing.
-use mathlib.Core.Bool.{Bool, true, false, cond}
-use mathlib.Core.List.{List}
-use Prim.Native.Nat.{ℕ, _+_, _*_, _<_}
-use native.Mathlib.Omega.{arith}
-use lib.Dec.{eqb, ltb}
+use Rattle.octets.proofs.Words.{Bool, true, false, cond, List, ℕ, _+_, _*_, _<_, arith, eqb, ltb}
 use Rattle.octets.specs.Layouts.{total, Fit, Bytes}
 use Rattle.octets.proofs.EachLaws.{each-tab}
 use Rattle.octets.proofs.ListLaws.{length-tab}

@@ -1,11 +1,6 @@
 -- Along calls from C the buffer holds the bytes of the book that the same calls give on values; so what is refused, and what is within rule, is seen there.
 -- Assumes nothing.
-use mathlib.Core.Path.{_≡_, refl, sym, ap, _∙_}
-use mathlib.Core.List.{List, [], _∷_}
-use Prim.Native.Nat.{ℕ}
-use borrow.Author.Tests.{eq-eqb}
-use lib.Dec.{eqb}
-use lib.ListN.{length}
+use Rattle.octets.proofs.Words.{_≡_, refl, sym, ap, _∙_, List, [], _∷_, ℕ, eq-eqb, eqb, length}
 use Rattle.octets.specs.Calls as calls
 use Rattle.octets.specs.Calls.{stored}
 use Rattle.octets.proofs.CallLaws.{after-refused, left-as, stored-none}

@@ -1,10 +1,6 @@
 -- Joining, asking, sending and holding, of the bytes: the theorems of `book_history` on books, carried to the buffer.
 -- Assumes nothing.
-use mathlib.Core.Path.{_≡_, refl, sym, ap, ap₂, subst, _∙_}
-use mathlib.Core.Bool.{true, not, _&&_}
-use mathlib.Core.List.{List, [], _∷_, _++_, map-append}
-use Prim.Native.Nat.{ℕ, _≤_}
-use lib.Dec.{eqb}
+use Rattle.octets.proofs.Words.{_≡_, refl, sym, ap, ap₂, subst, _∙_, true, not, _&&_, List, [], _∷_, _++_, map-append, ℕ, _≤_, eqb}
 use Rattle.octets.specs.Lists.{every}
 use Rattle.octets.proofs.EachLaws.{each-append}
 use Rattle.moments.specs.Moments.{inOrder}

@@ -1,10 +1,6 @@
 -- A next hop that a call from C answers was heard.
 -- Assumes nothing.
-use mathlib.Core.Path.{_≡_, refl, sym, subst, _∙_}
-use mathlib.Core.Bool.{Bool, true, false}
-use mathlib.Core.List.{List, [], _∷_}
-use Prim.Native.Nat.{ℕ}
-use lib.ListN.{getD}
+use Rattle.octets.proofs.Words.{_≡_, refl, sym, subst, _∙_, Bool, true, false, List, [], _∷_, ℕ, getD}
 use Rattle.moments.specs.Elapsed.{Clock, started, nowAt}
 use Rattle.route_table.specs.declared.table.Table.{Table}
 use Rattle.route_table.specs.Tables.{freshOf}

@@ -1,13 +1,6 @@
 -- A call on a table whose numbers fit their bytes leaves such a table.
 -- Assumes nothing.
-use mathlib.Core.Path.{_≡_, refl}
-use mathlib.Core.Bool.{true, false, not, and-eq-true-iff}
-use mathlib.Core.List.{List, [], _∷_, map}
-use Prim.Native.Nat.{ℕ, _≤_, _<_}
-use native.Mathlib.Omega.{arith}
-use borrow.Author.Tests.{eq-eqb, lt-ltb}
-use lib.Dec.{eqb, leb, ltb}
-use lib.ListN.{length, length-map}
+use Rattle.octets.proofs.Words.{_≡_, refl, true, false, not, and-eq-true-iff, List, [], _∷_, map, ℕ, _≤_, _<_, arith, eq-eqb, lt-ltb, eqb, leb, ltb, length, length-map}
 use Rattle.octets.specs.Answers.{reason, first}
 use Rattle.octets.specs.Layouts.{Bytes}
 use Rattle.octets.specs.Lists.{every}

@@ -1,14 +1,6 @@
 -- Along calls from C the buffer holds the bytes of the state that the same calls give on values.
 -- Assumes nothing.
-use mathlib.Core.Path.{_≡_, refl, sym, ap, _∙_}
-use mathlib.Core.Bool.{Bool}
-use mathlib.Core.List.{List, [], _∷_}
-use Prim.Native.Nat.{ℕ, _<_, _≤_}
-use native.Mathlib.Decide.{ℕ-discrete}
-use native.Mathlib.Omega.{arith}
-use borrow.Author.Tests.{eqb-true, leb-true}
-use lib.Dec.{eqb}
-use lib.ListN.{length}
+use Rattle.octets.proofs.Words.{_≡_, refl, sym, ap, _∙_, Bool, List, [], _∷_, ℕ, _<_, _≤_, ℕ-discrete, arith, eqb-true, leb-true, eqb, length}
 use Rattle.octets.proofs.CallLaws.{after-accepted, after-refused, left-as, stored-none}
 use Rattle.unit_life.specs.declared.state.State.{State}
 use Rattle.unit_life.specs.declared.state.Lived.{Lived}

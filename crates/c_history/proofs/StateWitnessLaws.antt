@@ -1,10 +1,6 @@
 -- The lives that are not empty, computed.
 -- Assumes nothing.
-use mathlib.Core.Path.{_≡_, refl, ap, _∙_}
-use mathlib.Core.Bool.{false}
-use mathlib.Core.List.{List, [], _∷_}
-use Prim.Native.Nat.{ℕ}
-use native.Mathlib.Omega.{arith}
+use Rattle.octets.proofs.Words.{_≡_, refl, ap, _∙_, false, List, [], _∷_, ℕ, arith}
 use Rattle.octets.specs.Numbers.{num, digits}
 use Rattle.moments.specs.Moments.{ageAt, inOrder}
 use Rattle.unit_life.specs.States.{kindAfter, tickTo}

@@ -1,11 +1,6 @@
 -- Along calls from C the buffer holds the bytes of the table that the same calls give on values.
 -- Assumes nothing.
-use mathlib.Core.Path.{_≡_, refl, sym, ap, subst, _∙_}
-use mathlib.Core.List.{List, [], _∷_, map}
-use Prim.Native.Nat.{ℕ, _%_, _^_}
-use borrow.Author.Tests.{eq-eqb, ne-eqb}
-use lib.Dec.{eqb}
-use lib.ListN.{length}
+use Rattle.octets.proofs.Words.{_≡_, refl, sym, ap, subst, _∙_, List, [], _∷_, map, ℕ, _%_, _^_, eq-eqb, ne-eqb, eqb, length}
 use Rattle.octets.specs.Calls as calls
 use Rattle.octets.specs.Calls.{stored}
 use Rattle.octets.proofs.CallLaws.{left-as, stored-none}

@@ -1,11 +1,6 @@
 -- What the calls from C that answer requests, forward beacons and write pages leave is read.
 -- Assumes nothing.
-use mathlib.Core.Path.{_≡_, ap, _∙_}
-use mathlib.Core.Bool.{cond}
-use mathlib.Core.List.{List, [], _∷_}
-use Prim.Native.Nat.{ℕ}
-use lib.Dec.{eqb}
-use lib.ListN.{length, getD}
+use Rattle.octets.proofs.Words.{_≡_, ap, _∙_, cond, List, [], _∷_, ℕ, eqb, length, getD}
 use Rattle.octets.specs.Answers.{Said, accepted, refused}
 use Rattle.octets.proofs.CallLaws.{after-accepted, stored-none}
 use Rattle.octets.specs.Told.{writtenIn}

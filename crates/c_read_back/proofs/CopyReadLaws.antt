@@ -1,12 +1,6 @@
 -- The copy of a data frame is read as the frame with its ttl one less.
 -- Assumes nothing.
-use mathlib.Core.Path.{_≡_, refl, sym, subst, _∙_}
-use mathlib.Core.Bool.{false}
-use mathlib.Core.List.{List}
-use Prim.Native.Nat.{ℕ}
-use native.Mathlib.Omega.{arith}
-use lib.ListN.{length, take}
-use lib.Seq.{sets}
+use Rattle.octets.proofs.Words.{_≡_, refl, sym, subst, _∙_, false, List, ℕ, arith, length, take, sets}
 use Rattle.octets.specs.Layouts.{Fit, Bytes}
 use Rattle.octets.proofs.LayoutLaws.{fields-fit}
 use Rattle.octets.proofs.StoreLaws.{take-sets}

@@ -1,13 +1,6 @@
 -- A page is read as an update from this unit, with the entries of its rows.
 -- Assumes nothing.
-use mathlib.Core.Path.{_≡_, refl, sym, ap, ap₂, _∙_}
-use mathlib.Core.Bool.{Bool, true, false, _&&_, _||_, cond, and-eq-true-iff}
-use mathlib.Core.List.{List, [], _∷_, map}
-use Prim.Native.Nat.{ℕ, _+_, _*_, _≤_, _<_}
-use native.Mathlib.Omega.{arith}
-use borrow.Author.Tests.{leb-true, lt-ltb, le-ltb, ltb-true, ltb-false, not-false}
-use lib.Dec.{eqb, leb, ltb}
-use lib.ListN.{length, getD, take, drop, length-take, length-map, List·getD-map}
+use Rattle.octets.proofs.Words.{_≡_, refl, sym, ap, ap₂, _∙_, Bool, true, false, _&&_, _||_, cond, and-eq-true-iff, List, [], _∷_, map, ℕ, _+_, _*_, _≤_, _<_, arith, leb-true, lt-ltb, le-ltb, ltb-true, ltb-false, not-false, eqb, leb, ltb, length, getD, take, drop, length-take, length-map, List·getD-map}
 use Rattle.octets.specs.Answers.{Said, accepted}
 use Rattle.octets.specs.Layouts.{Fit}
 use Rattle.octets.specs.Lists.{every}

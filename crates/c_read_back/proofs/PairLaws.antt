@@ -1,15 +1,6 @@
 -- The two calls on frames, one after the other.
 -- Assumes nothing.
-use mathlib.Core.Path.{_≡_, refl, sym, ap, ap₂, subst, _∙_}
-use mathlib.Core.Bool.{Bool, true, _&&_, and-eq-true-iff}
-use mathlib.Core.List.{List, [], _∷_, _++_, append-nil, List·Memᴰ}
-use Prim.Native.Nat.{ℕ, _+_, _≤_, _<_, _-_}
-use native.Mathlib.Omega.{arith}
-use borrow.Author.Tests.{eqb-true, le-ltb, lt-ltb, ltb-false, not-false, ne-eqb}
-use native.Mathlib.Decide.{ℕ-discrete}
-use lib.Dec.{ltb}
-use lib.ListN.{length, getD, take, drop, length-append, List·getD-append}
-use lib.Seq.{sets, sets-eq}
+use Rattle.octets.proofs.Words.{_≡_, refl, sym, ap, ap₂, subst, _∙_, Bool, true, _&&_, and-eq-true-iff, List, [], _∷_, _++_, append-nil, List·Memᴰ, ℕ, _+_, _≤_, _<_, _-_, ℕ-discrete, arith, eqb-true, le-ltb, lt-ltb, ltb-false, not-false, ne-eqb, ltb, length, getD, take, drop, length-append, List·getD-append, sets, sets-eq}
 use Rattle.octets.specs.Answers.{Said, accepted, reason, refusing}
 use Rattle.octets.specs.Calls.{after, WriteLeft, writeLeft}
 use Rattle.octets.specs.Layouts.{Fit, Bytes}

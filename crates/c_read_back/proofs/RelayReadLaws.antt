@@ -1,14 +1,6 @@
 -- What `braidlark_relay` tells: a next hop, and the copy in the buffer; or none, and the payload in the frame.
 -- Assumes nothing.
-use mathlib.Core.Path.{_≡_, refl, sym, ap, subst, _∙_}
-use mathlib.Core.Bool.{Bool, true, false, cond, and-eq-true-iff}
-use mathlib.Core.List.{List}
-use mathlib.Core.Logic.{⊎-elim}
-use Prim.Native.Nat.{ℕ}
-use borrow.Author.Tests.{eq-eqb, eqb-true}
-use lib.Dec.{eqb}
-use lib.ListN.{length, take, drop}
-use lib.Seq.{sets}
+use Rattle.octets.proofs.Words.{_≡_, refl, sym, ap, subst, _∙_, Bool, true, false, cond, and-eq-true-iff, List, ⊎-elim, ℕ, eq-eqb, eqb-true, eqb, length, take, drop, sets}
 use Rattle.octets.specs.Calls.{after}
 use Rattle.octets.proofs.CallLaws.{stored-none}
 use Rattle.frame_kinds.specs.Shape.{placeOf}

@@ -1,13 +1,6 @@
 -- The responses to an accepted request are read as what the unit was granted.
 -- Assumes nothing.
-use mathlib.Core.Path.{_≡_, refl, sym, ap, ap₂, _∙_}
-use mathlib.Core.Bool.{true, cond}
-use mathlib.Core.List.{List, [], _∷_, _++_, map, append-assoc}
-use Prim.Native.Nat.{ℕ, _+_, _/_, _≤_, _<_}
-use native.Mathlib.Omega.{arith}
-use borrow.Author.Tests.{lt-ltb, ltb-false}
-use lib.ListN.{length, take, drop, length-take}
-use lib.Seq.{sets, sets-eq, take-at, drop-at}
+use Rattle.octets.proofs.Words.{_≡_, refl, sym, ap, ap₂, _∙_, true, cond, List, [], _∷_, _++_, map, append-assoc, ℕ, _+_, _/_, _≤_, _<_, arith, lt-ltb, ltb-false, length, take, drop, length-take, sets, sets-eq, take-at, drop-at}
 use Rattle.octets.specs.Answers.{Said, accepted}
 use Rattle.octets.specs.Layouts.{Fit}
 use Rattle.octets.proofs.CallLaws.{after-accepted}

@@ -1,12 +1,6 @@
 -- The calls on a request to join and on one for slots, from what the core answers.
 -- Assumes nothing.
-use mathlib.Core.Path.{_≡_, ap, _∙_}
-use mathlib.Core.List.{List}
-use Prim.Native.Nat.{ℕ, _≤_}
-use native.Mathlib.Omega.{arith}
-use borrow.Author.Tests.{eq-eqb, ne-eqb}
-use lib.Dec.{eqb}
-use lib.ListN.{length}
+use Rattle.octets.proofs.Words.{_≡_, ap, _∙_, List, ℕ, _≤_, arith, eq-eqb, ne-eqb, eqb, length}
 use Rattle.octets.specs.Calls.{after}
 use Rattle.octets.proofs.CallLaws.{after-refused, WrittenBack, filled}
 use Rattle.octets.proofs.TestLaws.{of-choice}

@@ -1,11 +1,6 @@
 -- The calls on frames that go on, from what the core answers.
 -- Assumes nothing.
-use mathlib.Core.Path.{_≡_, sym, ap, _∙_}
-use mathlib.Core.Bool.{Bool, true, false, cond}
-use mathlib.Core.List.{List}
-use Prim.Native.Nat.{ℕ, _≤_}
-use native.Mathlib.Omega.{arith}
-use borrow.Author.Tests.{ne-eqb}
+use Rattle.octets.proofs.Words.{_≡_, sym, ap, _∙_, Bool, true, false, cond, List, ℕ, _≤_, arith, ne-eqb}
 use Rattle.octets.specs.Calls.{after}
 use Rattle.frame_kinds.specs.Shape.{placeOf}
 use Rattle.frame_traffic.specs.Traffic.{dataKind}

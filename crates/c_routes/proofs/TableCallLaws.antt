@@ -1,13 +1,6 @@
 -- The calls on a stored table, from what the core answers.
 -- Assumes nothing.
-use mathlib.Core.Path.{_≡_, refl, sym, ap, _∙_}
-use mathlib.Core.Bool.{Bool, true, false, not, cond}
-use mathlib.Core.List.{List, []}
-use Prim.Native.Nat.{ℕ}
-use native.Mathlib.Omega.{arith}
-use borrow.Author.Tests.{eq-eqb, ne-eqb, eqb-true}
-use lib.Dec.{eqb}
-use lib.ListN.{length}
+use Rattle.octets.proofs.Words.{_≡_, sym, ap, _∙_, Bool, true, false, not, cond, List, [], ℕ, arith, eq-eqb, ne-eqb, eqb-true, eqb, length}
 use Rattle.octets.specs.Calls.{stored, after}
 use Rattle.octets.proofs.CallLaws.{stored-none, stored-number}
 use Rattle.route_table.specs.declared.table.Changed.{Changed}

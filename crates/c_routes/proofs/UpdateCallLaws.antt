@@ -1,12 +1,6 @@
 -- The calls on routing updates, from what the core answers.
 -- Assumes nothing.
-use mathlib.Core.Path.{_≡_, refl, sym, ap, _∙_}
-use mathlib.Core.Bool.{Bool, true, false}
-use mathlib.Core.List.{List, []}
-use Prim.Native.Nat.{ℕ, _≤_}
-use native.Mathlib.Omega.{arith}
-use borrow.Author.Tests.{ne-eqb}
-use lib.ListN.{length}
+use Rattle.octets.proofs.Words.{_≡_, refl, sym, ap, _∙_, Bool, true, false, List, [], ℕ, _≤_, arith, ne-eqb, length}
 use Rattle.octets.specs.Answers.{refused}
 use Rattle.octets.specs.Calls.{writeLeft}
 use Rattle.octets.specs.declared.answers.Refusal.{Refusal}

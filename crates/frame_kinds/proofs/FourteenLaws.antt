@@ -1,12 +1,6 @@
 -- Reasons that never give 14, whatever is asked: those of reading.
 -- Assumes nothing.
-use mathlib.Core.Path.{_≡_, refl}
-use mathlib.Core.Bool.{Bool, true, false, not}
-use mathlib.Core.List.{List}
-use Prim.Native.Nat.{ℕ}
-use native.Mathlib.Omega.{arith}
-use borrow.Author.Tests.{ne-eqb}
-use lib.Dec.{eqb}
+use Rattle.octets.proofs.Words.{_≡_, refl, Bool, true, false, not, List, ℕ, arith, ne-eqb, eqb}
 use Rattle.octets.specs.Answers.{refusing}
 use Rattle.octets.proofs.AnswerLaws.{Where}
 use Rattle.frame_kinds.specs.Reading.{refusalAs}

@@ -1,13 +1,6 @@
 -- A writer that is refused, one that is not, and a frame that is stored with its checksum.
 -- Assumes nothing.
-use mathlib.Core.Path.{_≡_, refl, sym, ap, _∙_}
-use mathlib.Core.Bool.{Bool}
-use mathlib.Core.List.{List, [], _∷_, _++_}
-use Prim.Native.Nat.{ℕ, suc, _+_, _<_}
-use native.Mathlib.Nat.{zero-add}
-use native.Mathlib.Omega.{arith}
-use lib.ListN.{length, take, set, length-append}
-use lib.Seq.{sets}
+use Rattle.octets.proofs.Words.{_≡_, refl, sym, ap, _∙_, Bool, List, [], _∷_, _++_, ℕ, suc, _+_, _<_, zero-add, arith, length, take, set, length-append, sets}
 use Rattle.octets.specs.Layouts.{total, bytes}
 use Rattle.octets.specs.Sums.{xors}
 use Rattle.octets.specs.Answers.{accepted}

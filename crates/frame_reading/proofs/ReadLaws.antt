@@ -1,9 +1,6 @@
 -- An arm of a match on the type: what is said of the kind is what its type says.
 -- Assumes nothing.
-use mathlib.Core.Path.{_≡_, refl, sym, ap, _∙_}
-use mathlib.Core.Bool.{Bool, true, false, cond}
-use mathlib.Core.List.{List, [], _∷_}
-use Prim.Native.Nat.{ℕ}
+use Rattle.octets.proofs.Words.{_≡_, refl, sym, ap, _∙_, Bool, true, false, cond, List, [], _∷_, ℕ}
 use Rattle.octets.specs.Answers.{accepted, refused, unless}
 use Rattle.octets.specs.Numbers.{num}
 use Rattle.frame_kinds.specs.Reading.{misfit, readRefusal, refusalAs, unknownRefusal, readAs, readUnknown}

@@ -1,12 +1,6 @@
 -- Numbers whose type is that of a kind: what the writer does with them is what the kind's definition says.
 -- Assumes nothing.
-use mathlib.Core.Path.{_≡_, refl, sym, ap, ap₂, _∙_}
-use mathlib.Core.Bool.{Bool, true, false, _&&_, false≢true}
-use mathlib.Core.List.{List, [], _∷_, _++_, List·Memᴰ}
-use mathlib.Core.Logic.{⊎-elim}
-use Prim.Native.Nat.{ℕ, suc, _+_, _≤_, _<_}
-use native.Mathlib.Omega.{arith}
-use lib.ListN.{length, getD, take}
+use Rattle.octets.proofs.Words.{_≡_, refl, sym, ap, ap₂, _∙_, Bool, true, false, _&&_, false≢true, List, [], _∷_, _++_, List·Memᴰ, ⊎-elim, ℕ, suc, _+_, _≤_, _<_, arith, length, getD, take}
 use Rattle.octets.specs.Layouts.{total, bytes, Fit}
 use Rattle.octets.specs.declared.answers.Written.{Written}
 use Rattle.octets.specs.Told.{Wrote, wrote}

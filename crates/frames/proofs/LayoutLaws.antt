@@ -1,15 +1,6 @@
 -- The layout of a type: at most 15 fields, and where the array has them.
 -- Assumes nothing.
-use mathlib.Core.Path.{_≡_, refl, sym, ap, _∙_}
-use mathlib.Core.Bool.{Bool, true}
-use mathlib.Core.List.{List, [], _∷_, _++_}
-use mathlib.Core.Logic.{⊎-elim}
-use Prim.Native.Nat.{ℕ, _+_, _-_, _≤_}
-use native.Mathlib.Omega.{arith}
-use borrow.Author.Tests.{leb-true}
-use lib.Dec.{leb}
-use lib.ListN.{length, take, replicate, length-append}
-use lib.Seq.{take-at}
+use Rattle.octets.proofs.Words.{_≡_, refl, sym, ap, _∙_, Bool, true, List, [], _∷_, _++_, ⊎-elim, ℕ, _+_, _-_, _≤_, arith, leb-true, leb, length, take, replicate, length-append, take-at}
 use Rattle.octets.specs.Layouts.{total, bytes}
 use Rattle.octets.specs.Lists.{every}
 use Rattle.octets.specs.Told.{Wrote}

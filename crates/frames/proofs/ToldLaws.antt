@@ -1,11 +1,6 @@
 -- What an answer says is said by no other answer.
 -- Assumes nothing.
-use mathlib.Core.Path.{_≡_, refl}
-use mathlib.Core.Bool.{cond}
-use mathlib.Core.List.{List, [], _∷_}
-use Prim.Native.Nat.{ℕ}
-use lib.Dec.{eqb}
-use lib.ListN.{getD}
+use Rattle.octets.proofs.Words.{_≡_, refl, cond, List, [], _∷_, ℕ, eqb, getD}
 use Rattle.octets.specs.Answers.{OneToOne}
 use Rattle.octets.proofs.AnswerLaws.{one-by-return}
 use Rattle.frames.specs.declared.answers.Frame.{Frame}

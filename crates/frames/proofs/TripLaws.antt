@@ -1,15 +1,6 @@
 -- The round trips, proved once over a kind.
 -- Assumes nothing.
-use mathlib.Core.Path.{_≡_, refl, sym, ap, _∙_}
-use mathlib.Core.Bool.{Bool, true, false, not, _||_, cond}
-use mathlib.Core.List.{List, [], _∷_, _++_, append-assoc, List·Memᴰ}
-use mathlib.Core.Logic.{⊎-elim}
-use Prim.Native.Nat.{ℕ, _+_, _≤_, _<_}
-use native.Mathlib.Omega.{arith}
-use borrow.Author.Tests.{eq-eqb, ne-eqb, le-ltb, eqb-true}
-use lib.Dec.{eqb, ltb}
-use lib.ListN.{length, take, drop, length-append}
-use lib.Seq.{take-at, drop-at, take-add}
+use Rattle.octets.proofs.Words.{_≡_, refl, sym, ap, _∙_, Bool, true, false, not, _||_, cond, List, [], _∷_, _++_, append-assoc, List·Memᴰ, ⊎-elim, ℕ, _+_, _≤_, _<_, arith, eq-eqb, ne-eqb, le-ltb, eqb-true, eqb, ltb, length, take, drop, length-append, take-at, drop-at, take-add}
 use Rattle.octets.specs.Answers.{Said, accepted, unless}
 use Rattle.octets.specs.Layouts.{total, fields, bytes, Fit, Bytes}
 use Rattle.octets.specs.Numbers.{num}

@@ -1,11 +1,6 @@
 -- What the rule of an address says of a number's size.
 -- Assumes nothing.
-use mathlib.Core.Path.{_≡_}
-use mathlib.Core.Bool.{true, and-eq-true-iff}
-use Prim.Native.Nat.{ℕ, _<_}
-use native.Mathlib.Omega.{arith}
-use borrow.Author.Tests.{leb-true}
-use lib.Dec.{leb}
+use Rattle.octets.proofs.Words.{_≡_, true, and-eq-true-iff, ℕ, _<_, arith, leb-true, leb}
 use Rattle.octets.specs.Addresses.{address}
 
 -- an address is not 0, and has 16 bits

@@ -1,12 +1,6 @@
 -- What holds of each element of a list, or of some, when the list is built, changed, cut, joined or tested.
 -- Assumes nothing.
-use mathlib.Core.Path.{_≡_, refl}
-use mathlib.Core.Bool.{Bool, true}
-use mathlib.Core.List.{List, [], _∷_, _++_, map}
-use mathlib.Core.Logic.{inl, inr, ⊎-elim}
-use Prim.Native.Nat.{ℕ, zero, suc, _<_}
-use native.Mathlib.Nat.{not-suc-le-zero, le-of-suc-le-suc}
-use lib.ListN.{length, getD, set, take, drop, replicate}
+use Rattle.octets.proofs.Words.{_≡_, refl, Bool, true, List, [], _∷_, _++_, map, inl, inr, ⊎-elim, ℕ, zero, suc, _<_, not-suc-le-zero, le-of-suc-le-suc, length, getD, set, take, drop, replicate}
 use Rattle.octets.specs.Lists.{tab, every, Each, Some}
 
 module _ {A : Type 0} (P : A → Type 0) where

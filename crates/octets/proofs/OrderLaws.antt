@@ -1,14 +1,6 @@
 -- An element put at its place in a list that ascends by a key.
 -- Assumes nothing.
-use mathlib.Core.Path.{_≡_, refl}
-use mathlib.Core.Bool.{Bool, true, and-eq-true-iff}
-use mathlib.Core.List.{List, [], _∷_}
-use Prim.Native.Nat.{ℕ, suc, _+_, _≤_, _<_}
-use native.Mathlib.Decide.{ℕ-discrete, decLt}
-use native.Mathlib.Omega.{arith}
-use borrow.Author.Tests.{lt-ltb, le-ltb, ltb-true, eq-eqb, ne-eqb}
-use lib.Dec.{ltb}
-use lib.ListN.{length}
+use Rattle.octets.proofs.Words.{_≡_, refl, Bool, true, and-eq-true-iff, List, [], _∷_, ℕ, suc, _+_, _≤_, _<_, ℕ-discrete, decLt, arith, lt-ltb, le-ltb, ltb-true, eq-eqb, ne-eqb, ltb, length}
 use Rattle.octets.specs.Lists.{every}
 use Rattle.octets.specs.Ordered.{ascendingBy, putBy}
 

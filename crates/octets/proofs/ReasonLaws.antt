@@ -1,12 +1,6 @@
 -- Reasons in two parts: those in front, and those behind them.
 -- Assumes nothing.
-use mathlib.Core.Path.{_≡_, refl, sym, _∙_}
-use mathlib.Core.Bool.{Bool, true, false, not, cond, false≢true}
-use mathlib.Core.List.{List, [], _∷_, _++_}
-use Prim.Native.Nat.{ℕ}
-use native.Mathlib.Decide.{ℕ-discrete}
-use borrow.Author.Tests.{eq-eqb, ne-eqb}
-use lib.Dec.{eqb}
+use Rattle.octets.proofs.Words.{_≡_, refl, sym, _∙_, Bool, true, false, not, cond, false≢true, List, [], _∷_, _++_, ℕ, ℕ-discrete, eq-eqb, ne-eqb, eqb}
 use Rattle.octets.specs.Answers.{Reason, refusing, first}
 use Rattle.octets.proofs.AnswerLaws.{Numbered, NoneHolds}
 

@@ -1,7 +1,6 @@
 -- Tests joined by "or", and choices: what follows from a test follows from what it was made of.
 -- Assumes nothing.
-use mathlib.Core.Path.{_≡_, refl, sym}
-use mathlib.Core.Bool.{Bool, true, false, not, _||_, cond, false≢true}
+use Rattle.octets.proofs.Words.{_≡_, refl, sym, Bool, true, false, not, _||_, cond, false≢true}
 
 pub or-elim : (R : Type 0) (a b : Bool) → (a || b) ≡ true → (a ≡ true → R) → (b ≡ true → R) → R
 or-elim R true b e f g = f refl

@@ -1,8 +1,6 @@
 -- No two answers meet a contract: each view can be undone.
 -- Assumes nothing.
-use mathlib.Core.Path.{_≡_, refl, sym, ap, ap₂, _∙_}
-use mathlib.Core.List.{List, [], _∷_, map}
-use Prim.Native.Nat.{ℕ}
+use Rattle.octets.proofs.Words.{_≡_, refl, sym, ap, ap₂, _∙_, List, [], _∷_, map, ℕ}
 use Rattle.octets.specs.Answers.{Said, accepted, OneToOne}
 use Rattle.octets.specs.Told.{Wrote, toldWritten}
 use Rattle.slot_sets.specs.Sets.{slotsOf, maskOf}

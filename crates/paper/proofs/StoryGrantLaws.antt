@@ -1,9 +1,6 @@
 -- What the answers of the story grant to each unit, call by call.
 -- Assumes nothing.
-use mathlib.Core.Path.{_≡_, refl, ap, _∙_}
-use mathlib.Core.List.{List, [], _∷_, map}
-use Prim.Native.Nat.{ℕ}
-use lib.ListN.{drop}
+use Rattle.octets.proofs.Words.{_≡_, refl, ap, _∙_, List, [], _∷_, map, ℕ, drop}
 use Rattle.octets.specs.Lists.{every}
 use Rattle.octets.specs.Numbers.{num, digits}
 use Rattle.octets.specs.Sums.{xors}

@@ -1,9 +1,6 @@
 -- The story step by step, from one book that is written out to the next.
 -- Assumes nothing.
-use mathlib.Core.Path.{_≡_, refl}
-use mathlib.Core.List.{List, [], _∷_}
-use Prim.Native.Nat.{ℕ}
-use lib.ListN.{replicate}
+use Rattle.octets.proofs.Words.{_≡_, refl, List, [], _∷_, ℕ, replicate}
 use Rattle.octets.specs.Lists.{every}
 use Rattle.octets.specs.Numbers.{num, digits}
 use Rattle.octets.specs.Sums.{xors}

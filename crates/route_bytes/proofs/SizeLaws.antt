@@ -1,13 +1,6 @@
 -- Tables whose numbers fit their bytes: those that bytes hold, and those that are made of rows within rule, if the numbers fit of which the rule says nothing.
 -- Assumes nothing.
-use mathlib.Core.Path.{_≡_, refl}
-use mathlib.Core.Bool.{Bool, true, false, _&&_, cond, and-eq-true-iff}
-use mathlib.Core.List.{List, [], _∷_, _++_}
-use Prim.Native.Nat.{ℕ, _+_, _*_, _-_, _≤_, _<_}
-use native.Mathlib.Omega.{arith}
-use borrow.Author.Tests.{leb-true, le-leb, ltb-true, lt-ltb}
-use lib.Dec.{eqb, leb, ltb}
-use lib.ListN.{length, replicate}
+use Rattle.octets.proofs.Words.{_≡_, refl, Bool, true, false, _&&_, cond, and-eq-true-iff, List, [], _∷_, _++_, ℕ, _+_, _*_, _-_, _≤_, _<_, arith, leb-true, le-leb, ltb-true, lt-ltb, eqb, leb, ltb, length, replicate}
 use Rattle.octets.specs.Layouts.{Bytes}
 use Rattle.octets.specs.Lists.{every, Each}
 use Rattle.octets.proofs.LayoutLaws.{fields-fit}

@@ -1,15 +1,6 @@
 -- The round trips of a table and its bytes.
 -- Assumes nothing.
-use mathlib.Core.Path.{_≡_, refl, sym, ap, ap₂, _∙_}
-use mathlib.Core.Bool.{Bool, true, false, _&&_, and-eq-true-iff}
-use mathlib.Core.List.{List, [], _∷_, map}
-use Prim.Native.Nat.{ℕ, _+_, _*_, _≤_, _<_}
-use native.Mathlib.Decide.{ℕ-discrete}
-use native.Mathlib.Omega.{arith}
-use borrow.Author.Tests.{eq-eqb, ne-eqb, eqb-true, leb-true}
-use lib.Dec.{eqb, leb}
-use lib.ListN.{length, getD, take, drop}
-use lib.Seq.{take-all, take-add}
+use Rattle.octets.proofs.Words.{_≡_, refl, sym, ap, ap₂, _∙_, Bool, true, false, _&&_, and-eq-true-iff, List, [], _∷_, map, ℕ, _+_, _*_, _≤_, _<_, ℕ-discrete, arith, eq-eqb, ne-eqb, eqb-true, leb-true, eqb, leb, length, getD, take, drop, take-all, take-add}
 use Rattle.octets.specs.Layouts.{fields, bytes, Bytes}
 use Rattle.octets.specs.Lists.{tab, every, Each}
 use Rattle.octets.specs.Numbers.{num}

@@ -1,14 +1,6 @@
 -- Forwarding a beacon, from what its parts say.
 -- Assumes nothing.
-use mathlib.Core.Path.{_≡_, refl, sym, ap, _∙_}
-use mathlib.Core.Bool.{Bool, true, false, not, _&&_, cond, and-eq-true-iff, false≢true}
-use mathlib.Core.List.{List, [], _∷_, _++_}
-use Prim.Native.Nat.{ℕ, _+_, _*_, _≤_, _<_}
-use native.Mathlib.Omega.{arith}
-use borrow.Author.Tests.{ne-eqb, eqb-true, ltb-true, ltb-false, leb-true, le-leb, not-false}
-use lib.Dec.{eqb, leb, ltb}
-use lib.ListN.{length}
-use lib.Seq.{sets}
+use Rattle.octets.proofs.Words.{_≡_, refl, sym, ap, _∙_, Bool, true, false, not, _&&_, cond, and-eq-true-iff, false≢true, List, [], _∷_, _++_, ℕ, _+_, _*_, _≤_, _<_, arith, ne-eqb, eqb-true, ltb-true, ltb-false, leb-true, le-leb, not-false, eqb, leb, ltb, length, sets}
 use Rattle.octets.specs.Answers.{Reason, reason, refusing, first}
 use Rattle.octets.proofs.AnswerLaws.{Numbered, refusing-numbered, none-holds}
 use Rattle.moments.specs.Moments.{inOrder}

@@ -1,13 +1,6 @@
 -- Freshness: a row that is not withdrawn is at least as old as the last accepted update from its next hop.
 -- Assumes nothing.
-use mathlib.Core.Path.{_≡_, refl, sym, ap, subst, _∙_}
-use mathlib.Core.Bool.{Bool, true, false, not, _||_, cond, and-eq-true-iff, false≢true}
-use mathlib.Core.List.{List, [], _∷_}
-use mathlib.Core.Logic.{⊎-elim}
-use Prim.Native.Nat.{ℕ, _+_, _≤_}
-use native.Mathlib.Omega.{arith}
-use borrow.Author.Tests.{le-leb, leb-true, not-true}
-use lib.Dec.{leb}
+use Rattle.octets.proofs.Words.{_≡_, refl, sym, ap, subst, _∙_, Bool, true, false, not, _||_, cond, and-eq-true-iff, false≢true, List, [], _∷_, ⊎-elim, ℕ, _+_, _≤_, arith, le-leb, leb-true, not-true, leb}
 use Rattle.octets.specs.Lists.{every}
 use Rattle.octets.proofs.AddressLaws.{address-some}
 use Rattle.moments.specs.Elapsed.{nowAt, Clock}

@@ -1,14 +1,6 @@
 -- One call after the other: what holds of a table and of when units were heard stays so.
 -- Assumes nothing.
-use mathlib.Core.Path.{_≡_, refl, sym, ap, subst, _∙_}
-use mathlib.Core.Bool.{Bool, true, false, _&&_, cond}
-use mathlib.Core.List.{List, [], _∷_, map}
-use Prim.Native.Nat.{ℕ, _+_}
-use native.Mathlib.Decide.{ℕ-discrete}
-use native.Mathlib.Omega.{arith}
-use borrow.Author.Tests.{eq-eqb, ne-eqb}
-use lib.Dec.{eqb}
-use lib.ListN.{length}
+use Rattle.octets.proofs.Words.{_≡_, refl, sym, ap, subst, _∙_, Bool, true, false, _&&_, cond, List, [], _∷_, map, ℕ, _+_, ℕ-discrete, arith, eq-eqb, ne-eqb, eqb, length}
 use Rattle.octets.specs.Lists.{every}
 use Rattle.octets.proofs.ListLaws.{every-on, every-both, every-map}
 use Rattle.octets.proofs.EachLaws.{each-all}

@@ -1,15 +1,8 @@
 -- The theorems on tables: freshness, the rule, gone rows.
 -- Assumes nothing.
-use mathlib.Core.Path.{_≡_, sym, ap, subst, _∙_}
-use mathlib.Core.Bool.{true, false, false≢true}
-use mathlib.Core.List.{List, [], _∷_}
-use Prim.Native.Nat.{ℕ}
-use native.Mathlib.Omega.{arith}
-use borrow.Author.Tests.{not-false}
-use lib.ListN.{length}
+use Rattle.octets.proofs.Words.{_≡_, sym, ap, subst, _∙_, true, false, false≢true, List, [], _∷_, ℕ, not-false, length}
 use Rattle.octets.specs.Answers.{first}
 use Rattle.octets.proofs.AnswerLaws.{unless-number, none-holds}
-use Rattle.octets.proofs.AnsweredLaws.{said-none}
 use Rattle.moments.specs.Elapsed.{Clock, nowAt}
 use Rattle.route_table.specs.declared.table.Table.{Table}
 use Rattle.route_table.specs.Tables.{withinRule}

@@ -1,10 +1,6 @@
 -- Along a history from a fresh table, 14 is only for a page that is not there.
 -- Assumes nothing.
-use mathlib.Core.Path.{_≡_, sym, ap, _∙_}
-use mathlib.Core.Bool.{true, not}
-use mathlib.Core.List.{List}
-use Prim.Native.Nat.{ℕ}
-use lib.ListN.{length}
+use Rattle.octets.proofs.Words.{_≡_, sym, ap, _∙_, true, not, List, ℕ, length}
 use Rattle.octets.proofs.AnswerLaws.{never-given, unless-number}
 use Rattle.frame_traffic.specs.Traffic.{dataKind, update}
 use Rattle.frame_beacons.specs.Beacons.{beacon}

@@ -1,8 +1,6 @@
 -- Elapsed time of a table is true time.
 -- Assumes nothing.
-use mathlib.Core.Path.{refl}
-use mathlib.Core.List.{map}
-use Prim.Native.Nat.{_%_, _^_}
+use Rattle.octets.proofs.Words.{refl, map, _%_, _^_}
 use Rattle.moments.proofs.ElapsedLaws.{true-time}
 use Rattle.route_table.specs.Tables.{freshOf}
 use Rattle.route_history.specs.TableCalls.{recorded, stepOf}

@@ -1,14 +1,6 @@
 -- The calls that change a table where it lies, from what its parts say.
 -- Assumes nothing.
-use mathlib.Core.Path.{_≡_, refl, sym, _∙_}
-use mathlib.Core.Bool.{Bool, true, false, not, cond, and-false, and-eq-true-iff}
-use mathlib.Core.List.{List, [], _∷_, _++_, map, append-nil}
-use Prim.Native.Nat.{ℕ, _+_, _*_, _-_, _≤_}
-use native.Mathlib.Omega.{arith}
-use borrow.Author.Tests.{ne-eqb}
-use lib.Dec.{eqb}
-use lib.ListN.{length, take, drop, replicate}
-use lib.Seq.{sets, sets-eq, length-sets, drop-at, length-take-le, drop-length}
+use Rattle.octets.proofs.Words.{_≡_, refl, sym, _∙_, Bool, true, false, not, cond, and-false, and-eq-true-iff, List, [], _∷_, _++_, map, append-nil, ℕ, _+_, _*_, _-_, _≤_, arith, ne-eqb, eqb, length, take, drop, replicate, sets, sets-eq, length-sets, drop-at, length-take-le, drop-length}
 use Rattle.octets.specs.Answers.{first}
 use Rattle.octets.specs.Layouts.{bytes}
 use Rattle.octets.specs.Lists.{every}

@@ -1,16 +1,11 @@
 -- The rows of a table that lies in bytes, place by place: one looked up, the standing ones gathered; and a lookup.
 -- Assumes nothing.
-use mathlib.Core.Path.{_≡_, refl, sym, _∙_}
-use mathlib.Core.Bool.{true, false, cond}
-use mathlib.Core.List.{List, []}
-use Prim.Native.Nat.{ℕ, _+_, _≤_, _<_}
-use native.Mathlib.Omega.{arith}
-use lib.ListN.{length, getD, drop, set}
+use Rattle.octets.proofs.Words.{_≡_, refl, sym, _∙_, true, false, cond, List, [], ℕ, _+_, _≤_, _<_, arith, length, getD, drop, set}
 use Rattle.octets.specs.Lists.{tab}
 use Rattle.octets.proofs.ListLaws.{length-tab, getD-tab}
 use Rattle.route_table.specs.declared.row.Row.{Row}
 use Rattle.route_table.specs.Rows.{none, stands, inUse, pad, standing, rowFor}
-use Rattle.route_table.specs.Tables.{rowsOf, foundOr, foundBy, lookupOf}
+use Rattle.route_table.specs.Tables.{foundOr, foundBy, lookupOf}
 use Rattle.route_table.proofs.LookupLaws.{looked-up, not-looked-up}
 use Rattle.route_table.proofs.RowLaws.{row-none, row-here, row-on, Gathered, gathered-end, gathered-last, gathered-skip, gathered-push}
 use Rattle.route_bytes.specs.TableBytes.{placeOf, rowsIn, tableIn, isTable, holdsTable}

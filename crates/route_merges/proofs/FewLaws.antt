@@ -1,13 +1,6 @@
 -- No update makes more than 48 rows of at most 48: a row in place of another adds none, and a new one is learned only where there is room.
 -- Assumes nothing.
-use mathlib.Core.Path.{_≡_, refl, ap}
-use mathlib.Core.Bool.{true}
-use mathlib.Core.List.{List, [], _∷_}
-use mathlib.Core.Logic.{⊎-elim}
-use Prim.Native.Nat.{ℕ, suc, _≤_, _<_}
-use native.Mathlib.Omega.{arith}
-use borrow.Author.Tests.{ne-eqb}
-use lib.ListN.{length}
+use Rattle.octets.proofs.Words.{_≡_, refl, ap, true, List, [], _∷_, ⊎-elim, ℕ, suc, _≤_, _<_, arith, ne-eqb, length}
 use Rattle.octets.specs.Lists.{Each}
 use Rattle.octets.proofs.OrderLaws.{by-place, put-length, put-ascending, ascending-rest}
 use Rattle.route_table.specs.declared.row.Row.{Row}

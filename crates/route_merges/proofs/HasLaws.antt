@@ -1,10 +1,6 @@
 -- The row for a destination when a row is put among others, or candidates are learned: none is taken away.
 -- Assumes nothing.
-use mathlib.Core.Path.{_≡_, refl, sym, _∙_}
-use mathlib.Core.List.{List, [], _∷_}
-use Prim.Native.Nat.{ℕ}
-use native.Mathlib.Decide.{ℕ-discrete}
-use native.Mathlib.Omega.{arith}
+use Rattle.octets.proofs.Words.{_≡_, refl, sym, _∙_, List, [], _∷_, ℕ, ℕ-discrete, arith}
 use Rattle.octets.specs.Lists.{Each}
 use Rattle.octets.proofs.OrderLaws.{by-place}
 use Rattle.route_table.specs.declared.row.Row.{Row}

@@ -1,14 +1,6 @@
 -- What every row keeps while candidates are learned.
 -- Assumes nothing.
-use mathlib.Core.Path.{_≡_, refl, sym, _∙_}
-use mathlib.Core.Bool.{Bool, true, false, cond, and-eq-true-iff, and-false, false≢true}
-use mathlib.Core.List.{List, [], _∷_}
-use mathlib.Core.Logic.{_⊎_, inl, inr, ⊎-elim}
-use Prim.Native.Nat.{ℕ, _<_}
-use native.Mathlib.Omega.{arith}
-use borrow.Author.Tests.{eqb-true, ne-eqb, ltb-true}
-use lib.Dec.{eqb}
-use lib.ListN.{length}
+use Rattle.octets.proofs.Words.{_≡_, refl, sym, _∙_, Bool, true, false, cond, and-eq-true-iff, and-false, false≢true, List, [], _∷_, _⊎_, inl, inr, ⊎-elim, ℕ, _<_, arith, eqb-true, ne-eqb, ltb-true, eqb, length}
 use Rattle.octets.specs.Lists.{every, Each}
 use Rattle.octets.proofs.TestLaws.{of-cond}
 use Rattle.octets.proofs.OrderLaws.{put-every}

@@ -1,16 +1,6 @@
 -- The loop over an update's candidates: what is learned so far, with what is left to learn, is the whole.
 -- Assumes nothing.
-use mathlib.Core.Path.{_≡_, refl, sym, ap, _∙_}
-use mathlib.Core.Bool.{Bool, true, false}
-use mathlib.Core.List.{List, []}
-use Prim.Native.Nat.{ℕ, suc, _+_, _-_, _*_, _≤_, _<_}
-use native.Mathlib.Nat.{add-zero}
-use native.Mathlib.Numerals.{add-one}
-use native.Mathlib.Omega.{arith}
-use borrow.Author.Tests.{ltb-true}
-use lib.Dec.{eqb, ltb}
-use lib.ListN.{length, getD, take, drop, drop-of-length-le}
-use lib.Seq.{drop-cons}
+use Rattle.octets.proofs.Words.{_≡_, refl, sym, ap, _∙_, Bool, true, false, List, [], ℕ, suc, _+_, _-_, _*_, _≤_, _<_, add-zero, add-one, arith, ltb-true, eqb, ltb, length, getD, take, drop, drop-of-length-le, drop-cons}
 use mir.Val.{boolByte}
 use Rattle.octets.specs.Lists.{every}
 use Rattle.octets.proofs.ListLaws.{length-tab, getD-tab, every-at}

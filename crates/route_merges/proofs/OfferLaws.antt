@@ -1,13 +1,6 @@
 -- The candidates as the code walks them are those of the update: what stands for an entry that is passed over teaches nothing.
 -- Assumes nothing.
-use mathlib.Core.Path.{_≡_, refl, ap, _∙_}
-use mathlib.Core.Bool.{Bool, true, false, cond, and-eq-true-iff, and-false, or-true}
-use mathlib.Core.List.{List, [], _∷_, map}
-use Prim.Native.Nat.{ℕ, zero, suc, _+_, _<_}
-use native.Mathlib.Numerals.{add-one}
-use native.Mathlib.Omega.{arith}
-use borrow.Author.Tests.{ne-eqb, lt-ltb}
-use lib.ListN.{getD}
+use Rattle.octets.proofs.Words.{_≡_, refl, ap, _∙_, Bool, true, false, cond, and-eq-true-iff, and-false, or-true, List, [], _∷_, map, ℕ, zero, suc, _+_, _<_, add-one, arith, ne-eqb, lt-ltb, getD}
 use Rattle.octets.specs.Lists.{tab, every}
 use Rattle.octets.proofs.ListLaws.{length-tab, getD-tab, every-at, every-tab}
 use Rattle.octets.proofs.TestLaws.{of-choice}

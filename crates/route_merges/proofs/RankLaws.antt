@@ -1,12 +1,6 @@
 -- A row is in use and lower than a destination exactly if its rank is below the destination's limit.
 -- Assumes nothing.
-use mathlib.Core.Path.{_≡_, sym}
-use mathlib.Core.Bool.{_&&_, cond, and-assoc}
-use Prim.Native.Nat.{ℕ, _-_, _<_}
-use native.Mathlib.Decide.{ℕ-discrete, decLt}
-use native.Mathlib.Omega.{arith}
-use borrow.Author.Tests.{eq-eqb, ne-eqb, lt-ltb, le-ltb}
-use lib.Dec.{eqb, ltb}
+use Rattle.octets.proofs.Words.{_≡_, sym, _&&_, cond, and-assoc, ℕ, _-_, _<_, ℕ-discrete, decLt, arith, eq-eqb, ne-eqb, lt-ltb, le-ltb, eqb, ltb}
 use Rattle.route_table.specs.declared.row.Row.{Row}
 use Rattle.route_merges.specs.Searching.{goesOn}
 

@@ -1,15 +1,6 @@
 -- The search for a destination among ascending rows: it goes past the lower ones, and stops at the row itself or where it would stand.
 -- Assumes nothing.
-use mathlib.Core.Path.{_≡_, refl, sym, ap, _∙_}
-use mathlib.Core.Bool.{Bool, true, false, cond, and-eq-true-iff}
-use mathlib.Core.List.{List, [], _∷_, _++_}
-use Prim.Native.Nat.{ℕ, zero, suc, _+_, _≤_, _<_}
-use native.Mathlib.Numerals.{add-one}
-use native.Mathlib.Omega.{arith}
-use borrow.Author.Tests.{eq-eqb, ne-eqb, lt-ltb, ltb-true, ltb-false}
-use lib.Dec.{ltb}
-use lib.ListN.{length, getD, take, drop, set, length-append, drop-of-length-le}
-use lib.Seq.{drop-cons, take-suc, take-at, length-take-le, set-split}
+use Rattle.octets.proofs.Words.{_≡_, refl, sym, ap, _∙_, Bool, true, false, cond, and-eq-true-iff, List, [], _∷_, _++_, ℕ, zero, suc, _+_, _≤_, _<_, add-one, arith, eq-eqb, ne-eqb, lt-ltb, ltb-true, ltb-false, ltb, length, getD, take, drop, set, length-append, drop-of-length-le, drop-cons, take-suc, take-at, length-take-le, set-split}
 use Rattle.octets.specs.Lists.{every}
 use Rattle.octets.proofs.ListLaws.{every-snoc, every-on}
 use Rattle.octets.proofs.OrderLaws.{put-above, put-same, put-below, ascending-rest}

@@ -1,15 +1,6 @@
 -- One candidate: what it does to the list of rows is what it does at the place where its search stopped.
 -- Assumes nothing.
-use mathlib.Core.Path.{_≡_, refl, sym, ap, _∙_}
-use mathlib.Core.Bool.{Bool, true, false, not, _&&_, _||_, cond, and-eq-true-iff, and-false, false≢true, or-false}
-use mathlib.Core.List.{List, [], _∷_, _++_}
-use Prim.Native.Nat.{ℕ, _+_, _≤_, _<_}
-use native.Mathlib.Nat.{add-zero}
-use native.Mathlib.Decide.{ℕ-discrete, decLt}
-use native.Mathlib.Omega.{arith}
-use borrow.Author.Tests.{eq-eqb, ne-eqb, lt-ltb, ltb-true, eqb-true, eqb-false}
-use lib.Dec.{eqb, ltb}
-use lib.ListN.{length, getD, take, drop, set, length-set, List·getD-eq-default}
+use Rattle.octets.proofs.Words.{_≡_, refl, sym, ap, _∙_, Bool, true, false, not, _&&_, _||_, cond, and-eq-true-iff, and-false, false≢true, or-false, List, [], _∷_, _++_, ℕ, _+_, _≤_, _<_, ℕ-discrete, decLt, add-zero, arith, eq-eqb, ne-eqb, lt-ltb, ltb-true, eqb-true, eqb-false, eqb, ltb, length, getD, take, drop, set, length-set, List·getD-eq-default}
 use mir.Val.{boolByte}
 use Rattle.octets.specs.Lists.{every}
 use Rattle.octets.proofs.OrderLaws.{put-every, put-length, put-ascending}

@@ -1,15 +1,6 @@
 -- A page as an update, and the call that writes it, from what its parts say: the same for a table by value and for one that lies in bytes.
 -- Assumes nothing.
-use mathlib.Core.Path.{_≡_, refl, sym, ap, _∙_}
-use mathlib.Core.Bool.{true, false}
-use mathlib.Core.List.{List, [], _∷_, map}
-use Prim.Native.Nat.{ℕ, _+_, _*_, _≤_, _<_}
-use native.Mathlib.Decide.{decLt}
-use native.Mathlib.Omega.{arith}
-use borrow.Author.Tests.{ne-eqb, lt-ltb, le-ltb, ltb-false}
-use lib.Dec.{ltb}
-use lib.ListN.{length, take, drop, set, length-take, length-drop, length-map}
-use lib.Seq.{sets}
+use Rattle.octets.proofs.Words.{_≡_, refl, sym, ap, _∙_, true, false, List, [], _∷_, map, ℕ, _+_, _*_, _≤_, _<_, decLt, arith, ne-eqb, lt-ltb, le-ltb, ltb-false, ltb, length, take, drop, set, length-take, length-drop, length-map, sets}
 use Rattle.octets.specs.Answers.{first}
 use Rattle.octets.specs.Layouts.{bytes}
 use Rattle.octets.specs.Sums.{xors}
@@ -17,7 +8,7 @@ use Rattle.octets.specs.declared.answers.Written.{Written}
 use Rattle.octets.specs.Told.{wrote}
 use Rattle.octets.proofs.AnswerLaws.{none-holds}
 use Rattle.frame_traffic.specs.Traffic.{update}
-use Rattle.frame_kinds.proofs.StoredLaws.{frame-length, frame-put, sealed-stored}
+use Rattle.frame_kinds.proofs.StoredLaws.{frame-length, frame-put}
 use Rattle.route_table.specs.declared.row.Row.{Row}
 use Rattle.route_table.specs.declared.table.Table.{Table}
 use Rattle.route_table.specs.Rows.{standing}

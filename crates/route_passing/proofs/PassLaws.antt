@@ -1,12 +1,6 @@
 -- Passing a beacon on, from what its parts say.
 -- Assumes nothing.
-use mathlib.Core.Path.{_≡_, sym, ap, _∙_}
-use mathlib.Core.Bool.{true, not, cond}
-use mathlib.Core.List.{List, [], _∷_, _++_}
-use Prim.Native.Nat.{ℕ}
-use borrow.Author.Tests.{not-false}
-use lib.Dec.{eqb}
-use lib.ListN.{length}
+use Rattle.octets.proofs.Words.{_≡_, sym, ap, _∙_, true, not, cond, List, [], _∷_, _++_, ℕ, not-false, eqb, length}
 use Rattle.octets.specs.Answers.{reason, refusing, first}
 use Rattle.octets.proofs.AnswerLaws.{Numbered, refusing-numbered, none-holds}
 use Rattle.octets.proofs.ReasonLaws.{first-append, first-behind, first-refusing}

@@ -1,14 +1,6 @@
 -- Relaying, from what its parts say.
 -- Assumes nothing.
-use mathlib.Core.Path.{_≡_, refl, sym, ap, _∙_}
-use mathlib.Core.Bool.{Bool, true, false, not, _&&_, cond, and-eq-true-iff, false≢true}
-use mathlib.Core.List.{List, [], _∷_}
-use Prim.Native.Nat.{ℕ, _+_, _≤_}
-use native.Mathlib.Omega.{arith}
-use borrow.Author.Tests.{eq-eqb, eqb-true, leb-false, ltb-false, not-true, not-false}
-use lib.Dec.{eqb}
-use lib.ListN.{length}
-use lib.Seq.{sets}
+use Rattle.octets.proofs.Words.{_≡_, refl, sym, ap, _∙_, Bool, true, false, not, _&&_, cond, and-eq-true-iff, false≢true, List, [], _∷_, ℕ, _+_, _≤_, arith, eq-eqb, eqb-true, leb-false, ltb-false, not-true, not-false, eqb, length, sets}
 use Rattle.octets.specs.Answers.{Reason, first}
 use Rattle.octets.specs.Parts.{Lent, partOf}
 use Rattle.octets.proofs.AnswerLaws.{Numbered, refusing-numbered, none-holds}

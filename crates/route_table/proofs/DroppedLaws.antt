@@ -1,12 +1,6 @@
 -- A table without the rows that are gone answers as the table does.
 -- Assumes nothing.
-use mathlib.Core.Path.{_≡_, refl, sym, ap, _∙_}
-use mathlib.Core.Bool.{Bool, true, false, not, _&&_, cond, and-eq-true-iff, false≢true}
-use mathlib.Core.List.{List, [], _∷_, map}
-use Prim.Native.Nat.{ℕ}
-use native.Mathlib.Omega.{arith}
-use borrow.Author.Tests.{eq-eqb, ne-eqb, eqb-true, ltb-true, leb-false, lt-leb}
-use lib.Dec.{eqb, leb, ltb}
+use Rattle.octets.proofs.Words.{_≡_, refl, sym, ap, _∙_, Bool, true, false, not, _&&_, cond, and-eq-true-iff, false≢true, List, [], _∷_, map, ℕ, arith, eq-eqb, ne-eqb, eqb-true, ltb-true, leb-false, lt-leb, eqb, leb, ltb}
 use Rattle.octets.specs.Answers.{reason, first}
 use Rattle.octets.specs.Lists.{every}
 use Rattle.moments.specs.Moments.{ageAt, inOrder}

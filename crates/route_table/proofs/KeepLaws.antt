@@ -1,13 +1,6 @@
 -- Tables that are within rule: one whose places are filled from rows that are, a fresh one, and that of an accepted forget.
 -- Assumes nothing.
-use mathlib.Core.Path.{_≡_, refl, _∙_}
-use mathlib.Core.Bool.{Bool, true, false, not, _&&_, _||_, cond}
-use mathlib.Core.List.{List, [], _∷_, map}
-use Prim.Native.Nat.{ℕ}
-use native.Mathlib.Omega.{arith}
-use borrow.Author.Tests.{not-false}
-use lib.Dec.{eqb}
-use lib.ListN.{length-map}
+use Rattle.octets.proofs.Words.{_≡_, refl, _∙_, Bool, true, false, not, _&&_, _||_, cond, List, [], _∷_, map, ℕ, arith, not-false, eqb, length-map}
 use Rattle.octets.specs.Answers.{reason}
 use Rattle.octets.specs.Lists.{every}
 use Rattle.octets.proofs.AnswerLaws.{none-holds}

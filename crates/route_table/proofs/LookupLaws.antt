@@ -1,11 +1,6 @@
 -- A lookup, from the row for its destination.
 -- Assumes nothing.
-use mathlib.Core.Path.{_≡_, refl, ap}
-use mathlib.Core.Bool.{Bool, true, false, not, cond, and-eq-true-iff}
-use Prim.Native.Nat.{ℕ}
-use native.Mathlib.Omega.{arith}
-use borrow.Author.Tests.{eqb-true, not-false}
-use lib.Dec.{eqb}
+use Rattle.octets.proofs.Words.{_≡_, refl, ap, Bool, true, false, not, cond, and-eq-true-iff, ℕ, eqb-true, not-false, eqb}
 use Rattle.octets.proofs.AnswerLaws.{none-holds}
 use Rattle.moments.specs.Moments.{inOrder}
 use Rattle.octets.specs.Addresses.{address}

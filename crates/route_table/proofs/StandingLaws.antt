@@ -1,15 +1,6 @@
 -- Rows that stand: the loop that looks for a gone one, and the places when it finds none.
 -- Assumes nothing.
-use mathlib.Core.Path.{_≡_, refl, sym, ap, _∙_}
-use mathlib.Core.Bool.{Bool, true, false, cond, and-eq-true-iff}
-use mathlib.Core.List.{List, [], _∷_, _++_}
-use Prim.Native.Nat.{ℕ, zero, suc, _+_, _-_, _≤_, _<_}
-use native.Mathlib.Decide.{ℕ-discrete}
-use native.Mathlib.Omega.{arith}
-use borrow.Author.Tests.{eq-eqb, ne-eqb, lt-ltb, ltb-true}
-use lib.Dec.{eqb, ltb}
-use lib.ListN.{length, getD, drop, replicate, length-append, length-replicate}
-use lib.Seq.{drop-append-seam}
+use Rattle.octets.proofs.Words.{_≡_, refl, sym, ap, _∙_, Bool, true, false, cond, and-eq-true-iff, List, [], _∷_, _++_, ℕ, zero, suc, _+_, _-_, _≤_, _<_, ℕ-discrete, arith, eq-eqb, ne-eqb, lt-ltb, ltb-true, eqb, ltb, length, getD, drop, replicate, length-append, length-replicate, drop-append-seam}
 use Rattle.octets.specs.Lists.{every}
 use Rattle.octets.proofs.OrderLaws.{ascending-rest, ascending-without}
 use Rattle.route_table.specs.declared.row.Row.{Row}

@@ -1,14 +1,6 @@
 -- The calls on a table, from what its parts say.
 -- Assumes nothing.
-use mathlib.Core.Path.{_≡_, refl, sym, ap, _∙_}
-use mathlib.Core.Bool.{Bool, true, false, not, _&&_, cond, and-eq-true-iff, false≢true}
-use mathlib.Core.List.{List, [], _∷_, _++_, map}
-use Prim.Native.Nat.{ℕ, zero, suc, _-_, _≤_}
-use native.Mathlib.Decide.{ℕ-discrete}
-use native.Mathlib.Omega.{arith}
-use borrow.Author.Tests.{ne-eqb, leb-true, le-leb, eqb-true, not-true, not-false}
-use lib.Dec.{eqb, leb}
-use lib.ListN.{length, drop, replicate, length-map, length-drop}
+use Rattle.octets.proofs.Words.{_≡_, refl, sym, ap, _∙_, Bool, true, false, not, _&&_, cond, and-eq-true-iff, false≢true, List, [], _∷_, _++_, map, ℕ, zero, suc, _-_, _≤_, ℕ-discrete, arith, ne-eqb, leb-true, le-leb, eqb-true, not-true, not-false, eqb, leb, length, drop, replicate, length-map, length-drop}
 use Rattle.octets.specs.Answers.{first}
 use Rattle.octets.specs.Lists.{every}
 use Rattle.octets.proofs.AnswerLaws.{none-holds}

@@ -1,13 +1,6 @@
 -- Ascending rows for units of a list are no more than the list has.
 -- Assumes nothing.
-use mathlib.Core.Path.{_≡_, refl, sym, ap, _∙_}
-use mathlib.Core.Bool.{Bool, true, false, _||_, cond, and-eq-true-iff, false≢true}
-use mathlib.Core.List.{List, [], _∷_}
-use Prim.Native.Nat.{ℕ, suc, _+_, _≤_}
-use native.Mathlib.Omega.{arith}
-use borrow.Author.Tests.{eqb-true, ltb-true}
-use lib.Dec.{eqb, ltb}
-use lib.ListN.{length}
+use Rattle.octets.proofs.Words.{_≡_, refl, sym, ap, _∙_, Bool, true, false, _||_, cond, and-eq-true-iff, false≢true, List, [], _∷_, ℕ, suc, _+_, _≤_, arith, eqb-true, ltb-true, eqb, ltb, length}
 use Rattle.octets.specs.Lists.{every, Each, some}
 use Rattle.octets.proofs.TestLaws.{or-left, or-right, or-elim}
 use Rattle.octets.proofs.OrderLaws.{ascending-rest, ascending-above}

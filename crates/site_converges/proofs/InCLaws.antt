@@ -1,12 +1,6 @@
 -- The buffers of 539 bytes hold the tables that the calls on values give.
 -- Assumes nothing.
-use mathlib.Core.Path.{_≡_, refl, ap, _∙_}
-use mathlib.Core.Bool.{true}
-use mathlib.Core.List.{List, [], _∷_, _++_, map}
-use Prim.Native.Nat.{ℕ, zero, suc}
-use native.Mathlib.Omega.{arith}
-use borrow.Author.Tests.{eq-eqb}
-use lib.ListN.{length}
+use Rattle.octets.proofs.Words.{_≡_, refl, ap, _∙_, true, List, [], _∷_, _++_, map, ℕ, zero, suc, arith, eq-eqb, length}
 use Rattle.octets.specs.Calls.{after}
 use Rattle.octets.specs.Lists.{Each}
 use Rattle.route_table.specs.declared.table.Table.{Table}

@@ -1,12 +1,6 @@
 -- Three units in a line, computed.
 -- Assumes nothing.
-use mathlib.Core.Path.{_≡_, refl}
-use mathlib.Core.Bool.{true, false, _&&_, _||_, and-eq-true-iff, or-comm}
-use Prim.Native.Nat.{ℕ}
-use native.Mathlib.Decide.{ℕ-discrete}
-use native.Mathlib.Omega.{arith}
-use borrow.Author.Tests.{eqb-true, ne-eqb}
-use lib.Dec.{eqb}
+use Rattle.octets.proofs.Words.{_≡_, refl, true, false, _&&_, _||_, and-eq-true-iff, or-comm, ℕ, ℕ-discrete, arith, eqb-true, ne-eqb, eqb}
 use Rattle.octets.specs.Numbers.{num, digits}
 use Rattle.octets.specs.Sums.{xors}
 use Rattle.octets.specs.Lists.{tab, every, some}

@@ -1,12 +1,6 @@
 -- What lookups tell after some rounds, and where their next hops lead.
 -- Assumes nothing.
-use mathlib.Core.Path.{_≡_, sym, ap, subst, _∙_}
-use mathlib.Core.Bool.{true, false, not, and-eq-true-iff}
-use Prim.Native.Nat.{ℕ, zero, suc, _-_, _≤_}
-use native.Mathlib.Decide.{ℕ-discrete}
-use native.Mathlib.Omega.{arith}
-use borrow.Author.Tests.{eqb-true, eq-eqb, ne-eqb}
-use lib.Dec.{eqb}
+use Rattle.octets.proofs.Words.{_≡_, sym, ap, subst, _∙_, true, false, not, and-eq-true-iff, ℕ, zero, suc, _-_, _≤_, ℕ-discrete, arith, eqb-true, eq-eqb, ne-eqb, eqb}
 use Rattle.moments.specs.Moments.{inOrder}
 use Rattle.moments.proofs.MomentLaws.{young-in-order}
 use Rattle.octets.specs.Addresses.{address}

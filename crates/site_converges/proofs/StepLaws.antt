@@ -1,13 +1,6 @@
 -- One candidate in the middle of a round: the rows stay right, the candidate's destination has one, and none is skipped.
 -- Assumes nothing.
-use mathlib.Core.Path.{_≡_, refl, sym, ap, _∙_}
-use mathlib.Core.Bool.{true, false, not, _&&_, _||_, and-eq-true-iff, false≢true}
-use mathlib.Core.List.{List, [], _∷_}
-use Prim.Native.Nat.{ℕ, suc, _≤_, _<_}
-use native.Mathlib.Omega.{arith}
-use borrow.Author.Tests.{eqb-true, eqb-false, ltb-true, ltb-false, le-ltb, le-leb, leb-true}
-use lib.Dec.{eqb, leb, ltb}
-use lib.ListN.{length}
+use Rattle.octets.proofs.Words.{_≡_, refl, sym, ap, _∙_, true, false, not, _&&_, _||_, and-eq-true-iff, false≢true, List, [], _∷_, ℕ, suc, _≤_, _<_, arith, eqb-true, eqb-false, ltb-true, ltb-false, le-ltb, le-leb, leb-true, eqb, leb, ltb, length}
 use Rattle.octets.specs.Lists.{Each}
 use Rattle.octets.proofs.EachLaws.{each-also}
 use Rattle.octets.proofs.TestLaws.{of-cond, or-elim, by-bool}

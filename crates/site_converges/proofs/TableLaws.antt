@@ -1,14 +1,6 @@
 -- Through the calls a table comes to hold what its rows learn, and so it converges.
 -- Assumes nothing.
-use mathlib.Core.Path.{_≡_, refl, sym, ap, subst, _∙_}
-use mathlib.Core.Bool.{true, not, and-eq-true-iff, false≢true}
-use mathlib.Core.List.{List, [], _∷_, _++_, map}
-use Prim.Native.Nat.{ℕ, zero, suc, _+_, _≤_, _<_}
-use native.Mathlib.Decide.{ℕ-discrete}
-use native.Mathlib.Omega.{arith}
-use borrow.Author.Tests.{ne-eqb, le-ltb}
-use lib.Dec.{eqb, ltb}
-use lib.ListN.{length, getD, take}
+use Rattle.octets.proofs.Words.{_≡_, refl, sym, ap, subst, _∙_, true, not, and-eq-true-iff, false≢true, List, [], _∷_, _++_, map, ℕ, zero, suc, _+_, _≤_, _<_, ℕ-discrete, arith, ne-eqb, le-ltb, eqb, ltb, length, getD, take}
 use Rattle.octets.specs.Answers.{Said, Reason, reason, accepted}
 use Rattle.octets.specs.Layouts.{Bytes}
 use Rattle.octets.specs.Lists.{Each}

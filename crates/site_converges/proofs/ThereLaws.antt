@@ -1,15 +1,6 @@
 -- Rounds at any site: each unit begins at 0, and at 300,000 writes and merges all pages, in the order of the units.
 -- Assumes nothing.
-use mathlib.Core.Path.{_≡_, refl, sym, ap, subst}
-use mathlib.Core.Bool.{Bool, true, false, cond, false≢true}
-use mathlib.Core.List.{List, [], _∷_, _++_, map}
-use mathlib.Core.Logic.{inl, inr}
-use Prim.Native.Nat.{ℕ, zero, suc, _*_, _≤_}
-use native.Mathlib.Decide.{ℕ-discrete}
-use native.Mathlib.Omega.{arith}
-use borrow.Author.Tests.{eqb-true, ltb-true}
-use lib.Dec.{eqb, ltb}
-use lib.ListN.{length}
+use Rattle.octets.proofs.Words.{_≡_, refl, sym, ap, subst, Bool, true, false, cond, false≢true, List, [], _∷_, _++_, map, inl, inr, ℕ, zero, suc, _*_, _≤_, ℕ-discrete, arith, eqb-true, ltb-true, eqb, ltb, length}
 use Rattle.octets.specs.Lists.{Some, Each, some}
 use Rattle.octets.proofs.EachLaws.{each-append, each-also, some-behind, some-first}
 use Rattle.octets.proofs.TestLaws.{or-elim, of-cond}

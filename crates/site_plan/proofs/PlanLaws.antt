@@ -1,15 +1,7 @@
 -- The numbers of a plan, and what its rule makes of them.
 -- Assumes nothing.
-use mathlib.Core.Path.{_≡_, refl, sym, ap, _∙_}
-use mathlib.Core.Bool.{Bool, true, false, _&&_, and-eq-true-iff, false≢true}
-use mathlib.Core.List.{List, [], _∷_}
-use Prim.Native.Nat.{ℕ, zero, suc, _+_, _*_, _≤_, _<_, _^_}
-use native.Mathlib.Omega.{arith}
-use native.Mathlib.Nat.{mul-le-mul, mul-le-mul-right}
+use Rattle.octets.proofs.Words.{_≡_, refl, sym, ap, _∙_, Bool, true, false, _&&_, and-eq-true-iff, false≢true, List, [], _∷_, ℕ, zero, suc, _+_, _*_, _≤_, _<_, _^_, mul-le-mul, mul-le-mul-right, arith, leb-true, le-leb, ltb-true, ltb-false, leb, ltb, getD}
 use mir.Val.{boolByte}
-use borrow.Author.Tests.{leb-true, le-leb, ltb-true, ltb-false}
-use lib.Dec.{leb, ltb}
-use lib.ListN.{getD}
 use Rattle.octets.specs.Lists.{tab}
 use Rattle.octets.proofs.ListLaws.{getD-tab}
 use Rattle.octets.specs.Lists.{all, allFrom}

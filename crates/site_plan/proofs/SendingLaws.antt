@@ -1,11 +1,6 @@
 -- Who sends in a slot: the statements of specs/Laws on it, proved.
 -- Assumes nothing.
-use mathlib.Core.Path.{_≡_, refl, sym, _∙_}
-use mathlib.Core.Bool.{Bool, true, false, _&&_, cond, false≢true}
-use Prim.Native.Nat.{_+_, _-_}
-use native.Mathlib.Omega.{arith}
-use borrow.Author.Tests.{eqb-true}
-use lib.Dec.{eqb, ltb}
+use Rattle.octets.proofs.Words.{_≡_, refl, sym, _∙_, Bool, true, false, _&&_, cond, false≢true, _+_, _-_, arith, eqb-true, eqb, ltb}
 use Rattle.octets.proofs.TestLaws.{or-elim}
 use Rattle.slot_sets.specs.Sets.{has}
 use Rattle.slot_sets.proofs.SetLaws.{disjoint-is-apart, never-both}

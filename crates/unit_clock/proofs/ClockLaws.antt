@@ -1,10 +1,6 @@
 -- What holds of every step of the clock: the statements of specs/Laws, proved.
 -- Assumes nothing.
-use mathlib.Core.Path.{_≡_, refl, sym, ap, subst, _∙_}
-use Prim.Native.Nat.{ℕ, zero, suc, _+_, _-_, _%_, _^_, _≤_, _<_}
-use native.Mathlib.Omega.{arith}
-use borrow.Author.Tests.{ltb-true, ltb-false, eq-eqb}
-use lib.Dec.{ltb, le→leb, leb→le}
+use Rattle.octets.proofs.Words.{_≡_, refl, sym, ap, subst, _∙_, ℕ, zero, suc, _+_, _-_, _%_, _^_, _≤_, _<_, arith, ltb-true, ltb-false, eq-eqb, ltb, le→leb, leb→le}
 use lib.IntN.{ℤ, pos, negsuc, natAbs, _-ℤ_, +ℤ-invr}
 use lib.Signed.{mag, ≤ℤ-refl}
 use Rattle.octets.proofs.TestLaws.{of-cond}

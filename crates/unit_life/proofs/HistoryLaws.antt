@@ -1,12 +1,6 @@
 -- What holds of calls one after the other: the statements of specs/Laws on lists of calls, proved, but for those on silence and true time.
 -- Assumes nothing.
-use mathlib.Core.Path.{_≡_, refl, sym, ap, subst, _∙_}
-use mathlib.Core.Bool.{Bool, true, false, not, _&&_, false≢true}
-use mathlib.Core.List.{List, [], _∷_}
-use Prim.Native.Nat.{ℕ, zero, suc, _+_, _<_, _≤_, _^_}
-use native.Mathlib.Omega.{arith}
-use borrow.Author.Tests.{eq-eqb, eqb-true, eqb-false}
-use lib.Dec.{eqb}
+use Rattle.octets.proofs.Words.{_≡_, refl, sym, ap, subst, _∙_, Bool, true, false, not, _&&_, false≢true, List, [], _∷_, ℕ, zero, suc, _+_, _<_, _≤_, _^_, arith, eq-eqb, eqb-true, eqb-false, eqb}
 use Rattle.octets.specs.Answers.{Reason, reason, first}
 use Rattle.octets.specs.Lists.{every}
 use Rattle.octets.proofs.AnswerLaws.{Where, never-given}

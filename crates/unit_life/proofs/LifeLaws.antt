@@ -1,9 +1,6 @@
 -- What holds of every call: the statements of specs/Laws on one call, proved.
 -- Assumes nothing.
-use mathlib.Core.Path.{_≡_, refl}
-use mathlib.Core.Bool.{false, false≢true}
-use borrow.Author.Tests.{eq-eqb, eqb-true}
-use lib.Dec.{eqb}
+use Rattle.octets.proofs.Words.{_≡_, refl, false, false≢true, eq-eqb, eqb-true, eqb}
 use Rattle.octets.proofs.TestLaws.{of-choice}
 use Rattle.unit_life.specs.States.{Stopped, beacon, kindAfter, tickTo}
 use Rattle.unit_life.specs.declared.state.State.{State}

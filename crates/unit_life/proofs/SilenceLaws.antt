@@ -1,12 +1,6 @@
 -- A unit in Normal that hears no beacon, after any calls: an accepted tick finds out when that is too long.
 -- Assumes nothing.
-use mathlib.Core.Path.{_≡_, refl, sym, subst}
-use mathlib.Core.Bool.{Bool, true, false, not, cond, _||_, false≢true, and-eq-true-iff}
-use mathlib.Core.List.{List, [], _∷_}
-use Prim.Native.Nat.{ℕ, _*_, _<_, _≤_}
-use native.Mathlib.Omega.{arith}
-use borrow.Author.Tests.{lt-ltb, le-ltb, eq-eqb, eqb-true, leb-true}
-use lib.Dec.{eqb, ltb}
+use Rattle.octets.proofs.Words.{_≡_, refl, sym, subst, Bool, true, false, not, cond, _||_, false≢true, and-eq-true-iff, List, [], _∷_, ℕ, _*_, _<_, _≤_, arith, lt-ltb, le-ltb, eq-eqb, eqb-true, leb-true, eqb, ltb}
 use Rattle.moments.specs.Elapsed.{Clock, nowAt, moved, clockAfter}
 use Rattle.moments.specs.Moments.{ageAt, inOrder}
 use Rattle.moments.proofs.MomentLaws.{ages-add, young-in-order}

@@ -1,11 +1,6 @@
 -- A call that is accepted: what then held of the state before, and when what it gives is within rule.
 -- Assumes nothing.
-use mathlib.Core.Path.{_≡_, refl, sym, _∙_}
-use mathlib.Core.Bool.{Bool, true, false, not, cond, _&&_, _||_, false≢true, and-eq-true-iff}
-use Prim.Native.Nat.{ℕ, _≤_}
-use native.Mathlib.Omega.{arith}
-use borrow.Author.Tests.{eq-eqb, eqb-true, leb-true, not-false}
-use lib.Dec.{eqb, leb}
+use Rattle.octets.proofs.Words.{_≡_, refl, sym, _∙_, Bool, true, false, not, cond, _&&_, _||_, false≢true, and-eq-true-iff, ℕ, _≤_, arith, eq-eqb, eqb-true, leb-true, not-false, eqb, leb}
 use Rattle.octets.specs.Answers.{Reason, reason, first}
 use Rattle.octets.proofs.AnswerLaws.{Where, none-holds}
 use Rattle.octets.proofs.TestLaws.{implied, implies, of-cond}

@@ -1,12 +1,6 @@
 -- Where the table leads: to a state or nowhere, and on a tick always to a state.
 -- Assumes nothing.
-use mathlib.Core.Path.{_≡_, refl, sym, subst}
-use mathlib.Core.Bool.{Bool, true, false, cond, _&&_, _||_, and-eq-true-iff}
-use mathlib.Core.List.{List, [], _∷_}
-use Prim.Native.Nat.{ℕ, _*_, _≤_}
-use native.Mathlib.Omega.{arith}
-use borrow.Author.Tests.{eqb-true, eqb-false, le-leb, leb-true, leb-false, ltb-false}
-use lib.Dec.{eqb, leb, ltb}
+use Rattle.octets.proofs.Words.{_≡_, refl, sym, subst, Bool, true, false, cond, _&&_, _||_, and-eq-true-iff, List, [], _∷_, ℕ, _*_, _≤_, arith, eqb-true, eqb-false, le-leb, leb-true, leb-false, ltb-false, eqb, leb, ltb}
 use Rattle.octets.proofs.TestLaws.{or-elim, of-cond, of-choice}
 use Rattle.unit_life.specs.States.{Line, Limit, Discovery, Joining, Normal, Manager, Recovery, Stopped, Nowhere, beacon, elected, events, along, kindAfter, limits, runOut, tickTo}
 use Rattle.unit_life.specs.Calls.{runsFromEntry}

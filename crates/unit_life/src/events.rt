@@ -4,7 +4,7 @@ ghost use Rattle.unit_life.specs.Calls.{onEvent};
 ghost use Rattle.unit_life.specs.States.{ready, failed, beacon, joinAccepted, joinDenied, fault, elected, roleChange, recovered};
 use crate::state::Lived;
 use crate::state::State;
-use crate::table::leads_to;
+use crate::table::kind_after;
 use octets::answers::Refusal;
 
 impl State {
@@ -12,7 +12,7 @@ impl State {
     pub fn event(self, number: u8, time: u32) -> Lived
         ensures { λ r. ⌜ r ≡ onEvent self number time ⌝ }
     {
-        let to = leads_to(self.kind, number);
+        let to = kind_after(self.kind, number);
         self.step(
             time,
             to == State::NOWHERE,

@@ -48,7 +48,7 @@ impl State {
     }
 
     // The state that goes to a kind: a change of it is an entry, and entry into Normal counts as a beacon.
-    fn gone(self, to: u8, heard: bool, time: u32) -> State
+    fn moved_on(self, to: u8, heard: bool, time: u32) -> State
         ensures { λ r. ⌜ r ≡ movedOn self to heard time ⌝ }
     {
         let changed = to != self.kind;
@@ -85,7 +85,7 @@ impl State {
         }
         Lived {
             refused,
-            state: self.gone(to, heard, time),
+            state: self.moved_on(to, heard, time),
         }
     }
 }

@@ -5,7 +5,7 @@ use crate::state::State;
 use octets::choices::either;
 
 // The kind that an event leads to. A beacon in Joining or in Normal leads nowhere else: it only records its time.
-pub(crate) fn leads_to(kind: u8, event: u8) -> u8
+pub(crate) fn kind_after(kind: u8, event: u8) -> u8
     ensures { λ r. ⌜ r ≡ kindAfter kind event ⌝ }
 {
     match kind {

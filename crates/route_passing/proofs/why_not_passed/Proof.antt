@@ -1,7 +1,6 @@
 -- `why_not_passed`: the first reason that holds.
 -- Assumes nothing.
-use mathlib.Core.Path.{_∙_}
-use borrow.Author.Needs.{needs}
+use Rattle.octets.proofs.Words.{_∙_, needs}
 use Rattle.route_passing.proofs.why_not_passed.Statement.{statement}
 use Rattle.route_passing.proofs.why_not_passed.Tie as tie
 

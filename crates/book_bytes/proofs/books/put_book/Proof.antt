@@ -1,9 +1,8 @@
 -- `put_book`: the plan, the time behind it, and the rows behind that.
 -- Assumes nothing.
-use mathlib.Core.Path.{_∙_}
+use Rattle.octets.proofs.Words.{_∙_, needs}
 use Rattle.book.specs.Books.{contents}
 use Rattle.book_bytes.proofs.BookByteLaws.{plan-first}
-use borrow.Author.Needs.{needs}
 use Rattle.book_bytes.proofs.books.put_book.Statement.{statement}
 use Rattle.book_bytes.proofs.books.put_book.Tie as tie
 

@@ -1,9 +1,8 @@
 -- `put_book`: the head line, and a line per member behind it.
 -- Assumes nothing.
-use denote.Ref.{now}
+use Rattle.octets.proofs.Words.{needs, now}
 use Rattle.book.specs.Books.{contents}
 use Rattle.book_drawing.proofs.LineLaws.{book-told}
-use borrow.Author.Needs.{needs}
 use Rattle.book_drawing.proofs.drawing.put_book.Statement.{statement}
 use Rattle.book_drawing.proofs.drawing.put_book.Tie as tie
 

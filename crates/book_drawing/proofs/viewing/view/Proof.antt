@@ -1,6 +1,5 @@
 -- `view`: the text of the book that an image restores, or that it is refused.
 -- Assumes nothing.
-use mathlib.Core.Path.{_∙_}
 use Rattle.book.specs.Books.{contents, changeOf}
 use Rattle.book_drawing.specs.Views.{bookText, refusedText}
 use Rattle.book_drawing.proofs.ViewLaws.{view-refused, view-accepted, viewed}

@@ -1,13 +1,10 @@
 -- `write_image`: refused, or the head, the plan behind it, and the rows behind that.
 -- Assumes nothing.
-use mathlib.Core.Path.{ap, _∙_}
-use native.Mathlib.Omega.{arith}
-use lib.ListN.{take}
+use Rattle.octets.proofs.Words.{ap, _∙_, arith, needs, take}
 use Rattle.book_members.specs.Members.{rowsOf}
 use Rattle.book.specs.Books.{contents}
 use Rattle.book.proofs.VisitLaws.{take-current}
 use Rattle.book_image.proofs.WritingLaws.{unwritten, written}
-use borrow.Author.Needs.{needs}
 use Rattle.book_image.proofs.writing.write_image.Statement.{statement}
 use Rattle.book_image.proofs.writing.write_image.Tie as tie
 

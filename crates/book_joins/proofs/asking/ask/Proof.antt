@@ -1,16 +1,10 @@
 -- `ask`: a member's slots after its request, or the number that refuses it.
 -- Assumes nothing.
-use mathlib.Core.Path.{_∙_}
-use native.Mathlib.Omega.{arith}
-use borrow.Author.Needs.{fits-under}
-use denote.Ref.{now}
-use lib.Dec.{ltb}
-use lib.ListN.{take}
+use Rattle.octets.proofs.Words.{_∙_, arith, fits-under, needs, ltb, take, now}
 use Rattle.slot_sets.specs.Sets.{slotsOf}
 use Rattle.book_members.specs.Members.{rowsOf}
 use Rattle.book_joins.proofs.AnswerLaws.{Asking, asking}
 use Rattle.book_joins.proofs.GrantLaws.{row-within, is-asked}
-use borrow.Author.Needs.{needs}
 use Rattle.book_joins.proofs.asking.ask.Statement.{statement}
 use Rattle.book_joins.proofs.asking.ask.Tie as tie
 
@@ -43,9 +37,6 @@ known bytes =
     (now (a .frame)) (slotsOf (own .asks .result)) (bytes .bytes-for .result) (bytes .bytes-for .ensures)
     (request .of .result) (slotsOf (held .slots-in .result)) (request .of .ensures) found (held .slots-in .ensures) slots
 
-refusal-requires : tie.Need-refusal-requires
-refusal-requires c κs = (known c .member, known c .long)
-
 returns : tie.Need-returns
 returns c =
     let settled = c .before .before in
@@ -54,4 +45,4 @@ returns c =
 
 pub ask-spec : {M : Type 1} → statement M
 ask-spec =
-    tie.close (tie.spec (λ c κs. search needs) (λ c κs. search needs) (λ c κs. search needs) (λ c κs. search needs) (λ c κs. search needs) (λ c κs. search needs) (λ c κs. search needs) refusal-requires cast-settle (λ c κs. search needs) (λ c. search needs) returns)
+    tie.close (tie.spec (λ c κs. search needs) (λ c κs. search needs) (λ c κs. search needs) (λ c κs. search needs) (λ c κs. search needs) (λ c κs. search needs) (λ c κs. search needs) (λ c κs. (known c .member, known c .long)) cast-settle (λ c κs. search needs) (λ c. search needs) returns)

@@ -1,11 +1,10 @@
 -- `settle`: nothing changes where a number refuses the call, else the row and the responses are written.
 -- Assumes nothing.
-use denote.Ref.{now}
+use Rattle.octets.proofs.Words.{needs, now}
 use Rattle.slot_sets.specs.Sets.{slotsOf}
 use Rattle.book_members.specs.Members.{rowsOf}
 use Rattle.book.specs.Books.{contents}
 use Rattle.book_joins.proofs.GrantLaws.{unsettled, settled}
-use borrow.Author.Needs.{needs}
 use Rattle.book_joins.proofs.grants.settle.Statement.{statement}
 use Rattle.book_joins.proofs.grants.settle.Tie as tie
 

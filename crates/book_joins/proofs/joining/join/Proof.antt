@@ -1,19 +1,11 @@
 -- `join`: a seat and its slots, or the number that refuses the unit.
 -- Assumes nothing.
-use mathlib.Core.Path.{_∙_}
-use mathlib.Core.Bool.{not, _&&_}
-use Prim.Native.Nat.{_≤_}
-use native.Mathlib.Omega.{arith}
-use borrow.Author.Needs.{fits-under}
-use denote.Ref.{now}
-use lib.Dec.{eqb, ltb}
-use lib.ListN.{take}
+use Rattle.octets.proofs.Words.{_∙_, not, _&&_, _≤_, arith, fits-under, needs, eqb, ltb, take, now}
 use Rattle.octets.proofs.TestLaws.{of-choice}
 use Rattle.slot_sets.specs.Sets.{slotsOf}
 use Rattle.book_members.specs.Members.{rowsOf}
 use Rattle.book_joins.proofs.AnswerLaws.{Joining, joining}
 use Rattle.book_joins.proofs.GrantLaws.{row-within, is-seated}
-use borrow.Author.Needs.{needs}
 use Rattle.book_joins.proofs.joining.join.Statement.{statement}
 use Rattle.book_joins.proofs.joining.join.Tie as tie
 
@@ -53,9 +45,6 @@ known bytes =
     (request .of .result) (chosen .either-size .result) (census .counted .result .place) (census .counted .result .vacant) (request .of .ensures) found place
     (chosen .either-size .ensures) empty slots
 
-refusal-requires : tie.Need-refusal-requires
-refusal-requires c κs = (known c .none, known c .long)
-
 returns : tie.Need-returns
 returns c =
     let settled = c .before .before in
@@ -64,4 +53,4 @@ returns c =
 
 pub join-spec : {M : Type 1} → statement M
 join-spec =
-    tie.close (tie.spec (λ c κs. search needs) (λ c κs. search needs) (λ c κs. search needs) (λ c κs. search needs) (λ c κs. search needs) (λ c κs. search needs) (λ c κs. search needs) (λ c κs. search needs) refusal-requires cast-settle (λ c κs. search needs) (λ c. search needs) returns)
+    tie.close (tie.spec (λ c κs. search needs) (λ c κs. search needs) (λ c κs. search needs) (λ c κs. search needs) (λ c κs. search needs) (λ c κs. search needs) (λ c κs. search needs) (λ c κs. search needs) (λ c κs. (known c .none, known c .long)) cast-settle (λ c κs. search needs) (λ c. search needs) returns)

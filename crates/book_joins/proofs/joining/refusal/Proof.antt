@@ -1,8 +1,7 @@
 -- `refusal`: the first reason that holds.
 -- Assumes nothing.
-use mathlib.Core.Path.{ap, _∙_}
+use Rattle.octets.proofs.Words.{ap, _∙_, needs}
 use Rattle.frame_requests.specs.Requests.{joinRequestFrom}
-use borrow.Author.Needs.{needs}
 use Rattle.book_joins.proofs.joining.refusal.Statement.{statement}
 use Rattle.book_joins.proofs.joining.refusal.Tie as tie
 

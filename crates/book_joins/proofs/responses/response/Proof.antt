@@ -1,13 +1,10 @@
 -- `response`: the record put, and its checksum behind it.
 -- Assumes nothing.
-use mathlib.Core.Path.{refl, sym, _∙_}
-use mathlib.Core.List.{[], _∷_}
-use native.Mathlib.Omega.{arith}
+use Rattle.octets.proofs.Words.{refl, sym, _∙_, [], _∷_, arith, needs}
 use Rattle.octets.proofs.StoreLaws.{sets-whole}
 use Rattle.frame_kinds.proofs.StoredLaws.{frame-put}
 use Rattle.frame_requests.specs.Requests.{joinResponse}
 use Rattle.book_joins.proofs.ResponseLaws.{length-response}
-use borrow.Author.Needs.{needs}
 use Rattle.book_joins.proofs.responses.response.Statement.{statement}
 use Rattle.book_joins.proofs.responses.response.Tie as tie
 

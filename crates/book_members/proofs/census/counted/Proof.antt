@@ -1,15 +1,10 @@
 -- `counted`'s loop goes down from the last row: what the rows from i on hold, how many are free, and where among them the unit and the lowest free row are.
 -- Assumes nothing.
-use mathlib.Core.Path.{_≡_, _∙_}
-use Prim.Native.Nat.{_+_}
-use native.Mathlib.Omega.{arith}
-use native.Mathlib.Nat.{zero-add}
-use lib.ListN.{length, take}
+use Rattle.octets.proofs.Words.{_≡_, _∙_, _+_, zero-add, arith, needs, fits-under, length, take}
 use Rattle.slot_sets.specs.Sets.{slotsOf}
 use Rattle.book_members.specs.Members.{rowsOf, placeFor, heldSlots}
 use Rattle.book_members.proofs.RowLoopLaws.{rows-length}
 use Rattle.book_members.proofs.CensusLaws.{from, Counted, counted-start, found-start, counted-fits, counted-turn, found-turn}
-use borrow.Author.Needs.{needs, fits-under}
 use Rattle.book_members.proofs.census.counted.Statement.{statement}
 use Rattle.book_members.proofs.census.counted.Tie as tie
 

@@ -1,12 +1,10 @@
 -- `kept`: the member as it was, or an empty row.
 -- Assumes nothing.
-use mathlib.Core.Path.{ap, _∙_}
-use native.Mathlib.Omega.{arith}
+use Rattle.octets.proofs.Words.{ap, _∙_, arith, needs}
 use Rattle.slot_sets.specs.Sets.{Slots}
 use Rattle.slot_sets.proofs.MaskLaws.{mask-nothing}
-use Rattle.book_members.specs.Members.{Row, rowOf, memberWith}
+use Rattle.book_members.specs.Members.{rowOf, memberWith}
 use Rattle.book_members.proofs.RowLoopLaws.{live-kept, silent-dropped}
-use borrow.Author.Needs.{needs}
 use Rattle.book_members.proofs.rows.kept.Statement.{statement}
 use Rattle.book_members.proofs.rows.kept.Tie as tie
 

@@ -1,10 +1,9 @@
 -- `braidlark_book_fresh`: the book of a stored plan, over as many bytes as it has.
 -- Assumes nothing.
-use mathlib.Core.Path.{ap, _∙_}
+use Rattle.octets.proofs.Words.{ap, _∙_, needs}
 use Rattle.book.specs.Books.{changeOf, freshOf}
 use Rattle.c_book.specs.BookCalls.{leaves, freshCall}
 use Rattle.c_book.proofs.BookCallLaws.{opened}
-use borrow.Author.Needs.{needs}
 use Rattle.c_book.proofs.book_calls.braidlark_book_fresh.Statement.{statement}
 use Rattle.c_book.proofs.book_calls.braidlark_book_fresh.Tie as tie
 

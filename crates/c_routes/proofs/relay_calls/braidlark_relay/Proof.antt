@@ -1,8 +1,7 @@
 -- `braidlark_relay`: why it is neither handed back nor passed on, or what is told of it.
 -- Assumes nothing.
-use native.Mathlib.Omega.{arith}
+use Rattle.octets.proofs.Words.{arith, needs}
 use Rattle.c_routes.proofs.RelayCallLaws.{relay-size, relay-accepted, relay-refused}
-use borrow.Author.Needs.{needs}
 use Rattle.c_routes.proofs.relay_calls.braidlark_relay.Statement.{statement}
 use Rattle.c_routes.proofs.relay_calls.braidlark_relay.Tie as tie
 

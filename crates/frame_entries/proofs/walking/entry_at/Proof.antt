@@ -1,16 +1,10 @@
 -- `entry_at`: why the bytes are no update, then the end, else the entry at the position.
 -- Assumes nothing.
-use mathlib.Core.Path.{_≡_, sym, ap, _∙_}
-use mathlib.Core.List.{List}
-use Prim.Native.Nat.{ℕ}
-use native.Mathlib.Omega.{arith}
-use lib.ListN.{getD}
-use denote.Ref.{now}
+use Rattle.octets.proofs.Words.{_≡_, sym, ap, _∙_, List, ℕ, arith, needs, getD, now}
 use Rattle.octets.specs.Parts.{Lent}
 use Rattle.frame_traffic.specs.Traffic.{entryAt}
 use Rattle.frame_entries.specs.Walks.{countIn}
 use Rattle.frame_entries.proofs.WalkLaws.{step-refused, step-end, step-one}
-use borrow.Author.Needs.{needs}
 use Rattle.frame_entries.proofs.walking.entry_at.Statement.{statement}
 use Rattle.frame_entries.proofs.walking.entry_at.Tie as tie
 

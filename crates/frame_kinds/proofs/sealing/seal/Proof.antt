@@ -1,8 +1,6 @@
 -- `seal`: the XOR of what stands before it; past the end nothing is stored.
 -- Assumes nothing.
-use mathlib.Core.Path.{sym}
-use lib.Seq.{set-out}
-use borrow.Author.Needs.{needs}
+use Rattle.octets.proofs.Words.{sym, needs, set-out}
 use Rattle.frame_kinds.proofs.sealing.seal.Statement.{statement}
 use Rattle.frame_kinds.proofs.sealing.seal.Tie as tie
 

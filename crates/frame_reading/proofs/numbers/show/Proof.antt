@@ -1,11 +1,6 @@
 -- `show`: what reading refuses, then a short buffer; else the numbers where the layout says.
 -- Assumes nothing.
-use mathlib.Core.List.{List}
-use Prim.Native.Nat.{ℕ}
-use native.Mathlib.Omega.{arith}
-use denote.Ref.{now}
-use lib.ListN.{length}
-use lib.Seq.{sets}
+use Rattle.octets.proofs.Words.{_≡_, sym, ap, _∙_, List, ℕ, arith, needs, length, sets, now}
 use Rattle.octets.specs.Numbers.{num}
 use Rattle.octets.proofs.LayoutLaws.{length-fields}
 use Rattle.frames.specs.Layout.{widthsOf, layoutOf}
@@ -13,9 +8,7 @@ use Rattle.frames.specs.Frames.{readFrame}
 use Rattle.frames.proofs.LayoutLaws.{Laid, laid-out, laid-count}
 use Rattle.frames.proofs.TripLaws.{values-read}
 use Rattle.frame_reading.specs.Seen.{seenFields}
-use mathlib.Core.Path.{_≡_, sym, ap, _∙_}
 use Rattle.frame_reading.proofs.ShowLaws.{refused-shown, short-shown, whole-shown, seen-fields}
-use borrow.Author.Needs.{needs}
 use Rattle.frame_reading.proofs.numbers.show.Statement.{statement}
 use Rattle.frame_reading.proofs.numbers.show.Tie as tie
 
@@ -54,7 +47,4 @@ returns-3 c =
 
 pub show-spec : {M : Type 1} → statement M
 show-spec =
-    tie.close (tie.spec (λ c κs. search needs) returns (λ c κs. search needs) (λ c κs. search needs) (λ c. search needs) returns-2
-    (λ c. here (c .before .before .before) .within)
-    (λ c. laid-count (here (c .before .before .before .before)))
-    (λ c κs. let l = here (c .before .before .before .before .before) in let e = ap length (l .firsts) in (omega (arith, l, e), omega (arith, l, e))) (λ c. search needs) returns-3)
+    tie.close (tie.spec (λ c κs. search needs) returns (λ c κs. search needs) (λ c κs. search needs) (λ c. search needs) returns-2 (λ c. here (c .before .before .before) .within) (λ c. laid-count (here (c .before .before .before .before))) (λ c κs. let l = here (c .before .before .before .before .before) in let e = ap length (l .firsts) in (omega (arith, l, e), omega (arith, l, e))) (λ c. search needs) returns-3)

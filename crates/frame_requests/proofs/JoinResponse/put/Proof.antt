@@ -1,9 +1,8 @@
 -- `JoinResponse::put`: the type and the fields, one behind the other.
 -- Assumes nothing.
-use mathlib.Core.List.{_∷_}
+use Rattle.octets.proofs.Words.{_∷_, needs}
 use Rattle.octets.proofs.StoreLaws.{all-laid}
 use Rattle.frame_requests.specs.Requests.{joinResponse, joinResponseValues}
-use borrow.Author.Needs.{needs}
 use Rattle.frame_requests.proofs.JoinResponse.put.Statement.{statement}
 use Rattle.frame_requests.proofs.JoinResponse.put.Tie as tie
 

@@ -1,17 +1,10 @@
 -- `listed`: numbers that do not fit are refused, the others are written as their kind.
 -- Assumes nothing.
-use mathlib.Core.Path.{_≡_, sym, ap, _∙_}
-use mathlib.Core.Bool.{true}
-use mathlib.Core.List.{List, _∷_}
-use Prim.Native.Nat.{ℕ, _≤_}
-use native.Mathlib.Omega.{arith}
-use borrow.Author.Tests.{not-true, not-false}
-use lib.ListN.{length, take, length-take}
+use Rattle.octets.proofs.Words.{_≡_, sym, ap, _∙_, true, List, _∷_, ℕ, _≤_, arith, needs, not-true, not-false, length, take, length-take}
 use Rattle.octets.specs.Layouts.{total}
 use Rattle.frames.specs.Listed.{fitting}
 use Rattle.frame_writing.proofs.KnownLaws.{Known, known, unfit, fit}
 use Rattle.frame_writing.proofs.ListedLaws.{fitting-within}
-use borrow.Author.Needs.{needs}
 use Rattle.frame_writing.proofs.numbers.listed.Statement.{statement}
 use Rattle.frame_writing.proofs.numbers.listed.Tie as tie
 
@@ -57,14 +50,4 @@ returns-2 c =
 
 pub listed-spec : {M : Type 1} → statement M
 listed-spec =
-    tie.close (tie.spec (λ c. search needs) (λ c. search needs) (λ c. search needs) (λ c κs. search needs) (λ c. search needs)
-    (λ c. here (c .before .before .before .before .before .before .before) .within)
-    (λ c. widths-count (c .before .before .before .before .before .before .before .before)) (λ c κs. search needs) (λ c. search needs) (λ c. search needs) (λ c κs. search needs) returns
-    (λ c. here (c .before .before .before .before .before .before .before .before .before .before) .within)
-    (λ c. widths-count (c .before .before .before .before .before .before .before .before .before .before .before))
-    (λ c. numbers-count (c .before .before))
-    (λ c κs. asks (c .before .before))
-    (λ c. here (c .before .before .before .before .before .before .before .before .before .before .before .before .before) .within)
-    (λ c. widths-count (c .before .before .before .before .before .before .before .before .before .before .before .before .before .before))
-    (λ c. numbers-count (c .before .before .before .before .before))
-    (λ c κs. asks (c .before .before .before .before .before .before)) (λ c. search needs) returns-2)
+    tie.close (tie.spec (λ c. search needs) (λ c. search needs) (λ c. search needs) (λ c κs. search needs) (λ c. search needs) (λ c. here (c .before .before .before .before .before .before .before) .within) (λ c. widths-count (c .before .before .before .before .before .before .before .before)) (λ c κs. search needs) (λ c. search needs) (λ c. search needs) (λ c κs. search needs) returns (λ c. here (c .before .before .before .before .before .before .before .before .before .before) .within) (λ c. widths-count (c .before .before .before .before .before .before .before .before .before .before .before)) (λ c. numbers-count (c .before .before)) (λ c κs. asks (c .before .before)) (λ c. here (c .before .before .before .before .before .before .before .before .before .before .before .before .before) .within) (λ c. widths-count (c .before .before .before .before .before .before .before .before .before .before .before .before .before .before)) (λ c. numbers-count (c .before .before .before .before .before)) (λ c κs. asks (c .before .before .before .before .before .before)) (λ c. search needs) returns-2)

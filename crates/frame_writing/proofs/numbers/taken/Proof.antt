@@ -1,18 +1,12 @@
 -- `taken`: the frame that was written apart is read, unless it was too long to be written.
 -- Assumes nothing.
-use mathlib.Core.Path.{_≡_, sym, ap, _∙_}
-use mathlib.Core.List.{List, [], _++_}
-use Prim.Native.Nat.{ℕ, _+_, _≤_}
-use native.Mathlib.Omega.{arith}
-use borrow.Author.Tests.{le-leb, lt-leb}
-use lib.ListN.{length, take}
+use Rattle.octets.proofs.Words.{_≡_, sym, ap, _∙_, List, [], _++_, ℕ, _+_, _≤_, arith, needs, le-leb, lt-leb, length, take}
 use Rattle.octets.specs.Layouts.{bytes}
 use Rattle.frames.specs.Frames.{readFrame}
 use Rattle.frame_kinds.specs.Shape.{sealed}
 use Rattle.frame_writing.specs.Taking.{takes}
 use Rattle.frame_writing.proofs.ListedLaws.{apart-done, apart-refused}
 use Rattle.frame_kinds.proofs.StoredLaws.{frame-length}
-use borrow.Author.Needs.{needs}
 use Rattle.frame_writing.proofs.numbers.taken.Statement.{statement}
 use Rattle.frame_writing.proofs.numbers.taken.Tie as tie
 
@@ -44,6 +38,4 @@ returns-2 c =
 
 pub taken-spec : {M : Type 1} → statement M
 taken-spec =
-    tie.close (tie.spec (λ c κs. search needs) (λ c. search needs) (λ c. search needs) (λ c. search needs) (λ c κs. search needs) (λ c. search needs)
-    (λ c. let h = here (c .before) in omega (arith, h, c .before .before .before .before .before .before .room .ensures, c .before .before .before .before .emit .kept .1 .1 .1 .1 .1 .1 .0))
-    (λ c. let h = here (c .before .before) in h .0 ∙ sym (ap length (h .2))) (λ c κs. search needs) (λ c. search needs) returns returns-2)
+    tie.close (tie.spec (λ c κs. search needs) (λ c. search needs) (λ c. search needs) (λ c. search needs) (λ c κs. search needs) (λ c. search needs) (λ c. let h = here (c .before) in omega (arith, h, c .before .before .before .before .before .before .room .ensures, c .before .before .before .before .emit .kept .1 .1 .1 .1 .1 .1 .0)) (λ c. let h = here (c .before .before) in h .0 ∙ sym (ap length (h .2))) (λ c κs. search needs) (λ c. search needs) returns returns-2)

@@ -1,11 +1,9 @@
 -- `write_as`: emitted by the layout of the type.
 -- Assumes nothing.
-use mathlib.Core.Path.{sym, ap, _∙_}
-use lib.ListN.{length}
+use Rattle.octets.proofs.Words.{sym, ap, _∙_, needs, length}
 use Rattle.octets.specs.Layouts.{total}
 use Rattle.frames.specs.Layout.{widthsOf}
 use Rattle.frames.proofs.LayoutLaws.{Laid, laid-out, laid-count, laid-written}
-use borrow.Author.Needs.{needs}
 use Rattle.frame_writing.proofs.writing.write_as.Statement.{statement}
 use Rattle.frame_writing.proofs.writing.write_as.Tie as tie
 
@@ -20,9 +18,4 @@ emit-requires c κs =
 
 pub write-as-spec : {M : Type 1} → statement M
 write-as-spec =
-    tie.close (tie.spec (λ c κs. search needs) (λ c. search needs) (λ c. search needs) (λ c. search needs) (λ c. search needs)
-    (λ c. here (c .before .before .before) .within)
-    (λ c. laid-count (here (c .before .before .before .before)))
-    emit-requires
-    (λ c. search needs)
-    (λ c. laid-written (here (c .before .before .before .before .before .before .before .before)) _ _ _ _ _ _ (c .before .before .emit .ensures)))
+    tie.close (tie.spec (λ c κs. search needs) (λ c. search needs) (λ c. search needs) (λ c. search needs) (λ c. search needs) (λ c. here (c .before .before .before) .within) (λ c. laid-count (here (c .before .before .before .before))) emit-requires (λ c. search needs) (λ c. laid-written (here (c .before .before .before .before .before .before .before .before)) _ _ _ _ _ _ (c .before .before .emit .ensures)))

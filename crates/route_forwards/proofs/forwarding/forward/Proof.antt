@@ -1,14 +1,11 @@
 -- `forward`: as it was where it is refused, else the copy and its pair recorded.
 -- Assumes nothing.
-use mathlib.Core.Path.{_≡_, sym, ap, _∙_}
-use denote.Ref.{now}
-use lib.ListN.{length}
+use Rattle.octets.proofs.Words.{_≡_, sym, ap, _∙_, needs, length, now}
 use Rattle.route_table.specs.declared.table.Changed.{Changed}
 use Rattle.route_table.specs.Tables.{settled}
 use Rattle.route_passing.specs.Passes.{recorded}
 use Rattle.route_forwards.specs.Forwards.{passingOf, beaconIn, forwardRefusal}
 use Rattle.route_forwards.proofs.ForwardLaws.{beacon-in, passed-as, copy-fits, forwarded-off, forwarded-on}
-use borrow.Author.Needs.{needs}
 use Rattle.route_forwards.proofs.forwarding.forward.Statement.{statement}
 use Rattle.route_forwards.proofs.forwarding.forward.Tie as tie
 

@@ -1,15 +1,12 @@
 -- `forward_in`: as it was where it is refused, else the copy and its pair recorded in the bytes.
 -- Assumes nothing.
-use mathlib.Core.Path.{_≡_, ap, _∙_}
-use denote.Ref.{now}
-use lib.ListN.{length}
+use Rattle.octets.proofs.Words.{_≡_, ap, _∙_, needs, length, now}
 use Rattle.route_table.specs.declared.table.Table.{Table}
 use Rattle.route_table.specs.Tables.{settled}
 use Rattle.route_passing.specs.Passes.{recorded, passOf}
 use Rattle.route_bytes.specs.TableBytes.{tableIn}
 use Rattle.route_forwards.specs.Forwards.{passingOf, beaconIn, forwardRefusal}
 use Rattle.route_forwards.proofs.ForwardLaws.{beacon-in, passed-as, copy-fits, stored-off, stored-none, stored-on}
-use borrow.Author.Needs.{needs}
 use Rattle.route_forwards.proofs.forwarding.forward_in.Statement.{statement}
 use Rattle.route_forwards.proofs.forwarding.forward_in.Tie as tie
 

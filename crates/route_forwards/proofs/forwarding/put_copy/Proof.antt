@@ -1,12 +1,9 @@
 -- `put_copy`: this unit as source, hop and one more, the delay with the given one, and the checksum behind.
 -- Assumes nothing.
-use mathlib.Core.Path.{refl}
-use mathlib.Core.List.{[]}
-use native.Mathlib.Omega.{arith}
+use Rattle.octets.proofs.Words.{refl, [], arith, needs}
 use Rattle.frame_kinds.proofs.StoredLaws.{frame-put}
 use Rattle.frame_beacons.specs.Beacons.{beacon, beaconValues}
 use Rattle.route_forwards.specs.Forwards.{passedBy}
-use borrow.Author.Needs.{needs}
 use Rattle.route_forwards.proofs.forwarding.put_copy.Statement.{statement}
 use Rattle.route_forwards.proofs.forwarding.put_copy.Tie as tie
 

@@ -1,10 +1,8 @@
 -- `lookup`: no table, or what the row for the destination answers.
 -- Assumes nothing.
-use mathlib.Core.Path.{sym, _∙_}
-use borrow.Author.Tests.{not-true, not-false}
+use Rattle.octets.proofs.Words.{sym, _∙_, needs, not-true, not-false}
 use Rattle.route_bytes.specs.TableBytes.{tableIn}
 use Rattle.route_in_place.proofs.FindLaws.{lookup-none, lookup-by}
-use borrow.Author.Needs.{needs}
 use Rattle.route_in_place.proofs.finding.lookup.Statement.{statement}
 use Rattle.route_in_place.proofs.finding.lookup.Tie as tie
 

@@ -5,9 +5,6 @@ use borrow.Author.Needs.{needs}
 use Rattle.route_in_place.proofs.judging.holds_table.Statement.{statement}
 use Rattle.route_in_place.proofs.judging.holds_table.Tie as tie
 
-returns : tie.Need-returns
-returns c = no-length _ (c .if1 .taken)
-
 returns-2 : tie.Need-returns-2
 returns-2 c =
     let rows = c .before in
@@ -28,4 +25,4 @@ returns-3 c =
 
 pub holds-table-spec : {M : Type 1} → statement M
 holds-table-spec =
-    tie.close (tie.spec returns (λ c κs. search needs) (λ c κs. search needs) returns-2 (λ c κs. search needs) (λ c κs. search needs) (λ c κs. search needs) (λ c. search needs) (λ c. search needs) (λ c. search needs) (λ c κs. search needs) returns-3)
+    tie.close (tie.spec (λ c. no-length _ (c .if1 .taken)) (λ c κs. search needs) (λ c κs. search needs) returns-2 (λ c κs. search needs) (λ c κs. search needs) (λ c κs. search needs) (λ c. search needs) (λ c. search needs) (λ c. search needs) (λ c κs. search needs) returns-3)

@@ -1,10 +1,7 @@
 -- `put_entries`'s loop: to store the entries for the places left is to store them all.
 -- Assumes nothing.
-use mathlib.Core.Path.{refl}
-use Prim.Native.Nat.{_-_}
-use native.Mathlib.Omega.{arith}
+use Rattle.octets.proofs.Words.{refl, _-_, arith, needs}
 use Rattle.route_pages.proofs.PlaceLaws.{PutPlaces, places-first, places-last, places-on}
-use borrow.Author.Needs.{needs}
 use Rattle.route_pages.proofs.paging.put_entries.Statement.{statement}
 use Rattle.route_pages.proofs.paging.put_entries.Tie as tie
 

@@ -1,11 +1,7 @@
 -- `put_standing`'s loop: to store the entries for the rows left is to store them all.
 -- Assumes nothing.
-use mathlib.Core.Path.{refl, sym, _∙_}
-use Prim.Native.Nat.{_-_, _<_}
-use native.Mathlib.Omega.{arith}
-use borrow.Author.Tests.{not-true, not-false}
+use Rattle.octets.proofs.Words.{refl, sym, _∙_, _-_, _<_, arith, needs, not-true, not-false}
 use Rattle.route_pages.proofs.WalkLaws.{PutBehind, put-first, put-done, in-places, put-gone, put-one}
-use borrow.Author.Needs.{needs}
 use Rattle.route_pages.proofs.rows.put_standing.Statement.{statement}
 use Rattle.route_pages.proofs.rows.put_standing.Tie as tie
 

@@ -1,16 +1,11 @@
 -- `page_in`: no table, the number that refuses it, or the page in bytes.
 -- Assumes nothing.
-use mathlib.Core.Path.{_≡_, sym, ap, _∙_}
-use mathlib.Core.Bool.{true}
-use native.Mathlib.Omega.{arith}
-use denote.Ref.{now}
-use borrow.Author.Tests.{not-true, not-false}
+use Rattle.octets.proofs.Words.{_≡_, sym, ap, _∙_, true, arith, needs, not-true, not-false, now}
 use Rattle.route_table.specs.declared.table.Head.{Head}
 use Rattle.route_bytes.specs.TableBytes.{tableIn, holdsTable}
 use Rattle.route_in_place.proofs.JudgedLaws.{judged-rule}
 use Rattle.route_pages.proofs.PageLaws.{Paged, page-unwritten, page-room, page-written}
 use Rattle.route_pages.proofs.StoredLaws.{in-none, in-held, from-count, from-enough, from-rows}
-use borrow.Author.Needs.{needs}
 use Rattle.route_pages.proofs.stored.page_in.Statement.{statement}
 use Rattle.route_pages.proofs.stored.page_in.Tie as tie
 

@@ -1,11 +1,8 @@
 -- `put_frame`: the header, the payload and the checksum, one after the other.
 -- Assumes nothing.
-use mathlib.Core.Path.{refl}
-use native.Mathlib.Omega.{arith}
-use denote.Ref.{now}
+use Rattle.octets.proofs.Words.{refl, arith, needs, now}
 use Rattle.frame_traffic.specs.Traffic.{dataKind, dataValues}
 use Rattle.frame_kinds.proofs.StoredLaws.{frame-put}
-use borrow.Author.Needs.{needs}
 use Rattle.route_relays.proofs.relaying.put_frame.Statement.{statement}
 use Rattle.route_relays.proofs.relaying.put_frame.Tie as tie
 

@@ -1,11 +1,8 @@
 -- `refusal`: the first reason that holds.
 -- Assumes nothing.
-use mathlib.Core.Path.{_∙_, ap}
-use Prim.Native.Nat.{_+_}
-use lib.ListN.{length}
+use Rattle.octets.proofs.Words.{_∙_, ap, _+_, needs, length}
 use Rattle.octets.specs.Parts.{Lent}
 use Rattle.route_relays.proofs.RelayLaws.{header-in, copy-length}
-use borrow.Author.Needs.{needs}
 use Rattle.route_relays.proofs.relaying.refusal.Statement.{statement}
 use Rattle.route_relays.proofs.relaying.refusal.Tie as tie
 

@@ -1,9 +1,7 @@
 -- `relay`: a table out of rule, or what its row for the destination makes of the frame.
 -- Assumes nothing.
-use mathlib.Core.Path.{sym, _∙_}
-use borrow.Author.Tests.{not-true, not-false}
+use Rattle.octets.proofs.Words.{sym, _∙_, needs, not-true, not-false}
 use Rattle.route_relays.proofs.RelayLaws.{header-in, relayed-by, unrelayed}
-use borrow.Author.Needs.{needs}
 use Rattle.route_relays.proofs.relaying.relay.Statement.{statement}
 use Rattle.route_relays.proofs.relaying.relay.Tie as tie
 

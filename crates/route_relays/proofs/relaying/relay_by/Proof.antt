@@ -1,9 +1,8 @@
 -- `relay_by`: nothing is written where it is refused or for this unit, else the copy.
 -- Assumes nothing.
-use mathlib.Core.Path.{ap}
+use Rattle.octets.proofs.Words.{ap, needs}
 use Rattle.octets.specs.Parts.{Lent}
 use Rattle.route_relays.proofs.RelayLaws.{has-room, relayed-on, relayed-off}
-use borrow.Author.Needs.{needs}
 use Rattle.route_relays.proofs.relaying.relay_by.Statement.{statement}
 use Rattle.route_relays.proofs.relaying.relay_by.Tie as tie
 

@@ -1,12 +1,10 @@
 -- `relay_in`: no table, or what the row that lies in the bytes makes of the frame.
 -- Assumes nothing.
-use mathlib.Core.Path.{sym, _∙_}
-use borrow.Author.Tests.{not-true, not-false}
+use Rattle.octets.proofs.Words.{sym, _∙_, needs, not-true, not-false}
 use Rattle.route_bytes.specs.TableBytes.{tableIn}
 use Rattle.route_bytes.proofs.TableByteLaws.{rows-in}
 use Rattle.route_in_place.proofs.JudgedLaws.{judged-rule, judged-length}
 use Rattle.route_relays.proofs.RelayLaws.{header-in, relayed-by, stored-relayed, stored-none}
-use borrow.Author.Needs.{needs}
 use Rattle.route_relays.proofs.relaying.relay_in.Statement.{statement}
 use Rattle.route_relays.proofs.relaying.relay_in.Tie as tie
 

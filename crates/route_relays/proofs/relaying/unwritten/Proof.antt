@@ -4,8 +4,5 @@ use borrow.Author.Needs.{needs}
 use Rattle.route_relays.proofs.relaying.unwritten.Statement.{statement}
 use Rattle.route_relays.proofs.relaying.unwritten.Tie as tie
 
-returns : tie.Need-returns
-returns c = rw (c .count-if .ensures)
-
 pub unwritten-spec : {M : Type 1} → statement M
-unwritten-spec = tie.close (tie.spec (λ c κs. search needs) returns)
+unwritten-spec = tie.close (tie.spec (λ c κs. search needs) (λ c. rw (c .count-if .ensures)))

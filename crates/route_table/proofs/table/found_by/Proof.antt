@@ -1,8 +1,7 @@
 -- `found_by`: the first refusal, or the row's next hop.
 -- Assumes nothing.
-use mathlib.Core.Path.{_∙_}
+use Rattle.octets.proofs.Words.{_∙_, needs}
 use Rattle.route_table.specs.Tables.{foundBy}
-use borrow.Author.Needs.{needs}
 use Rattle.route_table.proofs.table.found_by.Statement.{statement}
 use Rattle.route_table.proofs.table.found_by.Tie as tie
 

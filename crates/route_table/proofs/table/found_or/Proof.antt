@@ -4,8 +4,5 @@ use borrow.Author.Needs.{needs}
 use Rattle.route_table.proofs.table.found_or.Statement.{statement}
 use Rattle.route_table.proofs.table.found_or.Tie as tie
 
-returns : tie.Need-returns
-returns c = rw (c .either .ensures, c .before .none .ensures)
-
 pub found-or-spec : {M : Type 1} → statement M
-found-or-spec = tie.close (tie.spec (λ c κs. search needs) (λ c κs. search needs) returns)
+found-or-spec = tie.close (tie.spec (λ c κs. search needs) (λ c κs. search needs) (λ c. rw (c .either .ensures, c .before .none .ensures)))

@@ -1,7 +1,6 @@
 -- `why_unforgotten`: the first reason that holds.
 -- Assumes nothing.
-use mathlib.Core.Path.{_∙_}
-use borrow.Author.Needs.{needs}
+use Rattle.octets.proofs.Words.{_∙_, needs}
 use Rattle.route_table.proofs.table.why_unforgotten.Statement.{statement}
 use Rattle.route_table.proofs.table.why_unforgotten.Tie as tie
 

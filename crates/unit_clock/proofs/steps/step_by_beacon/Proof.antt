@@ -1,7 +1,6 @@
 -- `step_by_beacon`: the step by the beacon's times, unless its frame or its network refuses.
 -- Assumes nothing.
-use borrow.Author.Needs.{needs}
-use denote.Ref.{now}
+use Rattle.octets.proofs.Words.{needs, now}
 use Rattle.unit_clock.proofs.StepLaws.{by-beacon}
 use Rattle.unit_clock.proofs.steps.step_by_beacon.Statement.{statement}
 use Rattle.unit_clock.proofs.steps.step_by_beacon.Tie as tie

@@ -1,9 +1,6 @@
 -- `Beacon::good`: the product of total slots and slot ms is exact.
 -- Assumes nothing.
-use Prim.Native.Nat.{_*_, _≤_}
-use native.Mathlib.Nat.{mul-le-mul}
-use native.Mathlib.Omega.{arith}
-use borrow.Author.Needs.{needs}
+use Rattle.octets.proofs.Words.{_*_, _≤_, mul-le-mul, arith, needs}
 use Rattle.frame_beacons.proofs.beacon.Beacon.good.Statement.{statement}
 use Rattle.frame_beacons.proofs.beacon.Beacon.good.Tie as tie
 
@@ -15,5 +12,4 @@ mul-result c =
 
 pub good-spec : {M : Type 1} → statement M
 good-spec =
-    tie.close (tie.spec (λ c κs. search needs) (λ c κs. search needs) (λ c. search needs) (λ c. search needs) (λ c. search needs) mul-result
-    (λ c. rw (c .before .before .before .before .before .before .before .before .before .before .before .before .is-address .ensures, c .before .before .before .before .before .before .is-address2 .ensures)))
+    tie.close (tie.spec (λ c κs. search needs) (λ c κs. search needs) (λ c. search needs) (λ c. search needs) (λ c. search needs) mul-result (λ c. rw (c .before .before .before .before .before .before .before .before .before .before .before .before .is-address .ensures, c .before .before .before .before .before .before .is-address2 .ensures)))

@@ -1,12 +1,8 @@
--- `Beacon::put`: the type and the fields, one behind the other. They are too many for one closure, so each is named.
+-- `Beacon::put`: the type and the fields, one behind the other.
 -- Assumes nothing.
-use mathlib.Core.Path.{refl}
-use mathlib.Core.List.{_∷_}
-use denote.Ref.{now}
-use lib.Seq.{length-sets}
-use Rattle.octets.proofs.StoreLaws.{all-put, put, done}
+use Rattle.octets.proofs.Words.{_∷_, needs, length-sets}
+use Rattle.octets.proofs.StoreLaws.{all-laid}
 use Rattle.frame_beacons.specs.Beacons.{beacon, beaconValues}
-use borrow.Author.Needs.{needs}
 use Rattle.frame_beacons.proofs.beacon.Beacon.put.Statement.{statement}
 use Rattle.frame_beacons.proofs.beacon.Beacon.put.Tie as tie
 
@@ -27,23 +23,7 @@ returns c =
     let source = size .before .before .before .before in
     let destination = source .before .before .before .before in
     let code = destination .before .before .before .before in
-    let a = code .before .before .before .args in
-    all-put (now (a .out)) 0 (1 ∷ beacon .widths) (beacon .code ∷ beaconValues (a .self)) _
-    (put (code .put8 .ensures) refl
-    (put (destination .put16 .ensures) refl
-    (put (source .put162 .ensures) refl
-    (put (size .put82 .ensures) refl
-    (put (network .put163 .ensures) refl
-    (put (superframe-number .put32 .ensures) refl
-    (put (superframe-ms .put164 .ensures) refl
-    (put (total-slots .put83 .ensures) refl
-    (put (slot-ms .put322 .ensures) refl
-    (put (original-source .put165 .ensures) refl
-    (put (hop .put84 .ensures) refl
-    (put (original-time .put323 .ensures) refl
-    (put (delay .put324 .ensures) refl
-    (put (max-hops .put85 .ensures) refl
-    (put (sequence .put166 .ensures) refl done)))))))))))))))
+    all-laid _ 0 (1 ∷ beacon .widths) (beacon .code ∷ beaconValues _) _ (rw (sequence .put166 .ensures, max-hops .put85 .ensures, delay .put324 .ensures, original-time .put323 .ensures, hop .put84 .ensures, original-source .put165 .ensures, slot-ms .put322 .ensures, total-slots .put83 .ensures, superframe-ms .put164 .ensures, superframe-number .put32 .ensures, network .put163 .ensures, size .put82 .ensures, source .put162 .ensures, destination .put16 .ensures, code .put8 .ensures))
 
 pub put-spec : {M : Type 1} → statement M
 put-spec =

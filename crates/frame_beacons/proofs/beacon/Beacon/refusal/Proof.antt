@@ -8,5 +8,4 @@ use Rattle.frame_beacons.proofs.beacon.Beacon.refusal.Tie as tie
 
 pub refusal-spec : {M : Type 1} → statement M
 refusal-spec =
-    tie.close (tie.spec (λ c κs. search needs) (λ c κs. search needs) (λ c κs. search needs)
-    (λ c. refused-as beacon _ _ _ _ (c .refused .ensures) (c .before .good2 .ensures) (c .before .before .of .ensures)))
+    tie.close (tie.spec (λ c κs. search needs) (λ c κs. search needs) (λ c κs. search needs) (λ c. refused-as beacon _ _ _ _ (c .refused .ensures) (c .before .good2 .ensures) (c .before .before .of .ensures)))

@@ -1,9 +1,8 @@
 -- `DataHeader::put`: the type and the fields, one behind the other.
 -- Assumes nothing.
-use mathlib.Core.List.{_∷_}
+use Rattle.octets.proofs.Words.{_∷_, needs}
 use Rattle.octets.proofs.StoreLaws.{all-laid}
 use Rattle.frame_traffic.specs.Traffic.{dataKind, dataValues}
-use borrow.Author.Needs.{needs}
 use Rattle.frame_traffic.proofs.data_frame.DataHeader.put.Statement.{statement}
 use Rattle.frame_traffic.proofs.data_frame.DataHeader.put.Tie as tie
 

@@ -1,9 +1,8 @@
 -- `UpdateHeader::put`: the type and the fields, one behind the other.
 -- Assumes nothing.
-use mathlib.Core.List.{_∷_}
+use Rattle.octets.proofs.Words.{_∷_, needs}
 use Rattle.octets.proofs.StoreLaws.{all-laid}
 use Rattle.frame_traffic.specs.Traffic.{update, updateValues}
-use borrow.Author.Needs.{needs}
 use Rattle.frame_traffic.proofs.update.UpdateHeader.put.Statement.{statement}
 use Rattle.frame_traffic.proofs.update.UpdateHeader.put.Tie as tie
 

@@ -1,10 +1,9 @@
 -- `UpdateHeader::refusal`: the shared tests, with its own fields and rule.
 -- Assumes nothing.
 use Rattle.frame_traffic.specs.Traffic.{update, updateValues}
-use mathlib.Core.Path.{ap, _∙_}
+use Rattle.octets.proofs.Words.{ap, _∙_, needs}
 use Rattle.octets.specs.Parts.{Lent}
 use Rattle.frame_kinds.proofs.ReadingLaws.{refused-as}
-use borrow.Author.Needs.{needs}
 use Rattle.frame_traffic.proofs.update.UpdateHeader.refusal.Statement.{statement}
 use Rattle.frame_traffic.proofs.update.UpdateHeader.refusal.Tie as tie
 

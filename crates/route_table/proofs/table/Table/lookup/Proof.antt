@@ -1,9 +1,7 @@
 -- `Table::lookup`: a table out of rule, or what its row for the destination answers.
 -- Assumes nothing.
-use mathlib.Core.Path.{_∙_, sym}
-use borrow.Author.Tests.{not-true, not-false}
+use Rattle.octets.proofs.Words.{_∙_, sym, needs, not-true, not-false}
 use Rattle.route_table.proofs.LookupLaws.{looked-up, not-looked-up}
-use borrow.Author.Needs.{needs}
 use Rattle.route_table.proofs.table.Table.lookup.Statement.{statement}
 use Rattle.route_table.proofs.table.Table.lookup.Tie as tie
 

@@ -1,15 +1,10 @@
--- `row_for`'s loop goes up from the first row.
+-- `place_for`'s loop goes up from the first row.
 -- Assumes nothing.
-use mathlib.Core.Path.{_≡_, sym, refl, _∙_}
-use Prim.Native.Nat.{_+_, _-_, _≤_, min}
-use native.Mathlib.Nat.{zero-add}
-use native.Mathlib.Omega.{arith}
-use lib.ListN.{length, take, drop}
+use Rattle.octets.proofs.Words.{_≡_, sym, _∙_, _+_, _-_, _≤_, min, zero-add, arith, needs, length, take, drop}
 use Rattle.book_members.specs.Members.{rowsOf, placeFor}
 use Rattle.book_members.proofs.RowLoopLaws.{rows-length, row-found, row-on, row-none}
-use borrow.Author.Needs.{needs}
-use Rattle.book_members.proofs.rows.row_for.Statement.{statement}
-use Rattle.book_members.proofs.rows.row_for.Tie as tie
+use Rattle.book_members.proofs.rows.place_for.Statement.{statement}
+use Rattle.book_members.proofs.rows.place_for.Tie as tie
 
 abbrev Inv-loop : tie.InvT-loop
 Inv-loop count unit rows used i₀ i =
@@ -42,6 +37,6 @@ returns-2 c =
     let e : l .i ≡ min (a .count) 21 = omega (arith, l .inv .0, l .inv .1) in
     (l .inv .1 ∙ (sym e ∙ row-none (a .t1) (a .count) (l .inv .2) (a .unit) (l .i) (l .inv .3) e), rows-length (a .t1) (a .count) (l .inv .2))
 
-pub row-for-spec : {M : Type 1} → statement M
-row-for-spec =
+pub place-for-spec : {M : Type 1} → statement M
+place-for-spec =
     tie.close (tie.spec Inv-loop μ-loop (λ c κs. search needs) loop-holds (λ c. search needs) (λ c. search needs) returns (λ c. search needs) (λ c. search needs) loop-again returns-2)

@@ -1,28 +1,18 @@
 -- A schedule in a buffer.
 -- Assumes nothing.
-use mathlib.Core.Path.{_≡_, refl, sym, ap, ap₂, _∙_}
-use mathlib.Core.Bool.{Bool, true, false, _&&_, cond, and-eq-true-iff}
-use mathlib.Core.List.{List, _∷_, _++_}
-use Prim.Native.Nat.{ℕ, zero, suc, _+_, _-_, _≤_, _<_, min}
-use native.Mathlib.Omega.{arith}
-use native.Mathlib.Nat.{zero-add, suc-add}
-use native.Mathlib.Numerals.{add-one}
-use borrow.Author.Tests.{ne-eqb, eqb-true, leb-true, ltb-false, not-false}
-use lib.Dec.{eqb, leb}
-use lib.ListN.{length, getD, drop, set, replicate}
-use lib.Seq.{sets, sets-eq}
+use Rattle.octets.proofs.Words.{_≡_, refl, sym, ap, ap₂, _∙_, Bool, true, false, _&&_, cond, and-eq-true-iff, List, _∷_, _++_, ℕ, zero, suc, _+_, _-_, _≤_, _<_, min, zero-add, suc-add, add-one, arith, ne-eqb, eqb-true, leb-true, ltb-false, not-false, eqb, leb, length, getD, drop, set, replicate, sets, sets-eq}
 use Rattle.octets.specs.Lists.{tab}
 use Rattle.octets.specs.declared.answers.Written.{Written}
 use Rattle.octets.specs.Told.{wrote}
-use Rattle.octets.proofs.AnswerLaws.{numbered, none-holds}
+use Rattle.octets.proofs.AnswerLaws.{none-holds}
 use Rattle.slot_sets.specs.Sets.{Slots}
 use Rattle.site_plan.specs.declared.plan.Plan.{Plan}
-use Rattle.site_plan.specs.Plans.{slotsIn, slots, sleepAt}
+use Rattle.site_plan.specs.Plans.{slots, sleepAt}
 use Rattle.site_plan.specs.Schedules.{sleep, kindOf}
 use Rattle.site_plan.proofs.PlanLaws.{kept}
 use Rattle.site_plan.proofs.RegionLaws.{kinds-by-region}
-use Rattle.book_members.specs.Members.{emptyRow, rowFor}
-use Rattle.book.specs.Books.{Stated, withinRule, rowsAt, liveAt}
+use Rattle.book_members.specs.Members.{emptyRow, placeFor}
+use Rattle.book.specs.Books.{Contents, withinRule, rowsAt, liveAt}
 use Rattle.book.specs.Schedules.{hopRule, scheduleReasons, scheduleRefusal, scheduleOf}
 use Rattle.book.proofs.WithinLaws.{within}
 use Rattle.octets.proofs.ListLaws.{length-tab}
@@ -63,11 +53,6 @@ both-put p row hop own count awake held out last a o l =
     sym (ap (λ (i : ℕ). tab i f) n) ∙ same-behind awake (count - awake) f sleep (λ k h b. kinds-by-region p row hop own k .behind (omega (arith, a, h, b, n))) in
     rw (l, o, whole) (sym (sets-append (tab awake f) (replicate (count - awake) sleep) held 0 ∙ rw (length-tab awake f, zero-add)))
 
--- a superframe has at most 100 slots
-pub few-slots : (p : Plan) → slots p ≤ 100
-unfolding slotsIn
-few-slots p = omega arith
-
 -- a hop within rule is one of the plan's
 hop-below : (p : Plan) (unit hop : ℕ) → hopRule p unit hop ≡ true → hop ≤ p .«max_hops»
 hop-below p unit hop = go (eqb unit (p .manager))
@@ -77,34 +62,31 @@ hop-below p unit hop = go (eqb unit (p .manager))
     go false e = leb-true hop (p .«max_hops») (and-eq-true-iff (leb 1 hop) (leb hop (p .«max_hops»)) .0 e .1)
 
 -- what holds where there is a schedule
-pub record Schedulable (b : Stated) (unit hop time : ℕ) (live : Bool) (room : ℕ) : Type 0 where
+pub record Schedulable (b : Contents) (unit hop time room : ℕ) : Type 0 where
   pub book : withinRule b ≡ true
   pub near : hop ≤ 10
-  pub member : live ≡ true
+  pub member : liveAt b unit time ≡ true
   pub fits : slots (b .plan) ≤ room
 
-pub schedulable : (b : Stated) (unit hop time : ℕ) (live : Bool) (room : ℕ) → scheduleRefusal b unit hop time live room ≡ 0 → Schedulable b unit hop time live room
-schedulable b unit hop time live room e =
+pub schedulable : (b : Contents) (unit hop time room : ℕ) → scheduleRefusal b unit hop time room ≡ 0 → Schedulable b unit hop time room
+schedulable b unit hop time room e =
     let none =
-    none-holds (scheduleReasons b unit hop time live room) (
-      numbered _ 14 (λ z. omega arith),
-      (numbered _ 4 (λ z. omega arith), (numbered _ 8 (λ z. omega arith), (numbered _ 14 (λ z. omega arith), (numbered _ 13 (λ z. omega arith), (numbered _ 5 (λ z. omega arith), tt))))),
-    ) e in
+    none-holds (scheduleReasons b unit hop time room) _ e in
     let ruled = not-false (withinRule b) (none .0) in
     let below = hop-below (b .plan) unit hop (not-false (hopRule (b .plan) unit hop) (none .1 .1 .1 .0)) in
     record {
       book = ruled;
       near = omega (arith, below, kept (b .plan) (within b ruled .plan) .few-hops);
-      member = not-false live (none .1 .1 .1 .1 .0);
+      member = not-false (liveAt b unit time) (none .1 .1 .1 .1 .0);
       fits = ltb-false room (slots (b .plan)) (none .1 .1 .1 .1 .1 .0);
     }
 
-module _ (b : Stated) (unit hop time n : ℕ) (out : List ℕ) (e : n ≡ scheduleRefusal b unit hop time (liveAt b unit time) (length out)) where
+module _ (b : Contents) (unit hop time n : ℕ) (out : List ℕ) (e : n ≡ scheduleRefusal b unit hop time (length out)) where
   pub unscheduled : (n ≡ 0 → ⊥) → wrote (Written.Refused (record { number = n })) out ≡ scheduleOf b unit hop time out
   unfolding scheduleOf
   unscheduled z = rw (← e, ne-eqb n 0 z)
 
-  pub scheduled : (count at : ℕ) (own : Slots 64) (held : List ℕ) → n ≡ 0 → count ≡ slots (b .plan) → at ≡ rowFor unit (rowsAt b time) → own ≡ getD (rowsAt b time) at emptyRow .slots
+  pub scheduled : (count at : ℕ) (own : Slots 64) (held : List ℕ) → n ≡ 0 → count ≡ slots (b .plan) → at ≡ placeFor unit (rowsAt b time) → own ≡ getD (rowsAt b time) at emptyRow .slots
       → held ≡ sets out 0 (tab count (kindOf (b .plan) at hop own)) → wrote (Written.Done count) held ≡ scheduleOf b unit hop time out
   unfolding scheduleOf
   scheduled count at own held z c a o h = rw (← e, z, h, c, o, a)

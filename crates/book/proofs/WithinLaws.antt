@@ -1,30 +1,25 @@
 -- A book within rule, in its parts.
 -- Assumes nothing.
-use mathlib.Core.Path.{_≡_}
-use mathlib.Core.Bool.{Bool, true, _&&_, and-eq-true-iff}
-use mathlib.Core.List.{List}
-use Prim.Native.Nat.{ℕ, _≤_}
-use native.Mathlib.Omega.{arith}
-use lib.ListN.{drop}
+use Rattle.octets.proofs.Words.{_≡_, Bool, true, _&&_, and-eq-true-iff, List, ℕ, _≤_, arith, drop}
 use Rattle.octets.specs.Lists.{every}
 use Rattle.site_plan.specs.Plans.{planRule}
 use Rattle.site_plan.proofs.PlanLaws.{rule-bounds}
 use Rattle.book_members.specs.Members.{Row}
 use Rattle.book_members.specs.Rules.{emptyIs, rowsRule}
 use Rattle.book_members.proofs.RowRuleLaws.{Ruled, ruled, rules, ruled-then}
-use Rattle.book.specs.Books.{Stated, rowsIn, withinRule, rowsAt}
+use Rattle.book.specs.Books.{Contents, rowsIn, withinRule, rowsAt}
 
 -- rows within rule, of a book's plan
-abbrev pub RowsRuled : Stated → ℕ → List Row → Type 0
+abbrev pub RowsRuled : Contents → ℕ → List Row → Type 0
 RowsRuled b last rs = Ruled (b .plan .manager) (b .plan .«data_slots») last rs
 
-pub record Within (b : Stated) : Type 0 where
+pub record Within (b : Contents) : Type 0 where
   pub plan : planRule (b .plan) ≡ true
   pub few : b .plan .«data_slots» ≤ 64
   pub rows : RowsRuled b (b .time) (rowsIn b)
   pub behind : every emptyIs (drop (b .plan .rows) (b .places)) ≡ true
 
-module _ (b : Stated) where
+module _ (b : Contents) where
   abbrev rowsOk : Bool
   rowsOk = rowsRule (b .plan .manager) (b .plan .«data_slots») (b .time) (rowsIn b)
 

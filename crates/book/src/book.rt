@@ -1,9 +1,10 @@
 // A book: the plan of a site, the last accepted time, and a row for each member.
 ghost use mathlib.Core.Path.{_≡_};
-ghost use Rattle.book.specs.Books.{stated, withinRule, leftBy, left, noBook, freshBook, freshOf};
+ghost use Rattle.book.specs.Books.{contents, withinRule, changeOf, changeTo, noBook, freshBook, freshOf};
 use book_members::member::Member;
 use book_members::rules::empty_from;
 use book_members::rules::rows_within_rule;
+use octets::answers::Refusal;
 use octets::answers::refuse_if;
 use site_plan::plan::Plan;
 use slot_sets::masks::below;
@@ -23,7 +24,7 @@ pub struct Changed {
 
 // The book that a call gives: the new one, or the old one with the number that refuses the call.
 pub fn settled(refused: u8, old: Book, new: Book) -> Changed
-    ensures { λ r. ⌜ leftBy r ≡ left refused (stated old) (stated new) ⌝ }
+    ensures { λ r. ⌜ changeOf r ≡ changeTo refused (contents old) (contents new) ⌝ }
 {
     if refused == 0 {
         return Changed { refused, book: new };
@@ -33,7 +34,7 @@ pub fn settled(refused: u8, old: Book, new: Book) -> Changed
 
 // The book that a refusal gives where there is none before it.
 pub fn zeros() -> Book
-    ensures { λ r. ⌜ stated r ≡ noBook ⌝ }
+    ensures { λ r. ⌜ contents r ≡ noBook ⌝ }
 {
     Book {
         plan: Plan {
@@ -54,7 +55,7 @@ pub fn zeros() -> Book
 }
 
 fn opened(plan: Plan, time: u32) -> Book
-    ensures { λ r. ⌜ stated r ≡ freshBook plan time ⌝ }
+    ensures { λ r. ⌜ contents r ≡ freshBook plan time ⌝ }
 {
     let mut rows = [Member {
         unit: 0,
@@ -72,10 +73,10 @@ fn opened(plan: Plan, time: u32) -> Book
 impl Book {
     // The book of a plan: the manager in row 0 with the lowest data slot. A plan out of rule is refused, with zeros.
     pub fn fresh(plan: Plan, time: u32) -> Changed
-        ensures { λ r. ⌜ leftBy r ≡ freshOf plan time ⌝ }
+        ensures { λ r. ⌜ changeOf r ≡ freshOf plan time ⌝ }
     {
         settled(
-            refuse_if(!plan.within_rule(), 14, 0),
+            refuse_if(!plan.within_rule(), Refusal::RULE, 0),
             zeros(),
             opened(plan, time),
         )
@@ -83,7 +84,7 @@ impl Book {
 
     // Whether it is a book as document 01 says.
     pub fn within_rule(self) -> bool
-        ensures { λ r. ⌜ r ≡ withinRule (stated self) ⌝ }
+        ensures { λ r. ⌜ r ≡ withinRule (contents self) ⌝ }
     {
         let rows = self.rows;
         let plan = self.plan;

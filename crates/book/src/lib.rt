@@ -1,4 +1,4 @@
-// Book: the manager's member book, by value: who may send in which slots.
+// The manager's member book, by value: who may send in which slots.
 pub mod book;
 pub mod schedule;
 mod visits;

@@ -7,14 +7,15 @@ ghost use Rattle.octets.specs.Lists.{tab};
 ghost use Rattle.octets.specs.Told.{wrote};
 ghost use Rattle.slot_sets.specs.Sets.{slotsOf};
 ghost use Rattle.site_plan.specs.Schedules.{sleep, kindOf};
-ghost use Rattle.book.specs.Books.{stated};
+ghost use Rattle.book.specs.Books.{contents, liveAt};
 ghost use Rattle.book.specs.Schedules.{hopRule, scheduleRefusal, scheduleOf};
 use crate::book::Book;
 use book_members::rows::current;
 use book_members::rows::in_use;
-use book_members::rows::row_for;
+use book_members::rows::place_for;
 use book_members::rows::slots_at;
 use moments::in_order;
+use octets::addresses::is_address;
 use octets::answers::Refusal;
 use octets::answers::Written;
 use octets::answers::refuse_if;
@@ -67,29 +68,29 @@ fn put_kinds(out: &mut [u8], plan: Plan, row: u8, hop: u8, own: u64, count: u8)
     put_sleep(out, awake, all);
 }
 
-// Why there is no schedule for a unit that is a live member or not; 0 where there is one.
+// Why there is no schedule for a unit, which is a live member or not; 0 where there is one.
 fn refusal(book: Book, unit: u16, hop: u32, time: u32, live: bool, room: usize) -> u8
-    ensures { λ r. ⌜ r ≡ scheduleRefusal (stated book) unit hop time live room ⌝ }
+    requires { ⌜ live ≡ liveAt (contents book) unit time ⌝ }
+    ensures { λ r. ⌜ r ≡ scheduleRefusal (contents book) unit hop time room ⌝ }
 {
     let plan = book.plan;
-    let address = (1 <= unit) & (unit <= 0xFFFE);
-    let refused = refuse_if(room < plan.slots() as usize, 5, 0);
-    let refused = refuse_if(!live, 13, refused);
-    let refused = refuse_if(!hop_within_rule(plan, unit, hop), 14, refused);
-    let refused = refuse_if(!in_order(book.time, time), 8, refused);
-    let refused = refuse_if(!address, 4, refused);
-    refuse_if(!book.within_rule(), 14, refused)
+    let refused = refuse_if(room < plan.slots() as usize, Refusal::ROOM, 0);
+    let refused = refuse_if(!live, Refusal::NO_MEMBER, refused);
+    let refused = refuse_if(!hop_within_rule(plan, unit, hop), Refusal::RULE, refused);
+    let refused = refuse_if(!in_order(book.time, time), Refusal::EARLIER, refused);
+    let refused = refuse_if(!is_address(unit), Refusal::FIELD, refused);
+    refuse_if(!book.within_rule(), Refusal::RULE, refused)
 }
 
 impl Book {
     // Writes the kinds of all slots for a live member at a hop.
     pub fn schedule(self, unit: u16, hop: u32, time: u32, out: &mut [u8]) -> Written
-        ensures { λ r. ⌜ wrote r (now (out .exit)) ≡ scheduleOf (stated self) unit hop time (now (out .entry)) ⌝ }
+        ensures { λ r. ⌜ wrote r (now (out .exit)) ≡ scheduleOf (contents self) unit hop time (now (out .entry)) ⌝ }
     {
         let plan = self.plan;
         let rows = self.rows;
         let now = current(rows, time);
-        let at = row_for(now, plan.rows, unit);
+        let at = place_for(now, plan.rows, unit);
         let live = at < in_use(plan.rows);
         let refused = refusal(self, unit, hop, time, live, out.len());
         if refused != 0 {

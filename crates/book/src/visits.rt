@@ -1,39 +1,44 @@
 // What needs no frame: a member that was heard, and one that leaves.
 ghost use mathlib.Core.Path.{_≡_};
-ghost use Rattle.octets.specs.Answers.{first};
-ghost use Rattle.book.specs.Books.{stated, memberReasons, leftBy, heardOf, leaveOf};
+ghost use mathlib.Core.Bool.{not};
+ghost use mathlib.Core.List.{[], _∷_};
+ghost use Rattle.octets.specs.Addresses.{address};
+ghost use Rattle.octets.specs.Answers.{reason, first};
+ghost use Rattle.moments.specs.Moments.{inOrder};
+ghost use Rattle.book.specs.Books.{contents, withinRule, changeOf, heardOf, leaveOf};
 use crate::book::Book;
 use crate::book::Changed;
 use crate::book::settled;
 use book_members::member::Member;
 use book_members::rows::current;
 use book_members::rows::in_use;
-use book_members::rows::row_for;
+use book_members::rows::place_for;
 use book_members::rows::slots_at;
 use book_members::rows::with_row;
 use moments::in_order;
+use octets::addresses::is_address;
+use octets::answers::Refusal;
 use octets::answers::refuse_if;
 
 // Why a call on a member is refused, where it is found or not; 0 where it is not.
 fn refusal(book: Book, unit: u16, time: u32, found: bool) -> u8
-    ensures { λ r. ⌜ r ≡ first (memberReasons (stated book) unit time found) ⌝ }
+    ensures { λ r. ⌜ r ≡ first (reason (not (withinRule (contents book))) 14 ∷ reason (not (address unit)) 4 ∷ reason (not (inOrder (book .time) time)) 8 ∷ reason (not found) 13 ∷ []) ⌝ }
 {
-    let address = (1 <= unit) & (unit <= 0xFFFE);
-    let refused = refuse_if(!found, 13, 0);
-    let refused = refuse_if(!in_order(book.time, time), 8, refused);
-    let refused = refuse_if(!address, 4, refused);
-    refuse_if(!book.within_rule(), 14, refused)
+    let refused = refuse_if(!found, Refusal::NO_MEMBER, 0);
+    let refused = refuse_if(!in_order(book.time, time), Refusal::EARLIER, refused);
+    let refused = refuse_if(!is_address(unit), Refusal::FIELD, refused);
+    refuse_if(!book.within_rule(), Refusal::RULE, refused)
 }
 
 impl Book {
     // Renews the time of a live member.
     pub fn heard(self, unit: u16, time: u32) -> Changed
-        ensures { λ r. ⌜ leftBy r ≡ heardOf (stated self) unit time ⌝ }
+        ensures { λ r. ⌜ changeOf r ≡ heardOf (contents self) unit time ⌝ }
     {
         let plan = self.plan;
         let rows = self.rows;
         let now = current(rows, time);
-        let at = row_for(now, plan.rows, unit);
+        let at = place_for(now, plan.rows, unit);
         let live = at < in_use(plan.rows);
         let refused = refusal(self, unit, time, live);
         let slots = slots_at(now, at);
@@ -51,12 +56,12 @@ impl Book {
 
     // Frees the row and the slots of a live member; the manager stays.
     pub fn leave(self, unit: u16, time: u32) -> Changed
-        ensures { λ r. ⌜ leftBy r ≡ leaveOf (stated self) unit time ⌝ }
+        ensures { λ r. ⌜ changeOf r ≡ leaveOf (contents self) unit time ⌝ }
     {
         let plan = self.plan;
         let rows = self.rows;
         let now = current(rows, time);
-        let at = row_for(now, plan.rows, unit);
+        let at = place_for(now, plan.rows, unit);
         let live = at < in_use(plan.rows);
         let refused = refusal(self, unit, time, live & !(unit == plan.manager));
         let next = with_row(

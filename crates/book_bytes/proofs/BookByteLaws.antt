@@ -1,16 +1,12 @@
 -- The bytes of a book: its rows one behind the other, how many they all are, and all of it stored.
 -- Assumes nothing.
-use mathlib.Core.Path.{_≡_, refl}
-use mathlib.Core.List.{List, _++_}
-use Prim.Native.Nat.{ℕ}
-use lib.ListN.{length, length-append}
-use lib.Seq.{sets}
+use Rattle.octets.proofs.Words.{_≡_, refl, List, _++_, ℕ, length, length-append, sets}
 use Rattle.octets.specs.Numbers.{digits}
 use Rattle.octets.proofs.NumberLaws.{length-digits}
 use Rattle.octets.proofs.StoreLaws.{sets-append}
 use Rattle.site_plan.proofs.PlanByteLaws.{length-plan}
 use Rattle.book_members.specs.Members.{rowOf, rowsOf}
-use Rattle.book.specs.Books.{Stated}
+use Rattle.book.specs.Books.{Contents}
 use Rattle.site_plan.specs.PlanBytes.{planBytes}
 use Rattle.book_bytes.specs.BookBytes.{rowWidths, rowValues, rowsBytes, bookSize, bookBytes}
 use Rattle.octets.proofs.RunLaws.{Run, run-length}
@@ -24,17 +20,17 @@ unfolding rowsOf
 members-run = record { none = refl; more = λ m ms. refl; full = λ m. refl }
 
 -- ---- all of it
-pub length-front : (b : Stated) → length (planBytes (b .plan) ++ digits 4 (b .time)) ≡ 13
+pub length-front : (b : Contents) → length (planBytes (b .plan) ++ digits 4 (b .time)) ≡ 13
 length-front b = rw (length-append (planBytes (b .plan)) (digits 4 (b .time)), length-plan (b .plan), length-digits 4 (b .time))
 
-pub length-book : (b : Stated) → length (b .places) ≡ 21 → length (bookBytes b) ≡ bookSize
+pub length-book : (b : Contents) → length (b .places) ≡ 21 → length (bookBytes b) ≡ bookSize
 unfolding bookBytes
 length-book b e =
     let front = planBytes (b .plan) ++ digits 4 (b .time) in
     rw (length-append front (rowsBytes (b .places)), length-front b, run-length rows-run (b .places), e)
 
 -- the plan, the time behind it, and the rows behind that
-pub plan-first : (l : List ℕ) (b : Stated)
+pub plan-first : (l : List ℕ) (b : Contents)
     → sets (sets (sets l 0 (planBytes (b .plan))) 9 (digits 4 (b .time))) 13 (rowsBytes (b .places)) ≡ sets l 0 (bookBytes b)
 unfolding bookBytes
 plan-first l b =

@@ -1,38 +1,28 @@
 -- The round trips of a book and its bytes.
 -- Assumes nothing.
-use mathlib.Core.Path.{_≡_, refl, ap, ap₂, _∙_}
-use mathlib.Core.List.{List, [], _∷_, _++_, map, append-assoc, append-nil}
-use Prim.Native.Nat.{ℕ, _+_, _*_, _≤_}
-use native.Mathlib.Omega.{arith}
-use lib.ListN.{length, take, drop}
-use lib.Seq.{take-all, take-add}
-use Rattle.octets.specs.Layouts.{fields, bytes, Fit, Bytes}
-use Rattle.octets.specs.Lists.{tab}
+use Rattle.octets.proofs.Words.{_≡_, refl, ap, _∙_, List, _++_, append-assoc, ℕ, _+_, _*_, _≤_, arith, length, take, drop, take-all, take-add}
+use Rattle.octets.specs.Layouts.{fields, bytes, Bytes}
+use Rattle.octets.specs.Lists.{tab, Each}
 use Rattle.octets.specs.Numbers.{num, digits}
-use Rattle.octets.proofs.LayoutLaws.{fields-bytes, bytes-fields}
+use Rattle.octets.proofs.LayoutLaws.{bytes-fields}
 use Rattle.octets.proofs.NumberLaws.{num-lt, num-digits, digits-num}
 use Rattle.slot_sets.specs.Sets.{Slots}
 use Rattle.slot_sets.proofs.MaskLaws.{mask-back, set-back}
-use Rattle.site_plan.specs.declared.plan.Plan.{Plan}
-use Rattle.site_plan.specs.Plans.{planValues}
 use Rattle.site_plan.proofs.PlanByteLaws.{length-plan, plan-read}
-use Rattle.book_members.specs.Members.{Row}
-use Rattle.book.specs.Books.{Stated}
-use Rattle.site_plan.specs.PlanBytes.{planWidths, planFrom, planAt, planBytes}
+use Rattle.book_members.specs.Members.{Row, memberWith}
+use Rattle.book.specs.Books.{Contents}
+use Rattle.site_plan.specs.PlanBytes.{planWidths, planAt, planBytes}
 use Rattle.book_bytes.specs.BookBytes.{rowWidths, rowValues, rowFrom, rowAt, rowsBytes, bookIn, bookBytes}
-use Rattle.book_bytes.specs.Trips.{RowsFit, Sized, ReadsBack, WritesBack}
+use Rattle.book_bytes.specs.Trips.{RowFits, Sized, ReadsBack, WritesBack}
 use Rattle.octets.proofs.RunLaws.{run-read, run-kept}
+use Rattle.octets.proofs.ListLaws.{map-same}
 use Rattle.book_bytes.proofs.BookByteLaws.{rows-run, length-front, length-book}
 
 -- ---- what was written, read
 row-back : (r : Row) → rowFrom (rowValues r) ≡ r
-row-back r = ap (λ (s : Slots 64). record { unit = r .unit; slots = s; time = r .time }) (set-back (r .slots))
+row-back r = ap (λ (s : Slots 64). memberWith (r .unit) s (r .time)) (set-back (r .slots))
 
-rows-back : (rs : List Row) → map (λ r. rowFrom (rowValues r)) rs ≡ rs
-rows-back [] = refl
-rows-back (r ∷ rs) = ap₂ {C = List Row} (λ x xs. x ∷ xs) (row-back r) (rows-back rs)
-
-module _ (b : Stated) (z : Sized b) where
+module _ (b : Contents) (z : Sized b) where
   time-read : num 4 (bookBytes b) 9 ≡ b .time
   unfolding bookBytes
   time-read =
@@ -43,8 +33,8 @@ module _ (b : Stated) (z : Sized b) where
   unfolding bookBytes rowAt
   rows-read =
       let front = planBytes (b .plan) ++ digits 4 (b .time) in
-      let read = run-read rows-run RowsFit (λ r rs h. h) rowFrom (rowAt (bookBytes b)) (b .places) front 13 (length-front b) (z .rows) (λ i. refl) in
-      (rw (z .places) at read) ∙ rows-back (b .places)
+      let read = run-read rows-run (Each RowFits) (λ r rs h. h) rowFrom (rowAt (bookBytes b)) (b .places) front 13 (length-front b) (z .rows) (λ i. refl) in
+      (rw (z .places) at read) ∙ map-same (λ r. rowFrom (rowValues r)) row-back (b .places)
 
   book-read : bookIn (bookBytes b) ≡ b
   unfolding bookIn bookBytes

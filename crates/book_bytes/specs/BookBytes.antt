@@ -3,12 +3,12 @@
 use Prim.Native.Nat.{ℕ, _+_, _*_}
 use mathlib.Core.List.{List, [], _∷_, _++_}
 use lib.ListN.{getD}
-use Rattle.octets.specs.Layouts.{total, fields, bytes}
+use Rattle.octets.specs.Layouts.{total, fields, inTurn}
 use Rattle.octets.specs.Lists.{tab}
 use Rattle.octets.specs.Numbers.{num, digits}
 use Rattle.slot_sets.specs.Sets.{slotsOf, maskOf}
-use Rattle.book_members.specs.Members.{Row}
-use Rattle.book.specs.Books.{Stated}
+use Rattle.book_members.specs.Members.{Row, memberWith}
+use Rattle.book.specs.Books.{Contents}
 use Rattle.site_plan.specs.PlanBytes.{planSize, planAt, planBytes}
 
 -- ---- a row
@@ -19,7 +19,7 @@ abbrev pub rowValues : Row → List ℕ
 rowValues r = r .unit ∷ maskOf (r .slots) ∷ r .time ∷ []
 
 abbrev pub rowFrom : List ℕ → Row
-rowFrom vs = record { unit = getD vs 0 0; slots = slotsOf (getD vs 1 0); time = getD vs 2 0 }
+rowFrom vs = memberWith (getD vs 0 0) (slotsOf (getD vs 1 0)) (getD vs 2 0)
 
 -- where the rows start: 13
 abbrev pub rowsAt : ℕ
@@ -31,8 +31,7 @@ rowAt s i = rowFrom (fields rowWidths s (rowsAt + total rowWidths * i))
 
 -- the bytes of rows, one behind the other
 abbrev pub rowsBytes : List Row → List ℕ
-rowsBytes [] = []
-rowsBytes (r ∷ rs) = bytes rowWidths (rowValues r) ++ rowsBytes rs
+rowsBytes rs = inTurn rowWidths rowValues rs
 
 -- ---- a book
 -- how many bytes a book has: 307
@@ -40,8 +39,8 @@ abbrev pub bookSize : ℕ
 bookSize = rowsAt + total rowWidths * 21
 
 -- the book that bytes say; a byte past the end is 0
-unfoldable pub bookIn : List ℕ → Stated
+unfoldable pub bookIn : List ℕ → Contents
 bookIn s = record { plan = planAt s 0; time = num 4 s planSize; places = tab 21 (rowAt s) }
 
-unfoldable pub bookBytes : Stated → List ℕ
+unfoldable pub bookBytes : Contents → List ℕ
 bookBytes b = planBytes (b .plan) ++ digits 4 (b .time) ++ rowsBytes (b .places)

@@ -5,7 +5,7 @@ ghost use lib.Seq.{sets};
 ghost use Rattle.octets.specs.Calls.{after};
 ghost use Rattle.octets.specs.Layouts.{fields, bytes};
 ghost use Rattle.book_members.specs.Members.{rowOf, rowsOf};
-ghost use Rattle.book.specs.Books.{stated};
+ghost use Rattle.book.specs.Books.{contents};
 ghost use Rattle.book_bytes.specs.BookBytes.{rowWidths, rowValues, rowFrom, rowAt, rowsBytes, bookSize, bookIn, bookBytes};
 use book::book::Book;
 use book_members::member::Member;
@@ -46,7 +46,7 @@ fn member_at(s: &[u8], place: u8) -> Member
 
 // The book that the bytes say, within rule or not. A byte past the end is 0.
 pub fn book_of(s: &[u8]) -> Book
-    ensures { λ r. ⌜ stated r ≡ bookIn (now (s .entry)) ⌝ }
+    ensures { λ r. ⌜ contents r ≡ bookIn (now (s .entry)) ⌝ }
 {
     let mut rows = [Member {
         unit: 0,
@@ -96,7 +96,7 @@ fn put_members(out: &mut [u8], rows: [Member; 21])
 
 // The bytes of a book, as far as there is room.
 pub fn put_book(out: &mut [u8], book: Book)
-    ensures { λ _. ⌜ (now (out .exit) ≡ sets (now (out .entry)) 0 (bookBytes (stated book))) × (length (book .rows) ≡ 21) ⌝ }
+    ensures { λ _. ⌜ (now (out .exit) ≡ sets (now (out .entry)) 0 (bookBytes (contents book))) × (length (book .rows) ≡ 21) ⌝ }
 {
     let rows = book.rows;
     put_plan(out, 0, book.plan);
@@ -106,7 +106,7 @@ pub fn put_book(out: &mut [u8], book: Book)
 
 // The end of every call that changes a stored book: the new one is written where nothing refuses it.
 pub fn write_back(book: &mut [u8], refused: u8, next: Book) -> u8
-    ensures { λ r. ⌜ (r ≡ refused) × (now (book .exit) ≡ after refused (now (book .entry)) (sets (now (book .entry)) 0 (bookBytes (stated next)))) × (refused ≡ 0 → length (bookBytes (stated next)) ≡ bookSize) ⌝ }
+    ensures { λ r. ⌜ (r ≡ refused) × (now (book .exit) ≡ after refused (now (book .entry)) (sets (now (book .entry)) 0 (bookBytes (contents next)))) × (refused ≡ 0 → length (bookBytes (contents next)) ≡ bookSize) ⌝ }
 {
     if refused != 0 {
         return refused;

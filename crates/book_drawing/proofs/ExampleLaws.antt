@@ -1,23 +1,20 @@
 -- Document 01's example of what slotview prints, byte for byte.
 -- Assumes nothing.
-use mathlib.Core.Path.{_≡_, refl}
-use mathlib.Core.List.{[], _∷_}
-use Prim.Native.Nat.{ℕ}
-use lib.ListN.{replicate}
+use Rattle.octets.proofs.Words.{_≡_, refl, [], _∷_, ℕ, replicate}
 use Rattle.octets.specs.Lists.{tab}
 use Rattle.slot_sets.specs.Sets.{has, bits, slotsOf}
 use Rattle.site_plan.specs.Plans.{slotsIn}
 use Rattle.site_plan.specs.Schedules.{kindOf}
-use Rattle.book_members.specs.Members.{Row, emptyRow}
-use Rattle.book.specs.Books.{Stated}
+use Rattle.book_members.specs.Members.{Row, emptyRow, memberWith}
+use Rattle.book.specs.Books.{Contents}
 use Rattle.book_drawing.specs.Views.{bookText}
 
 -- a member with the data slots whose bits are set in a mask
 abbrev member : ℕ → ℕ → Row
-member unit mask = record { unit = unit; slots = slotsOf mask; time = 0 }
+member unit mask = memberWith unit (slotsOf mask) 0
 
 -- the manager with data slot 0, and 0x0201 with data slot 1
-abbrev shown : Stated
+abbrev shown : Contents
 shown =
     record {
       plan = record { network = 1; manager = 0x0100; «max_hops» = 1; rows = 2; «data_slots» = 2; «slot_ms» = 1000 };

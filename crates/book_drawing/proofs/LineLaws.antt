@@ -1,16 +1,6 @@
 -- Lines: the letters of all slots, the head line, a row in use or not, the rows that are left, and the whole.
 -- Assumes nothing.
-use mathlib.Core.Path.{_≡_, refl, sym, ap, _∙_}
-use mathlib.Core.Bool.{Bool, true, false, cond}
-use mathlib.Core.List.{List, [], _∷_, _++_}
-use Prim.Native.Nat.{ℕ, suc, _+_, _≤_, _<_, min}
-use native.Mathlib.Omega.{arith}
-use native.Mathlib.Nat.{zero-add}
-use native.Mathlib.Numerals.{add-one}
-use borrow.Author.Tests.{eq-eqb, ne-eqb}
-use lib.Dec.{eqb}
-use lib.ListN.{length, getD, take, drop, length-append}
-use lib.Seq.{sets}
+use Rattle.octets.proofs.Words.{_≡_, refl, sym, ap, _∙_, Bool, true, false, cond, List, [], _∷_, _++_, ℕ, suc, _+_, _≤_, _<_, min, zero-add, add-one, arith, eq-eqb, ne-eqb, eqb, length, getD, take, drop, length-append, sets}
 use Rattle.octets.specs.Lists.{tab}
 use Rattle.octets.proofs.ListLaws.{length-tab}
 use Rattle.octets.proofs.StoreLaws.{sets-append}
@@ -18,11 +8,11 @@ use Rattle.slot_sets.specs.Sets.{Slots}
 use Rattle.site_plan.specs.declared.plan.Plan.{Plan}
 use Rattle.site_plan.specs.Plans.{active, slots}
 use Rattle.site_plan.specs.Schedules.{kindOf}
+use Rattle.site_plan.proofs.PlanLaws.{few-slots}
 use Rattle.book_members.specs.declared.member.Member.{Member}
 use Rattle.book_members.specs.Members.{Row, rowOf, rowsOf, vacantRow}
 use Rattle.book_members.proofs.RowLoopLaws.{nobody, row-and-rest, none-left}
-use Rattle.book.specs.Books.{Stated, rowsIn}
-use Rattle.book.proofs.ScheduleLaws.{few-slots}
+use Rattle.book.specs.Books.{Contents, rowsIn}
 use Rattle.book_drawing.specs.Views.{slotsWord, activeWord, newline, letter, decimal, headLine, drawn, memberLine, memberLines, bookText}
 use Rattle.book_drawing.proofs.TextLaws.{Wrote, then-put}
 
@@ -91,7 +81,7 @@ module _ (l : List ℕ) (at : ℕ) (p : Plan) (ms : List Member) (long : length 
       (e, omega (arith, n))
 
 -- ---- the whole
-pub book-told : (l : List ℕ) (b : Stated) {mid held : List ℕ} {place next : ℕ} → mid ≡ sets l 0 (headLine (b .plan)) → place ≡ length (headLine (b .plan))
+pub book-told : (l : List ℕ) (b : Contents) {mid held : List ℕ} {place next : ℕ} → mid ≡ sets l 0 (headLine (b .plan)) → place ≡ length (headLine (b .plan))
     → Wrote mid place (memberLines (b .plan) 0 (rowsIn b)) held next → (held ≡ sets l 0 (bookText b)) × (next ≡ length (bookText b))
 unfolding bookText
 book-told l b e p w =

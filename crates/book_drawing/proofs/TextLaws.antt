@@ -1,17 +1,10 @@
 -- Texts stored one behind the other, and the digits of numbers.
 -- Assumes nothing.
-use mathlib.Core.Path.{_≡_, refl, _∙_}
-use mathlib.Core.Bool.{Bool, true, false, cond}
-use lib.Dec.{ltb}
-use mathlib.Core.List.{List, [], _∷_, _++_}
-use Prim.Native.Nat.{ℕ, _+_, _/_, _%_, _≤_, _<_}
-use native.Mathlib.Omega.{arith}
-use borrow.Author.Tests.{lt-ltb, le-ltb}
-use lib.ListN.{length, length-append}
-use lib.Seq.{sets}
+use Rattle.octets.proofs.Words.{_≡_, refl, _∙_, List, [], _∷_, _++_, ℕ, _+_, _/_, _%_, _≤_, _<_, arith, lt-ltb, le-ltb, ltb, length, length-append, sets}
 use Rattle.octets.specs.Lists.{tab}
 use Rattle.octets.proofs.ListLaws.{tab-snoc, length-tab}
 use Rattle.octets.proofs.StoreLaws.{sets-append}
+use Rattle.octets.proofs.TestLaws.{of-choice}
 use Rattle.book_drawing.specs.Views.{decimal, hexDigit, hex}
 
 -- a text stored from a place on: what was held, the place, the text, what is then held, and the place behind it
@@ -55,12 +48,10 @@ module _ {n a : ℕ} (x : a ≡ 48 + n % 10) where
         let e : n / 100 % 10 ≡ n / 100 = omega arith in
         rw (le-ltb n 10 g, le-ltb n 100 k, x, y, z, e)
 
-either-short : (b : Bool) (s t : List ℕ) → length s ≤ 3 → length t ≤ 3 → length (cond b s t) ≤ 3
-either-short true s t h k = h
-either-short false s t h k = k
-
-decimal-short : (n : ℕ) → length (decimal n) ≤ 3
-decimal-short n = either-short (ltb n 10) _ _ (omega arith) (either-short (ltb n 100) _ _ (omega arith) (omega arith))
+pub decimal-short : (n : ℕ) → length (decimal n) ≤ 3
+decimal-short n =
+    let short : List ℕ → Type 0 = λ l. length l ≤ 3 in
+    of-choice short (ltb n 10) (omega arith) (of-choice short (ltb n 100) (omega arith) (omega arith))
 
 pub decimal-put : (l : List ℕ) (at n : ℕ) {held s : List ℕ} {next : ℕ} → s ≡ decimal n → Wrote l at s held next
     → (held ≡ sets l at (decimal n)) × (next ≡ at + length (decimal n)) × (next ≤ at + 3)

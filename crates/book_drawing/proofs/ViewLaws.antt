@@ -1,32 +1,27 @@
 -- The text of an image, from what restoring it answers.
 -- Assumes nothing.
-use mathlib.Core.Path.{_≡_, refl, sym, ap, _∙_}
-use mathlib.Core.Bool.{Bool, true, false, not, cond}
-use mathlib.Core.List.{List, [], _∷_, _++_}
-use Prim.Native.Nat.{ℕ, suc, _+_, _*_, _≤_, min}
-use native.Mathlib.Omega.{arith}
-use lib.Dec.{ltb}
-use lib.Seq.{sets, length-sets}
-use lib.ListN.{length, take, length-append, length-take}
+use Rattle.octets.proofs.Words.{_≡_, refl, sym, ap, _∙_, Bool, true, false, not, cond, List, [], _∷_, _++_, ℕ, suc, _+_, _*_, _≤_, min, arith, length, take, length-append, length-take, sets, length-sets}
 use Rattle.octets.proofs.ListLaws.{length-tab}
+use Rattle.octets.proofs.TestLaws.{of-choice}
 use Rattle.site_plan.specs.declared.plan.Plan.{Plan}
 use Rattle.site_plan.specs.Plans.{active, slots}
+use Rattle.site_plan.proofs.PlanLaws.{few-slots}
 use Rattle.book_members.specs.Members.{Row, vacantRow}
-use Rattle.book.specs.Books.{Stated, Left, rowsIn}
-use Rattle.book.proofs.ScheduleLaws.{few-slots}
-use Rattle.book_image.specs.Images.{bookIn, acceptedImage, restoreOf}
-use Rattle.book_drawing.specs.Views.{decimal, headLine, memberLine, memberLines, bookText, refusedText, viewOf, ViewFits}
+use Rattle.book.specs.Books.{Contents, BookChange, rowsIn}
+use Rattle.book_image.specs.Images.{imageBook, acceptedImage, restoreOf}
+use Rattle.book_drawing.specs.Views.{headLine, memberLine, memberLines, bookText, refusedText, viewOf, ViewFits}
+use Rattle.book_drawing.proofs.TextLaws.{decimal-short}
 
-module _ (s : List ℕ) (r : Left) (e : r ≡ restoreOf s 0) where
+module _ (s : List ℕ) (r : BookChange) (e : r ≡ restoreOf s 0) where
   number : r .refused ≡ cond (not (acceptedImage s 0)) 14 0
   unfolding restoreOf
-  number = ap (λ (x : Left). x .refused) e
+  number = ap (λ (x : BookChange). x .refused) e
 
   pub view-refused : (r .refused ≡ 0 → ⊥) → viewOf s ≡ refusedText
   unfolding viewOf
   view-refused z = go (acceptedImage s 0) refl
     where
-      go : (t : Bool) → acceptedImage s 0 ≡ t → cond t (bookText (bookIn s 0)) refusedText ≡ refusedText
+      go : (t : Bool) → acceptedImage s 0 ≡ t → cond t (bookText (imageBook s 0)) refusedText ≡ refusedText
       go true q = absurd (z (number ∙ rw q))
       go false q = refl
 
@@ -34,8 +29,8 @@ module _ (s : List ℕ) (r : Left) (e : r ≡ restoreOf s 0) where
   unfolding viewOf restoreOf
   view-accepted z = go (acceptedImage s 0) refl
     where
-      go : (t : Bool) → acceptedImage s 0 ≡ t → cond t (bookText (bookIn s 0)) refusedText ≡ bookText (r .book)
-      go true q = sym (ap (λ (x : Left). bookText (x .book)) e ∙ rw q)
+      go : (t : Bool) → acceptedImage s 0 ≡ t → cond t (bookText (imageBook s 0)) refusedText ≡ bookText (r .book)
+      go true q = sym (ap (λ (x : BookChange). bookText (x .book)) e ∙ rw q)
       go false q =
           let fourteen : r .refused ≡ 14 = number ∙ rw q in
           absurd (omega (arith, z, fourteen))
@@ -50,14 +45,6 @@ viewed out text held n e m =
     (e, m, inside, omega (arith, inside, length-take n held))
 
 -- ---- how long it can be
-decimal-short : (n : ℕ) → length (decimal n) ≤ 3
-decimal-short n = go (ltb n 10) (ltb n 100) _ _ _ (omega arith) (omega arith) (omega arith)
-  where
-    go : (small middle : Bool) (one two three : List ℕ) → length one ≤ 3 → length two ≤ 3 → length three ≤ 3 → length (cond small one (cond middle two three)) ≤ 3
-    go true middle one two three a b c = a
-    go false true one two three a b c = b
-    go false false one two three a b c = c
-
 both-short : (a b : List ℕ) (m n k : ℕ) → length a ≤ m → length b ≤ n → m + n ≤ k → length (a ++ b) ≤ k
 both-short a b m n k h l e = omega (arith, length-append a b, h, l, e)
 
@@ -77,20 +64,16 @@ lines-short p row (r ∷ rs) = go (vacantRow r) (lines-short p (suc row) rs)
     go false h = both-short (memberLine p row r) (memberLines p (suc row) rs) 106 (106 * length rs) _ (line-short p row r) h (omega arith)
 
 -- a book of 21 places has at most as many lines
-text-short : (b : Stated) → length (b .places) ≡ 21 → length (bookText b) ≤ 2247
+text-short : (b : Contents) → length (b .places) ≡ 21 → length (bookText b) ≤ 2247
 unfolding bookText
 text-short b e =
     both-short (headLine (b .plan)) (memberLines (b .plan) 0 (rowsIn b)) 21 (106 * length (rowsIn b)) 2247 (head-short (b .plan)) (lines-short (b .plan) 0 (rowsIn b))
     (omega (arith, length-take (b .plan .rows) (b .places), e))
 
-places : (s : List ℕ) → length (bookIn s 0 .places) ≡ 21
-unfolding bookIn
+places : (s : List ℕ) → length (imageBook s 0 .places) ≡ 21
+unfolding imageBook
 places s = length-tab 21 _
 
 pub view-fits : ViewFits
 unfolding viewOf
-view-fits s = go (acceptedImage s 0)
-  where
-    go : (t : Bool) → length (cond t (bookText (bookIn s 0)) refusedText) ≤ 2247
-    go true = text-short (bookIn s 0) (places s)
-    go false = omega arith
+view-fits s = of-choice (λ l. length l ≤ 2247) (acceptedImage s 0) {y = refusedText} (text-short (imageBook s 0) (places s)) (omega arith)

@@ -11,8 +11,8 @@ use Rattle.site_plan.specs.declared.plan.Plan.{Plan}
 use Rattle.site_plan.specs.Plans.{active, slots}
 use Rattle.site_plan.specs.Schedules.{kindOf}
 use Rattle.book_members.specs.Members.{Row, vacantRow}
-use Rattle.book.specs.Books.{Stated, rowsIn}
-use Rattle.book_image.specs.Images.{bookIn, acceptedImage}
+use Rattle.book.specs.Books.{Contents, rowsIn}
+use Rattle.book_image.specs.Images.{imageBook, acceptedImage}
 
 -- ---- letters
 -- "slots ", " active ", "refused 14"
@@ -71,7 +71,7 @@ memberLines p row (r ∷ rs) = cond (vacantRow r) (memberLines p (suc row) rs) (
 
 -- ---- the whole
 -- what is printed of a book
-unfoldable pub bookText : Stated → List ℕ
+unfoldable pub bookText : Contents → List ℕ
 bookText b = headLine (b .plan) ++ memberLines (b .plan) 0 (rowsIn b)
 
 abbrev pub refusedText : List ℕ
@@ -79,7 +79,7 @@ refusedText = refusedWord ++ newline ∷ []
 
 -- what slotview prints of an image: its book, restored at any time, or that it is refused
 unfoldable pub viewOf : List ℕ → List ℕ
-viewOf s = cond (acceptedImage s 0) (bookText (bookIn s 0)) refusedText
+viewOf s = cond (acceptedImage s 0) (bookText (imageBook s 0)) refusedText
 
 -- no text is longer than this
 abbrev pub ViewFits : Type 0

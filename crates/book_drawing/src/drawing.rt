@@ -8,7 +8,7 @@ ghost use lib.ListN.{length, take};
 ghost use lib.Seq.{sets};
 ghost use Rattle.slot_sets.specs.Sets.{slotsOf};
 ghost use Rattle.book_members.specs.Members.{rowOf, rowsOf, vacantRow};
-ghost use Rattle.book.specs.Books.{stated};
+ghost use Rattle.book.specs.Books.{contents};
 ghost use Rattle.book_drawing.specs.Views.{letter, headLine, drawn, memberLine, memberLines, bookText};
 use crate::text::put_byte;
 use crate::text::put_decimal;
@@ -102,7 +102,7 @@ fn put_rows(out: &mut [u8], at: usize, plan: Plan, rows: [Member; 21]) -> usize
 
 // Writes the lines of a book, as far as there is room, and says how many bytes they have.
 pub fn put_book(out: &mut [u8], book: Book) -> usize
-    ensures { λ r. ⌜ (now (out .exit) ≡ sets (now (out .entry)) 0 (bookText (stated book))) × (r ≡ length (bookText (stated book))) ⌝ }
+    ensures { λ r. ⌜ (now (out .exit) ≡ sets (now (out .entry)) 0 (bookText (contents book))) × (r ≡ length (bookText (contents book))) ⌝ }
 {
     let plan = book.plan;
     let rows = book.rows;

@@ -1,15 +1,8 @@
 -- Every book of a history is within rule, and 14 is only for a hop.
 -- Assumes nothing.
-use mathlib.Core.Path.{_≡_, refl, sym, ap, _∙_}
-use mathlib.Core.Bool.{Bool, true, false, not, _&&_, _||_, cond, and-eq-true-iff, or-true}
-use mathlib.Core.List.{List, [], _∷_, _++_}
-use Prim.Native.Nat.{ℕ, zero, suc}
-use native.Mathlib.Omega.{arith}
-use borrow.Author.Tests.{eq-eqb, not-false}
-use lib.Dec.{eqb}
-use lib.ListN.{length, take, length-take}
+use Rattle.octets.proofs.Words.{_≡_, refl, sym, ap, _∙_, Bool, true, false, not, _&&_, _||_, cond, and-eq-true-iff, or-true, List, [], _∷_, ℕ, zero, suc, arith, eq-eqb, not-false, eqb, length, take, length-take}
 use Rattle.octets.specs.Answers.{reason, first}
-use Rattle.octets.proofs.AnswerLaws.{numbered, never-given, none-holds, unless-number}
+use Rattle.octets.proofs.AnswerLaws.{never-given, none-holds, unless-number}
 use Rattle.octets.specs.Lists.{every}
 use Rattle.octets.proofs.CallLaws.{after-accepted}
 use Rattle.octets.proofs.ListLaws.{length-tab, every-tab}
@@ -18,29 +11,28 @@ use Rattle.site_plan.specs.declared.plan.Plan.{Plan}
 use Rattle.site_plan.proofs.PlanLaws.{rule-bounds}
 use Rattle.book_members.specs.Members.{Row, vacantRow}
 use Rattle.book_members.proofs.RowLaws.{length-current}
-use Rattle.book.specs.Books.{Stated, withinRule, rowsIn, rowsAt, liveAt, noBook, freshBook, freshOf, memberReasons, heardOf, leaveOf}
+use Rattle.book.specs.Books.{Contents, withinRule, rowsIn, rowsAt, liveAt, noBook, freshBook, freshOf, heardOf, leaveOf}
+use Rattle.book.proofs.VisitLaws.{memberReasons}
 use Rattle.book.proofs.WithinLaws.{within}
 use Rattle.book.specs.Schedules.{hopRule, scheduleReasons, scheduleRefusal, scheduleOf}
-use Rattle.book_joins.specs.Joins.{joinIn, noRowFor, joinReasons, joinOf, askIn, askReasons, askOf}
-use Rattle.book_history.specs.Calls.{join, ask, heard, leave, schedule}
-use Rattle.book_history.specs.Calls as keeping
-use Rattle.book_history.proofs.CallLaws.{joinShort, askShort}
+use Rattle.book_joins.specs.Joins.{joinReasons, joinOf, askReasons, askOf}
+use Rattle.book_history.specs.Calls.{Call, join, ask, heard, leave, schedule, image, refusalOf, next}
 use Rattle.book_history.proofs.RuleLaws.{keeps-rule, keeps-plan}
 use Rattle.book_history.proofs.FreshLaws.{every-empty}
 use Rattle.book_history.proofs.HoldingLaws.{by-refusal}
 use Rattle.book_image.specs.Forms.{fits}
-use Rattle.book_image.specs.Images.{sections, planIn, rowIn, bookIn, acceptedImage, restoreOf, imageReasons, imageWritten}
+use Rattle.book_image.specs.Images.{sections, planIn, rowIn, imageBook, acceptedImage, restoreOf, imageReasons, imageWritten}
 use Rattle.book_image.proofs.AcceptedLaws.{rows-used, good}
-use Rattle.book_history.specs.BookEvents.{Start, fresh, restored, begun, Event, call, image, next, after, answer}
+use Rattle.book_history.specs.Histories.{Start, fresh, restored, begun, afterCalls}
 use Rattle.book_history.specs.BookLaws.{StaysWithinRule, wrongHop, OnlyForHops, bookAfter}
-use Rattle.frame_kinds.proofs.FourteenLaws.{some-number, in-rule, read-never, only-so}
+use Rattle.frame_kinds.proofs.FourteenLaws.{some-number, read-never, only-so}
 
 -- ---- the rule
 restored-within : (s : List ℕ) (time : ℕ) → restoreOf s time .refused ≡ 0 → withinRule (restoreOf s time .book) ≡ true
 unfolding restoreOf acceptedImage
 restored-within s time z =
-    let good = not-false (acceptedImage s time) (none-holds (reason (not (acceptedImage s time)) 14 ∷ []) (numbered _ 14 (λ e. omega arith), tt) z .0) in
-    ap withinRule (after-accepted _ noBook (bookIn s time) z) ∙ and-eq-true-iff (fits (sections (planIn s .rows)) s) (withinRule (bookIn s time)) .0 good .1
+    let good = not-false (acceptedImage s time) (none-holds (reason (not (acceptedImage s time)) 14 ∷ []) _ z .0) in
+    ap withinRule (after-accepted _ noBook (imageBook s time) z) ∙ and-eq-true-iff (fits (sections (planIn s .rows)) s) (withinRule (imageBook s time)) .0 good .1
 
 pub begun-within : (start : Start) → begun start .refused ≡ 0 → withinRule (begun start .book) ≡ true
 begun-within (fresh p time) z = keeps-rule .0 p time z
@@ -61,106 +53,71 @@ fresh-new p time zero = refl
 fresh-new p time (suc n) = rw (eq-eqb time time refl, or-true) (every-empty (λ r. vacantRow r || eqb (r .time) time) refl 20 n .0)
 
 pub begun-new : (start : Start) → begun start .refused ≡ 0 → every (λ r. vacantRow r || eqb (r .time) (begun start .book .time)) (rowsIn (begun start .book)) ≡ true
-unfolding freshOf restoreOf bookIn
+unfolding freshOf restoreOf imageBook
 begun-new (fresh p time) z = rw (after-accepted _ noBook (freshBook p time) z) (fresh-new p time (p .rows))
 begun-new (restored s time) z =
-    let good-image = good s time (not-false (acceptedImage s time) (none-holds (reason (not (acceptedImage s time)) 14 ∷ []) (numbered _ 14 (λ e. omega arith), tt) z .0)) in
+    let good-image = good s time (not-false (acceptedImage s time) (none-holds (reason (not (acceptedImage s time)) 14 ∷ []) _ z .0)) in
     let test : Row → Bool = λ r. vacantRow r || eqb (r .time) time in
-    rw (after-accepted _ noBook (bookIn s time) z, rows-used s time (good-image .plan)) (every-tab test (planIn s .rows) (rowIn s time) (λ i h. new-in s time i))
+    rw (after-accepted _ noBook (imageBook s time) z, rows-used s time (good-image .plan)) (every-tab test (planIn s .rows) (rowIn s time) (λ i h. new-in s time i))
 
-pub rule-next : (b : Stated) (e : Event) → withinRule b ≡ true → withinRule (next b e) ≡ true
-rule-next b (call c) w = by-refusal (λ new. withinRule new ≡ true) b c w (keeps-rule .1 b c)
-rule-next b (image time out) w = w
-
-pub rule-after : (b : Stated) (es : List Event) → withinRule b ≡ true → withinRule (after b es) ≡ true
+rule-after : (b : Contents) (cs : List Call) → withinRule b ≡ true → withinRule (afterCalls b cs) ≡ true
 rule-after b [] w = w
-rule-after b (e ∷ es) w = rule-after (next b e) es (rule-next b e w)
+rule-after b (c ∷ cs) w = rule-after (next b c) cs (by-refusal (λ new. withinRule new ≡ true) b c w (keeps-rule .1 b c))
 
 pub stays-within-rule : StaysWithinRule
-stays-within-rule start es z = rule-after (begun start .book) es (begun-within start z)
+stays-within-rule start cs z = rule-after (begun start .book) cs (begun-within start z)
 
--- ---- the plan, the places, and a history that goes on
-pub plan-next : (b : Stated) (e : Event) → next b e .plan ≡ b .plan
-plan-next b (call c) = keeps-plan b c .0
-plan-next b (image time out) = refl
-
-pub plan-after : (b : Stated) (es : List Event) → after b es .plan ≡ b .plan
+-- ---- the plan and the places
+pub plan-after : (b : Contents) (cs : List Call) → afterCalls b cs .plan ≡ b .plan
 plan-after b [] = refl
-plan-after b (e ∷ es) = plan-after (next b e) es ∙ plan-next b e
+plan-after b (c ∷ cs) = plan-after (next b c) cs ∙ keeps-plan b c .0
 
-places-after : (b : Stated) (es : List Event) → length (after b es .places) ≡ length (b .places)
+places-after : (b : Contents) (cs : List Call) → length (afterCalls b cs .places) ≡ length (b .places)
 places-after b [] = refl
-places-after b (call c ∷ es) = places-after (keeping.next b c) es ∙ keeps-plan b c .1
-places-after b (image time out ∷ es) = places-after b es
+places-after b (c ∷ cs) = places-after (next b c) cs ∙ keeps-plan b c .1
 
 begun-places : (start : Start) → begun start .refused ≡ 0 → length (begun start .book .places) ≡ 21
-unfolding freshOf restoreOf bookIn
-begun-places (fresh p time) z = ap (λ (b : Stated). length (b .places)) (after-accepted _ noBook (freshBook p time) z)
-begun-places (restored s time) z = ap (λ (b : Stated). length (b .places)) (after-accepted _ noBook (bookIn s time) z) ∙ length-tab 21 _
+unfolding freshOf restoreOf imageBook
+begun-places (fresh p time) z = ap (λ (b : Contents). length (b .places)) (after-accepted _ noBook (freshBook p time) z)
+begun-places (restored s time) z = ap (λ (b : Contents). length (b .places)) (after-accepted _ noBook (imageBook s time) z) ∙ length-tab 21 _
 
 -- there are always as many rows as the plan says
-pub rows-many : (start : Start) (es : List Event) (time : ℕ) → begun start .refused ≡ 0 → length (rowsAt (bookAfter start es) time) ≡ bookAfter start es .plan .rows
-rows-many start es time z =
-    let b = bookAfter start es in
-    let few = rule-bounds (b .plan) (within b (stays-within-rule start es z) .plan) .few-rows in
-    omega (arith, few, length-current time (rowsIn b), length-take (b .plan .rows) (b .places), places-after (begun start .book) es, begun-places start z)
-
-pub after-more : (b : Stated) (es more : List Event) → after b (es ++ more) ≡ after (after b es) more
-after-more b [] more = refl
-after-more b (e ∷ es) more = after-more (next b e) es more
+pub rows-many : (start : Start) (cs : List Call) (time : ℕ) → begun start .refused ≡ 0 → length (rowsAt (bookAfter start cs) time) ≡ bookAfter start cs .plan .rows
+rows-many start cs time z =
+    let b = bookAfter start cs in
+    let few = rule-bounds (b .plan) (within b (stays-within-rule start cs z) .plan) .few-rows in
+    omega (arith, few, length-current time (rowsIn b), length-take (b .plan .rows) (b .places), places-after (begun start .book) cs, begun-places start z)
 
 -- ---- 14
-module _ (b : Stated) (w : withinRule b ≡ true) where
-  within-reason : reason (not (withinRule b)) 14 .number ≡ 14 → reason (not (withinRule b)) 14 .holds ≡ false
-  within-reason = in-rule (withinRule b) w
+module _ (b : Contents) (w : withinRule b ≡ true) where
+  join-never : (s : List ℕ) (time room : ℕ) → first (joinReasons b s time room) ≡ 14 → ⊥
+  join-never s time room =
+      never-given 14 (joinReasons b s time room) some-number (ap not w, (read-never joinRequest s, _))
 
-  join-never : (s : List ℕ) (time : ℕ) (noRow short : Bool) → first (joinReasons b s time noRow short) ≡ 14 → ⊥
-  join-never s time noRow short =
-      never-given 14 (joinReasons b s time noRow short) some-number (
-        within-reason,
-        (
-          read-never joinRequest s,
-          (numbered _ 6 (λ z. omega arith), (numbered _ 15 (λ z. omega arith), (numbered _ 8 (λ z. omega arith), (numbered _ 12 (λ z. omega arith), (numbered _ 5 (λ z. omega arith), tt))))),
-        ),
-      )
-
-  ask-never : (s : List ℕ) (time : ℕ) (live short : Bool) → first (askReasons b s time live short) ≡ 14 → ⊥
-  ask-never s time live short =
-      never-given 14 (askReasons b s time live short) some-number (
-        within-reason,
-        (
-          read-never slotRequest s,
-          (numbered _ 6 (λ z. omega arith), (numbered _ 8 (λ z. omega arith), (numbered _ 13 (λ z. omega arith), (numbered _ 5 (λ z. omega arith), tt)))),
-        ),
-      )
+  ask-never : (s : List ℕ) (time room : ℕ) → first (askReasons b s time room) ≡ 14 → ⊥
+  ask-never s time room =
+      never-given 14 (askReasons b s time room) some-number (ap not w, (read-never slotRequest s, _))
 
   member-never : (unit time : ℕ) (found : Bool) → first (memberReasons b unit time found) ≡ 14 → ⊥
   member-never unit time found =
-      never-given 14 (memberReasons b unit time found) some-number
-      (within-reason, (numbered _ 4 (λ z. omega arith), (numbered _ 8 (λ z. omega arith), (numbered _ 13 (λ z. omega arith), tt))))
+      never-given 14 (memberReasons b unit time found) some-number (ap not w, _)
 
-  schedule-never : (unit hop time : ℕ) (live : Bool) (room : ℕ) → hopRule (b .plan) unit hop ≡ true → scheduleRefusal b unit hop time live room ≡ 14 → ⊥
-  schedule-never unit hop time live room h =
-      never-given 14 (scheduleReasons b unit hop time live room) some-number (
-        within-reason,
-        (
-          numbered _ 4 (λ z. omega arith),
-          (numbered _ 8 (λ z. omega arith), (in-rule (hopRule (b .plan) unit hop) h, (numbered _ 13 (λ z. omega arith), (numbered _ 5 (λ z. omega arith), tt)))),
-        ),
-      )
+  schedule-never : (unit hop time room : ℕ) → hopRule (b .plan) unit hop ≡ true → scheduleRefusal b unit hop time room ≡ 14 → ⊥
+  schedule-never unit hop time room h =
+      never-given 14 (scheduleReasons b unit hop time room) some-number (ap not w, (_, (_, (ap not h, _))))
 
   image-never : (time room : ℕ) → first (imageReasons b time room) ≡ 14 → ⊥
-  image-never time room = never-given 14 (imageReasons b time room) some-number (within-reason, (numbered _ 8 (λ z. omega arith), (numbered _ 5 (λ z. omega arith), tt)))
+  image-never time room = never-given 14 (imageReasons b time room) some-number (ap not w, _)
 
-  only-hops : (e : Event) → answer b e .refused ≡ 14 → wrongHop b e ≡ true
+  only-hops : (c : Call) → refusalOf b c ≡ 14 → wrongHop b c ≡ true
   unfolding joinOf askOf heardOf leaveOf scheduleOf imageWritten
-  only-hops (call (join s time out)) e = absurd (join-never s time (noRowFor b (joinIn s .node) time) (joinShort b s time out) e)
-  only-hops (call (ask s time out)) e = absurd (ask-never s time (liveAt b (askIn s .node) time) (askShort b s time out) e)
-  only-hops (call (heard unit time)) e = absurd (member-never unit time (liveAt b unit time) e)
-  only-hops (call (leave unit time)) e = absurd (member-never unit time (liveAt b unit time && not (eqb unit (b .plan .manager))) e)
-  only-hops (call (schedule unit hop time out)) e =
-      only-so (hopRule (b .plan) unit hop) (λ h. schedule-never unit hop time (liveAt b unit time) (length out) h (sym (unless-number _ _) ∙ e))
+  only-hops (join s time out) e = absurd (join-never s time (length out) e)
+  only-hops (ask s time out) e = absurd (ask-never s time (length out) e)
+  only-hops (heard unit time) e = absurd (member-never unit time (liveAt b unit time) e)
+  only-hops (leave unit time) e = absurd (member-never unit time (liveAt b unit time && not (eqb unit (b .plan .manager))) e)
+  only-hops (schedule unit hop time out) e =
+      only-so (hopRule (b .plan) unit hop) (λ h. schedule-never unit hop time (length out) h (sym (unless-number _ _) ∙ e))
   only-hops (image time out) e = absurd (image-never time (length out) (sym (unless-number _ _) ∙ e))
 
 pub only-for-hops : OnlyForHops
-only-for-hops start es e z = only-hops (bookAfter start es) (stays-within-rule start es z) e
+only-for-hops start cs c z = only-hops (bookAfter start cs) (stays-within-rule start cs z) c

@@ -1,8 +1,6 @@
 -- Free slots and held ones are all the data slots.
 -- Assumes nothing.
-use mathlib.Core.Path.{_≡_, refl, ap, _∙_}
-use mathlib.Core.List.{List, [], _∷_}
-use Prim.Native.Nat.{ℕ, _+_}
+use Rattle.octets.proofs.Words.{_≡_, refl, ap, _∙_, List, [], _∷_, ℕ, _+_}
 use Rattle.slot_sets.specs.Sets.{count}
 use Rattle.book_members.specs.Members.{Row, free}
 use Rattle.book_members.proofs.RowSums.{weigh}

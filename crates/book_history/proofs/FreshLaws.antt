@@ -1,19 +1,12 @@
 -- A fresh book is within rule.
 -- Assumes nothing.
-use mathlib.Core.Path.{_≡_, refl, sym, ap, _∙_}
-use mathlib.Core.Bool.{Bool, true, false, not, cond, and-eq-true-iff, or-true}
-use mathlib.Core.List.{[], _∷_}
-use Prim.Native.Nat.{ℕ, zero, suc, _-_, _*_, _≤_}
-use native.Mathlib.Omega.{arith}
-use borrow.Author.Tests.{eq-eqb, ne-eqb, lt-ltb, ltb-true, not-false}
-use lib.Dec.{ltb}
-use lib.ListN.{take, drop, replicate}
+use Rattle.octets.proofs.Words.{_≡_, refl, sym, ap, _∙_, Bool, true, false, not, cond, and-eq-true-iff, or-true, [], _∷_, ℕ, zero, suc, _-_, _*_, _≤_, arith, eq-eqb, ne-eqb, lt-ltb, ltb-true, not-false, ltb, take, drop, replicate}
 use Rattle.octets.specs.Answers.{reason}
-use Rattle.octets.proofs.AnswerLaws.{numbered, none-holds}
+use Rattle.octets.proofs.AnswerLaws.{none-holds}
 use Rattle.octets.specs.Lists.{every}
 use Rattle.octets.proofs.CallLaws.{after-accepted}
-use Rattle.moments.proofs.MomentLaws.{in-order-self}
-use Rattle.frame_kinds.specs.Rules.{address}
+use Rattle.octets.specs.Addresses.{address}
+use Rattle.octets.proofs.AddressLaws.{address-some}
 use Rattle.slot_sets.specs.Sets.{count, Subset, firsts}
 use Rattle.slot_sets.proofs.SetLaws.{firsts-has}
 use Rattle.slot_sets.proofs.LowestLaws.{count-of-firsts}
@@ -21,9 +14,9 @@ use Rattle.site_plan.specs.declared.plan.Plan.{Plan}
 use Rattle.site_plan.specs.Plans.{planRule}
 use Rattle.site_plan.proofs.PlanLaws.{kept, rule-bounds}
 use Rattle.book_members.specs.Members.{Row, emptyRow, vacantRow}
-use Rattle.book_members.specs.Rules.{emptyIs, rowRule}
+use Rattle.book_members.specs.Rules.{emptyIs, rowRule, pastTime}
 use Rattle.book_members.proofs.RowSums.{weigh, one, ofUnit, owns}
-use Rattle.book_members.proofs.RowRuleLaws.{empty-is, no-count, member-rule, needs, rule-empty, Ruled, units-least, owners-least, address-some}
+use Rattle.book_members.proofs.RowRuleLaws.{empty-is, no-count, needs, rule-empty, Ruled, units-least, owners-least, used-rule}
 use Rattle.book.specs.Books.{withinRule, freshRow, noBook, freshBook, freshOf}
 use Rattle.book.proofs.WithinLaws.{by-parts}
 
@@ -63,13 +56,9 @@ fresh-ruled manager dataSlots time n unit h =
     record {
       led = eq-eqb manager manager refl;
       each =
-          rw (member-rule manager dataSlots time r (record {
-            unit = unit;
-            least = omega (arith, single);
-            most = omega (arith, single);
-            inside = first-inside dataSlots (omega (arith, h));
-            past = rw (in-order-self time, or-true);
-          })) (every-empty (rowRule manager dataSlots time) (rule-empty manager dataSlots time) 20 n .0);
+          rw (used-rule dataSlots r (record { unit = unit; least = omega (arith, single); most = omega (arith, single); inside = first-inside dataSlots (omega (arith, h)) }))
+          (every-empty (rowRule dataSlots) (rule-empty dataSlots) 20 n .0);
+      past = rw (eq-eqb manager manager refl, or-true) (every-empty (pastTime manager time) refl 20 n .0);
       units = λ u z. omega (arith, one-most (ofUnit u) r, weigh-empty (one (ofUnit u)) 0 (units-least u z) 20 n);
       owners = λ slot. omega (arith, one-most (owns slot) r, weigh-empty (one (owns slot)) 0 (owners-least slot) 20 n);
       room = omega (arith, h, single, some, weigh-empty needs 1 (omega (arith, no-count)) 20 n);
@@ -79,7 +68,7 @@ fresh-ruled manager dataSlots time n unit h =
 module _ (p : Plan) (time : ℕ) where
   fresh-plan : freshOf p time .refused ≡ 0 → planRule p ≡ true
   unfolding freshOf
-  fresh-plan e = not-false (planRule p) (none-holds (reason (not (planRule p)) 14 ∷ []) (numbered _ 14 (λ z. omega arith), tt) e .0)
+  fresh-plan e = not-false (planRule p) (none-holds (reason (not (planRule p)) 14 ∷ []) _ e .0)
 
   pub fresh-within : freshOf p time .refused ≡ 0 → withinRule (freshOf p time .book) ≡ true
   unfolding freshOf

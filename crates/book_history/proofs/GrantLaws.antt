@@ -1,18 +1,12 @@
 -- How many slots are granted to a newcomer and to a member that asks, and where they come from.
 -- Assumes nothing.
-use mathlib.Core.Path.{_≡_, refl, _∙_}
-use mathlib.Core.Bool.{Bool, true, false, cond}
-use mathlib.Core.List.{List}
-use Prim.Native.Nat.{ℕ, _+_, _-_, _≤_, min}
-use native.Mathlib.Omega.{arith}
-use borrow.Author.Tests.{leb-true, leb-false}
-use lib.Dec.{leb}
+use Rattle.octets.proofs.Words.{_≡_, refl, _∙_, Bool, true, false, cond, List, ℕ, _+_, _-_, _≤_, min, arith, leb-true, leb-false, leb}
 use Rattle.slot_sets.specs.Sets.{Slots, count, Subset, Apart, union, lowest, withoutHighest}
 use Rattle.slot_sets.proofs.SetLaws.{disjoint-is-apart, in-left, in-right, in-union}
 use Rattle.slot_sets.proofs.CountLaws.{count-of-union}
 use Rattle.slot_sets.proofs.LowestLaws.{lowest-is, without-highest-inside, count-of-without-highest}
 use Rattle.book_members.specs.Members.{Row, free, vacant, spare}
-use Rattle.book_joins.specs.Joins.{wish, granted, brought}
+use Rattle.book_joins.specs.Joins.{wish, grantFor, brought}
 
 -- ---- the lesser of a wish and of what there is
 pub record Lesser (wished n there : ℕ) : Type 0 where
@@ -30,7 +24,7 @@ lesser asked n there e h = go (wish asked) (omega arith) (omega arith) e
 -- ---- a newcomer
 module _ (dataSlots : ℕ) (rs : List Row) (asked : ℕ) where
   -- where a row is free, and each free row has a free slot, it gets what is due
-  pub count-granted : 1 ≤ vacant rs → vacant rs ≤ count (free dataSlots rs) → count (granted dataSlots rs asked) ≡ min (wish asked) (spare dataSlots rs + 1)
+  pub count-granted : 1 ≤ vacant rs → vacant rs ≤ count (free dataSlots rs) → count (grantFor dataSlots rs asked) ≡ min (wish asked) (spare dataSlots rs + 1)
   count-granted some fits =
       lowest-is 64 (min (wish asked) (spare dataSlots rs + 1)) (free dataSlots rs) .many
       ∙ enough (wish asked) (vacant rs) (count (free dataSlots rs)) some fits
@@ -38,7 +32,7 @@ module _ (dataSlots : ℕ) (rs : List Row) (asked : ℕ) where
       enough : (n v f : ℕ) → 1 ≤ v → v ≤ f → min (min n (f - v + 1)) f ≡ min n (f - v + 1)
       enough n v f p q = omega arith
 
-  pub granted-free : Subset (granted dataSlots rs asked) (free dataSlots rs)
+  pub granted-free : Subset (grantFor dataSlots rs asked) (free dataSlots rs)
   granted-free = lowest-is 64 (min (wish asked) (spare dataSlots rs + 1)) (free dataSlots rs) .inside
 
 -- ---- a member

@@ -1,27 +1,21 @@
 -- Who holds what: no slot is held by two, a call changes no other unit's holding, and a live member that calls again keeps its own.
 -- Assumes nothing.
-use mathlib.Core.Path.{_≡_, refl, sym, ap, _∙_}
-use mathlib.Core.Bool.{true, false≢true}
-use mathlib.Core.List.{List}
-use Prim.Native.Nat.{ℕ, zero, suc, _<_}
-use native.Mathlib.Decide.{ℕ-discrete}
-use native.Mathlib.Omega.{arith}
-use lib.ListN.{length, length-set}
-use lib.Seq.{getD-set-other}
+use Rattle.octets.proofs.Words.{_≡_, refl, sym, ap, _∙_, true, false≢true, List, ℕ, zero, suc, _<_, ℕ-discrete, arith, length, length-set, getD-set-other}
 use Rattle.moments.specs.Moments.{inOrder}
-use Rattle.frame_kinds.specs.Rules.{address}
+use Rattle.octets.specs.Addresses.{address}
+use Rattle.octets.proofs.AddressLaws.{address-some}
 use Rattle.slot_sets.specs.Sets.{Slots, Apart}
 use Rattle.slot_sets.proofs.SetLaws.{nothing-has, disjoint-is-apart}
-use Rattle.book_members.specs.Members.{Row, emptyRow, rowFor}
+use Rattle.book_members.specs.Members.{Row, emptyRow, placeFor}
 use Rattle.book_members.proofs.RowLaws.{row, Steps, kept-either, kept-later, keptAt, length-current, live-before}
 use Rattle.book_members.proofs.RowSums.{owns, passes-there, only-one}
 use Rattle.book_members.proofs.LookupLaws.{found-unit, found-other, found-same}
-use Rattle.book_members.proofs.RowRuleLaws.{Seat, address-some, ruled-current}
+use Rattle.book_members.proofs.RowRuleLaws.{Seat, ruled-current}
 use Rattle.book_members.proofs.TimedLaws.{timed-rows}
-use Rattle.book.specs.Books.{Stated, rowsIn, rowsAt, liveAt, withRow}
+use Rattle.book.specs.Books.{Contents, rowsIn, rowsAt, liveAt, withRow, holding}
 use Rattle.book_joins.specs.Joins.{askIn, askOf}
-use Rattle.book_history.specs.Calls.{Call, join, ask, heard, leave, schedule, timeOf, unitOf, refusalOf, next}
-use Rattle.book_history.specs.Laws.{SameHolding, OthersStay, repeats, KeepsOwn, holding, HoldApart}
+use Rattle.book_history.specs.Calls.{Call, join, ask, heard, leave, schedule, image, refusalOf, next, unitOf, timeOf}
+use Rattle.book_history.specs.Laws.{SameHolding, OthersStay, repeats, KeepsOwn, HoldApart}
 use Rattle.book_history.proofs.CallLaws.{Allowed}
 use Rattle.book.proofs.WithinLaws.{within}
 use Rattle.book_history.proofs.WrittenLaws.{rows-later}
@@ -36,31 +30,34 @@ hold-apart b time unit unit′ w n = disjoint-is-apart 64 _ _ .1 together
     together s p q =
         let rs = rowsAt b time in
         let at-most-one = ruled-current time (within b w .rows) .owners s in
-        let there = passes-there (owns s) (nothing-has 64 s) rs (rowFor unit rs) p in
-        n (found-same rs unit unit′ there (only-one (owns s) (nothing-has 64 s) rs at-most-one (rowFor unit rs) (rowFor unit′ rs) p q))
+        let there = passes-there (owns s) (nothing-has 64 s) rs (placeFor unit rs) p in
+        n (found-same rs unit unit′ there (only-one (owns s) (nothing-has 64 s) rs at-most-one (placeFor unit rs) (placeFor unit′ rs) p q))
 
 -- ---- the same holding
 -- a unit has the same where it is found at the same place, in rows as many, with the same row there
-module _ (b : Stated) (time : ℕ) (b′ : Stated) (time′ : ℕ) (unit : ℕ) where
+module _ (b : Contents) (time : ℕ) (b′ : Contents) (time′ : ℕ) (unit : ℕ) where
   abbrev now : List Row
   now = rowsAt b time
 
   abbrev then : List Row
   then = rowsAt b′ time′
 
-  pub same-holding : length then ≡ length now → rowFor unit then ≡ rowFor unit now → row then (rowFor unit now) ≡ row now (rowFor unit now) → SameHolding b time b′ time′ unit
+  pub same-holding : length then ≡ length now → placeFor unit then ≡ placeFor unit now → row then (placeFor unit now) ≡ row now (placeFor unit now) → SameHolding b time b′ time′ unit
   same-holding l p r = record { live = rw (l, p); row = p; slots = ap (λ (i : ℕ). row then i .slots) p ∙ ap (λ (r : Row). r .slots) r }
 
+same-self : {b : Contents} {time unit : ℕ} → SameHolding b time b time unit
+same-self = record { live = refl; row = refl; slots = refl }
+
 -- what holds of the book as it was, and of the next where the call is accepted, holds of the next
-pub by-refusal : (P : Stated → Type 0) (b : Stated) (c : Call) → P b → (refusalOf b c ≡ 0 → P (next b c)) → P (next b c)
+pub by-refusal : (P : Contents → Type 0) (b : Contents) (c : Call) → P b → (refusalOf b c ≡ 0 → P (next b c)) → P (next b c)
 by-refusal P b c old new = go (ℕ-discrete (refusalOf b c) 0)
   where
     go : Dec (refusalOf b c ≡ 0) → P (next b c)
     go (yes z) = new z
     go (no z) = rw (refused-keeps b c z) old
 
-same-or : (b : Stated) (c : Call) (unit time : ℕ) → (refusalOf b c ≡ 0 → SameHolding b time (next b c) time unit) → SameHolding b time (next b c) time unit
-same-or b c unit time = by-refusal (λ new. SameHolding b time new time unit) b c (record { live = refl; row = refl; slots = refl })
+same-or : (b : Contents) (c : Call) (unit time : ℕ) → (refusalOf b c ≡ 0 → SameHolding b time (next b c) time unit) → SameHolding b time (next b c) time unit
+same-or b c unit time = by-refusal (λ new. SameHolding b time new time unit) b c same-self
 
 -- ---- calls about others
 module _ (unit : ℕ) (is-address : address unit ≡ true) (later : ℕ) where
@@ -73,7 +70,7 @@ module _ (unit : ℕ) (is-address : address unit ≡ true) (later : ℕ) where
   still-other (suc at) r new = kept-either (λ k. k .unit ≡ unit → ⊥) later r (λ e. new) (λ e. some (sym e))
 
   -- a row written at another's place, or at a free one
-  other-written : {b : Stated} {caller time at : ℕ} (a : Allowed b caller time) → Seat (ruled-rows a) at caller → (unit ≡ caller → ⊥)
+  other-written : {b : Contents} {caller time at : ℕ} (a : Allowed b caller time) → Seat (ruled-rows a) at caller → (unit ≡ caller → ⊥)
       → inOrder (b .time) later ≡ true → inOrder time later ≡ true → (r : Row) → (r .unit ≡ unit → ⊥)
       → SameHolding b later (withRow b time at r) later unit
   other-written {b} {caller} {time} {at} a p n both o r new =
@@ -84,19 +81,19 @@ module _ (unit : ℕ) (is-address : address unit ≡ true) (later : ℕ) where
       λ e. ap (λ (r : Row). r .unit) (live-before (b .time) time later steps (rowsIn b) timed at (λ z. some (sym e ∙ z))) ∙ e in
       let old : row rs at .unit ≡ unit → ⊥ = λ e. n (sym (before e) ∙ p .own (λ z. some (sym (before e) ∙ z))) in
       let there : at < length rs = omega (arith, p .there, length-current time (rowsIn b), length-current later (rowsIn b)) in
-      let elsewhere : rowFor unit rs ≡ at → ⊥ = λ e. old (rw e at (found-unit unit rs (rw e there))) in
+      let elsewhere : placeFor unit rs ≡ at → ⊥ = λ e. old (rw e at (found-unit unit rs (rw e there))) in
       let rows = rows-later b time at r (p .there) later (λ i z. kept-later (b .time) time later steps (row (rowsIn b) i) (timed i z)) in
       let written = keptAt later at r in
       same-holding b later (withRow b time at r) later unit
       (ap length rows ∙ length-set rs at written)
-      (ap (rowFor unit) rows ∙ found-other unit rs at written old (still-other at r new))
-      (ap (λ (l : List Row). row l (rowFor unit rs)) rows ∙ getD-set-other rs at (rowFor unit rs) written emptyRow elsewhere)
+      (ap (placeFor unit) rows ∙ found-other unit rs at written old (still-other at r new))
+      (ap (λ (l : List Row). row l (placeFor unit rs)) rows ∙ getD-set-other rs at (placeFor unit rs) written emptyRow elsewhere)
 
-  other-taken : {b : Stated} {c : Call} {at : ℕ} {own : Slots 64} → (unit ≡ unitOf c → ⊥) → inOrder (b .time) later ≡ true → inOrder (timeOf c) later ≡ true
+  other-taken : {b : Contents} {c : Call} {at : ℕ} {own : Slots 64} → (unit ≡ unitOf c → ⊥) → inOrder (b .time) later ≡ true → inOrder (timeOf c) later ≡ true
       → Taken b c at own → SameHolding b later (next b c) later unit
   other-taken n l o t = rw (t .book) (other-written (t .allowed) (t .place) n l o _ (λ e. n (sym e)))
 
-  other-accepted : (b : Stated) (c : Call) → (unit ≡ unitOf c → ⊥) → inOrder (b .time) later ≡ true → inOrder (timeOf c) later ≡ true → refusalOf b c ≡ 0
+  other-accepted : (b : Contents) (c : Call) → (unit ≡ unitOf c → ⊥) → inOrder (b .time) later ≡ true → inOrder (timeOf c) later ≡ true → refusalOf b c ≡ 0
       → SameHolding b later (next b c) later unit
   other-accepted b (join s time out) n l o z = other-taken n l o (join-taken b s time out z)
   other-accepted b (ask s time out) n l o z = other-taken n l o (ask-taken b s time out z)
@@ -104,28 +101,30 @@ module _ (unit : ℕ) (is-address : address unit ≡ true) (later : ℕ) where
   other-accepted b (leave caller time) n l o z =
       let f = leave-freed b caller time z in
       rw (f .book) (other-written (f .allowed) (f .place) n l o emptyRow (λ e. some (sym e)))
-  other-accepted b (schedule caller hop time out) n l o z = record { live = refl; row = refl; slots = refl }
+  other-accepted b (schedule caller hop time out) n l o z = same-self
+  other-accepted b (image time out) n l o z = same-self
 
 pub others-stay : OthersStay
 others-stay b c unit later a n l o = same-or b c unit later (other-accepted unit a later b c n l o)
 
 -- ---- calls about itself
-own-taken : {b : Stated} {c : Call} → Taken b c (rowFor (unitOf c) (rowsAt b (timeOf c))) (holding b (unitOf c) (timeOf c)) → liveAt b (unitOf c) (timeOf c) ≡ true
+own-taken : {b : Contents} {c : Call} → Taken b c (placeFor (unitOf c) (rowsAt b (timeOf c))) (holding b (unitOf c) (timeOf c)) → liveAt b (unitOf c) (timeOf c) ≡ true
     → SameHolding b (timeOf c) (next b c) (timeOf c) (unitOf c)
 own-taken t live = record { live = taken-live t ∙ sym live; row = taken-row t; slots = taken-holding t }
 
 pub keeps-own : KeepsOwn
 keeps-own = (again, ask-again)
   where
-    again : (b : Stated) (c : Call) → repeats c ≡ true → liveAt b (unitOf c) (timeOf c) ≡ true → SameHolding b (timeOf c) (next b c) (timeOf c) (unitOf c)
+    again : (b : Contents) (c : Call) → repeats c ≡ true → liveAt b (unitOf c) (timeOf c) ≡ true → SameHolding b (timeOf c) (next b c) (timeOf c) (unitOf c)
     again b (join s time out) e live = same-or b (join s time out) _ time (λ z. own-taken (rw live at (join-taken b s time out z)) live)
     again b (ask s time out) e live = absurd (false≢true e)
     again b (heard unit time) e live = same-or b (heard unit time) _ time (λ z. own-taken (heard-taken b unit time z) live)
     again b (leave unit time) e live = absurd (false≢true e)
-    again b (schedule unit hop time out) e live = record { live = refl; row = refl; slots = refl }
+    again b (schedule unit hop time out) e live = same-self
+    again b (image time out) e live = same-self
 
-    ask-again : (b : Stated) (s : List ℕ) (time : ℕ) (out : List ℕ) → liveAt b (askIn s .node) time ≡ true
-        → rowFor (askIn s .node) (rowsAt (askOf b s time out .book) time) ≡ rowFor (askIn s .node) (rowsAt b time)
+    ask-again : (b : Contents) (s : List ℕ) (time : ℕ) (out : List ℕ) → liveAt b (askIn s .node) time ≡ true
+        → placeFor (askIn s .node) (rowsAt (askOf b s time out .book) time) ≡ placeFor (askIn s .node) (rowsAt b time)
     ask-again b s time out live =
         let unit = askIn s .node in
-        by-refusal (λ new. rowFor unit (rowsAt new time) ≡ rowFor unit (rowsAt b time)) b (ask s time out) refl (λ z. taken-row (ask-taken b s time out z))
+        by-refusal (λ new. placeFor unit (rowsAt new time) ≡ placeFor unit (rowsAt b time)) b (ask s time out) refl (λ z. taken-row (ask-taken b s time out z))

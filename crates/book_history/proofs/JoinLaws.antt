@@ -1,23 +1,15 @@
 -- Joining and asking: who is refused for room, and how many slots the others hold.
 -- Assumes nothing.
-use mathlib.Core.Path.{_≡_, refl, sym, ap, ap₂, _∙_}
-use mathlib.Core.Bool.{Bool, true, false, not, _&&_, _||_, cond, false≢true}
-use mathlib.Core.List.{List, [], _∷_}
-use Prim.Native.Nat.{ℕ, _+_, _*_, _≤_}
-use native.Mathlib.Omega.{arith}
-use native.Mathlib.Nat.{zero-add}
-use borrow.Author.Tests.{ne-eqb, eqb-false, le-ltb}
-use lib.Dec.{eqb, ltb}
-use lib.ListN.{length}
+use Rattle.octets.proofs.Words.{_≡_, refl, sym, ap, ap₂, _∙_, Bool, true, false, not, _&&_, _||_, cond, false≢true, List, [], _∷_, ℕ, _+_, _*_, _≤_, zero-add, arith, ne-eqb, eqb-false, le-ltb, eqb, ltb, length}
 use Rattle.octets.specs.Answers.{first}
 use Rattle.octets.specs.Lists.{every}
 use Rattle.slot_sets.specs.Sets.{Slots, count}
-use Rattle.book_members.specs.Members.{Row, vacantRow, rowFor, vacant, spare}
+use Rattle.book_members.specs.Members.{Row, vacantRow, placeFor, vacant, spare}
 use Rattle.book_members.proofs.RowRuleLaws.{vacant-free, ruled-current}
-use Rattle.book.specs.Books.{Stated, withinRule, rowsAt}
-use Rattle.book_joins.specs.Joins.{granted, joinIn, seat, noRowFor, joinReasons, joinOf, askIn}
+use Rattle.book.specs.Books.{Contents, withinRule, rowsAt, holding}
+use Rattle.book_joins.specs.Joins.{grantFor, joinIn, seat, noRowFor, joinReasons, joinOf, askIn, joinResponses}
 use Rattle.book_joins.proofs.ResponseLaws.{length-responses}
-use Rattle.book_history.specs.Laws.{full, Newcomer, RefusedIfFull, holding, due, Admitted, GrantedElse, AskedFor}
+use Rattle.book_history.specs.Laws.{full, Newcomer, RefusedIfFull, due, Admitted, GrantedElse, AskedFor}
 use Rattle.book.proofs.WithinLaws.{within}
 use Rattle.book_history.proofs.CallLaws.{joinedSlots, joinShort}
 use Rattle.book_history.proofs.GrantLaws.{lesser, count-granted}
@@ -41,19 +33,19 @@ either-way false true e = refl
 either-way false false e = absurd (false≢true e)
 
 -- of a newcomer's reasons only room is left
-newcomer-reasons : (b : Stated) (s : List ℕ) (time : ℕ) (noRow short : Bool) → withinRule b ≡ true → Newcomer b s time
-    → first (joinReasons b s time noRow short) ≡ cond noRow 12 (cond short 5 0)
-newcomer-reasons b s time noRow short w n =
+newcomer-reasons : (b : Contents) (s : List ℕ) (time : ℕ) (out : List ℕ) → withinRule b ≡ true → Newcomer b s time
+    → first (joinReasons b s time (length out)) ≡ cond (noRowFor b (joinIn s .node) time) 12 (cond (joinShort b s time out) 5 0)
+newcomer-reasons b s time out w n =
     rw (w, n .frame, ne-eqb (joinIn s .node) (b .plan .manager) (n .other), either-way (eqb (joinIn s .network) 0) (eqb (joinIn s .network) (b .plan .network)) (n .network), n .order)
 
-module _ (b : Stated) (s : List ℕ) (time : ℕ) (out : List ℕ) (w : withinRule b ≡ true) (n : Newcomer b s time) where
+module _ (b : Contents) (s : List ℕ) (time : ℕ) (out : List ℕ) (w : withinRule b ≡ true) (n : Newcomer b s time) where
   no-row : noRowFor b (joinIn s .node) time ≡ full b time
   no-row = ap (λ (live : Bool). not live && eqb (vacant (rowsAt b time)) 0) (n .unknown) ∙ sym (full-vacant (rowsAt b time))
 
   newcomer-refused : joinOf b s time out .refused ≡ cond (full b time) 12 (cond (joinShort b s time out) 5 0)
   unfolding joinOf
   newcomer-refused =
-      newcomer-reasons b s time (noRowFor b (joinIn s .node) time) (joinShort b s time out) w n
+      newcomer-reasons b s time out w n
       ∙ ap (λ (t : Bool). cond t 12 (cond (joinShort b s time out) 5 0)) no-row
 
 pub refused-if-full : RefusedIfFull
@@ -68,12 +60,12 @@ refused-if-full b s time out w n = (
     go false false e = absurd (omega arith)
 
 -- ---- what is then held
-module _ (b : Stated) (s : List ℕ) (time : ℕ) (out : List ℕ) (w : withinRule b ≡ true) (n : Newcomer b s time) (room : full b time ≡ false) where
+module _ (b : Contents) (s : List ℕ) (time : ℕ) (out : List ℕ) (w : withinRule b ≡ true) (n : Newcomer b s time) (room : full b time ≡ false) where
   abbrev rows : List Row
   rows = rowsAt b time
 
   abbrev given : Slots 64
-  given = granted (b .plan .«data_slots») rows (joinIn s .slots)
+  given = grantFor (b .plan .«data_slots») rows (joinIn s .slots)
 
   -- what it then holds is what it is granted
   newly : joinedSlots b s time ≡ given
@@ -86,6 +78,7 @@ module _ (b : Stated) (s : List ℕ) (time : ℕ) (out : List ℕ) (w : withinRu
       count-granted (b .plan .«data_slots») rows (joinIn s .slots) (omega (arith, some)) (vacant-free (parts .few) (ruled-current time (parts .rows)))
 
   fits : 13 * (1 + due b s time) ≤ length out → joinShort b s time out ≡ false
+  unfolding joinResponses
   fits h =
       let unit = joinIn s .node in
       ap (ltb (length out))
@@ -116,4 +109,4 @@ granted-else b s time out w n room h = admitted b s time out w n room (accepted 
 pub asked-for : AskedFor
 asked-for b s time out e =
     let t = ask-taken b s time out e in
-    ap count (taken-holding t) ∙ count-asks (b .plan .«data_slots») (rowsAt b time) (rowFor (askIn s .node) (rowsAt b time)) (askIn s .slots) (t .place .there)
+    ap count (taken-holding t) ∙ count-asks (b .plan .«data_slots») (rowsAt b time) (placeFor (askIn s .node) (rowsAt b time)) (askIn s .slots) (t .place .there)

@@ -1,40 +1,31 @@
--- What the answers to a unit's own calls say of it is what the book has for it, at every time that may come: kept by every event.
+-- What the answers to a unit's own calls say of it is what the book has for it, at every time that may come: kept by every call.
 -- Assumes nothing.
-use mathlib.Core.Path.{_≡_, refl, sym, ap, subst, _∙_}
-use mathlib.Core.Bool.{Bool, true, false, _&&_, _||_, cond}
-use mathlib.Core.List.{List, [], _∷_, map}
-use Prim.Native.Nat.{ℕ, suc, _+_, _^_, _≤_, _<_}
-use native.Mathlib.Decide.{ℕ-discrete}
-use native.Mathlib.Omega.{arith}
-use borrow.Author.Tests.{eq-eqb, ne-eqb, eqb-true, lt-ltb, le-ltb, lt-leb, leb-true}
-use lib.Dec.{eqb, leb}
-use lib.ListN.{length, set}
+use Rattle.octets.proofs.Words.{_≡_, refl, sym, ap, subst, _∙_, Bool, true, false, _&&_, _||_, cond, List, [], _∷_, map, ℕ, suc, _+_, _^_, _≤_, _<_, ℕ-discrete, arith, eq-eqb, ne-eqb, eqb-true, lt-ltb, le-ltb, lt-leb, leb-true, eqb, leb, length, set}
 use Rattle.octets.specs.Lists.{every}
 use Rattle.octets.proofs.ListLaws.{every-at}
 use Rattle.moments.specs.Moments.{ageAt, inOrder}
 use Rattle.moments.specs.Elapsed.{Clock, started, nowAt, moved, clockAfter}
 use Rattle.moments.proofs.MomentLaws.{in-order-self, not-in-order, ages-add}
-use Rattle.frame_kinds.specs.Rules.{address}
+use Rattle.octets.specs.Addresses.{address}
+use Rattle.octets.proofs.AddressLaws.{address-some}
 use Rattle.slot_sets.specs.Sets.{Slots}
 use Rattle.site_plan.specs.declared.plan.Plan.{Plan}
-use Rattle.book_members.specs.Members.{Row, emptyRow, vacantRow, rowFor}
+use Rattle.book_members.specs.Members.{Row, emptyRow, vacantRow, placeFor}
 use Rattle.book_members.proofs.RowLaws.{row}
 use Rattle.book_members.proofs.RowSums.{weigh-set, one, tally, ofUnit}
 use Rattle.book_members.proofs.LookupLaws.{found-none, found-unit, found-there}
 use Rattle.book_members.proofs.PairLaws.{led-first}
-use Rattle.book_members.proofs.RowRuleLaws.{address-some, units-least}
-use Rattle.book.specs.Books.{Stated, withinRule, rowsIn, rowsAt, liveAt, heardOf, leaveOf}
+use Rattle.book_members.proofs.RowRuleLaws.{units-least}
+use Rattle.book.specs.Books.{Contents, withinRule, rowsIn, rowsAt, liveAt, heardOf, leaveOf, holding}
 use Rattle.book.proofs.WithinLaws.{within}
 use Rattle.book_joins.specs.Responses.{slotsTold, toldIn}
-use Rattle.book_history.specs.Calls.{Call, join, ask, heard, leave, schedule, refusalOf}
-use Rattle.book_history.specs.Calls as keeping
-use Rattle.book_history.specs.Laws.{holding}
+use Rattle.book_history.specs.Calls.{Call, join, ask, heard, leave, schedule, image, refusalOf, next, unitOf, timeOf}
 use Rattle.book_history.proofs.WrittenLaws.{rows-written}
 use Rattle.book_history.proofs.TakingLaws.{ruled-rows, some-unit, Taken, join-taken, ask-taken, heard-taken, taken-within, leave-freed}
 use Rattle.book_history.proofs.RuleLaws.{keeps-rule, refused-keeps, keeps-plan}
 use Rattle.book_history.proofs.HoldingLaws.{others-stay}
 use Rattle.book_history.proofs.SilenceLaws.{row-written, stays-while-live}
-use Rattle.book_history.specs.BookEvents.{begun, Event, call, image, timeOf, next, after, answer, recorded, stepOf, clockOf, Grant, grant, changedBy, granted, granting, counts}
+use Rattle.book_history.specs.Histories.{Start, begun, afterCalls, answer, recorded, stepOf, clockOf, Grant, grant, changedBy, granted, granting, recent, counts}
 use Rattle.book_history.specs.BookLaws.{slotsAt, AnswersTell}
 use Rattle.book_history.proofs.BookRuleLaws.{begun-within, begun-new, plan-after}
 use Rattle.book_history.proofs.SettledLaws.{Settled, taken-settled, left-settled}
@@ -43,24 +34,24 @@ use Rattle.book_history.proofs.SlotsAtLaws.{same-slots, no-slots, row-s
 
 -- ---- what is known of a unit
 -- where so many ms had elapsed at the book's last accepted time: its grant is of the past, and at every time that may come what the book has for it is what then counts
-pub record Knows (b : Stated) (elapsed unit : ℕ) (g : Grant) : Type 0 where
+pub record Knows (b : Contents) (elapsed unit : ℕ) (g : Grant) : Type 0 where
   pub past : g .at ≤ elapsed
   pub slots : (later : ℕ) → inOrder (b .time) later ≡ true → slotsAt b unit later ≡ counts (b .plan) unit (elapsed + ageAt later (b .time)) g
 
 nothing-counts : (p : Plan) (unit now at : ℕ) → counts p unit now (grant [] at) ≡ []
-nothing-counts p unit now at = go (eqb unit (p .manager) || leb now _)
+nothing-counts p unit now at = go (recent p unit now (grant [] at))
   where
     go : (t : Bool) → _≡_ {A = List ℕ} (cond t [] []) []
     go true = refl
     go false = refl
 
 -- at the start, what its row says, if that is of the start's time
-pub known-start : (b : Stated) → withinRule b ≡ true → every (λ r. vacantRow r || eqb (r .time) (b .time)) (rowsIn b) ≡ true → (unit : ℕ) → (unit ≡ 0 → ⊥)
+known-start : (b : Contents) → withinRule b ≡ true → every (λ r. vacantRow r || eqb (r .time) (b .time)) (rowsIn b) ≡ true → (unit : ℕ) → (unit ≡ 0 → ⊥)
     → Knows b 0 unit (granting b unit)
 known-start b w new unit some = record { past = omega arith; slots = λ later o. go later (ℕ-discrete (row (rowsIn b) at .unit) unit) }
   where
     at : ℕ
-    at = rowFor unit (rowsIn b)
+    at = placeFor unit (rowsIn b)
 
     told : Bool → List ℕ
     told t = cond t (slotsTold (b .plan) at (row (rowsIn b) at .slots)) []
@@ -83,14 +74,14 @@ known-start b w new unit some = record { past = omega arith; slots = λ later o.
 
 -- ---- a unit's own call
 -- one that writes its row
-module _ {b : Stated} {c : Call} {at : ℕ} {own : Slots 64} (t : Taken b c at own) where
-  taken-known : (now : ℕ) (told : List ℕ) → told ≡ slotsTold (b .plan) at own → Knows (keeping.next b c) now (keeping.unitOf c) (grant told now)
+module _ {b : Contents} {c : Call} {at : ℕ} {own : Slots 64} (t : Taken b c at own) where
+  taken-known : (now : ℕ) (told : List ℕ) → told ≡ slotsTold (b .plan) at own → Knows (next b c) now (unitOf c) (grant told now)
   taken-known now told e =
-      let new = keeping.next b c in
-      let unit = keeping.unitOf c in
+      let new = next b c in
+      let unit = unitOf c in
       let plan = keeps-plan b c .0 in
       let written = row-written t in
-      let time : row (rowsIn new) at .time ≡ new .time = ap (λ (r : Row). r .time) written ∙ sym (ap (λ (x : Stated). x .time) (t .book)) in
+      let time : row (rowsIn new) at .time ≡ new .time = ap (λ (r : Row). r .time) written ∙ sym (ap (λ (x : Contents). x .time) (t .book)) in
       record {
         past = omega arith;
         slots =
@@ -100,30 +91,41 @@ module _ {b : Stated} {c : Call} {at : ℕ} {own : Slots 64} (t : Taken b c at o
             ∙ ap (λ (l : List ℕ). counts (new .plan) unit (now + ageAt later (new .time)) (grant l now)) (sym e));
       }
 
--- what counts and is something was told
-told-of : (t : Bool) (x : ℕ) (l told : List ℕ) → x ∷ l ≡ cond t told [] → told ≡ x ∷ l
-told-of true x l told e = sym e
-told-of false x l told e =
-    let n : suc (length l) ≡ 0 = ap length e in
-    absurd (omega (arith, n))
+-- what a book has for a live unit begins with its control slot
+pub live-slots : (b : Contents) (unit time : ℕ) → liveAt b unit time ≡ true → (x : ℕ) × ((l : List ℕ) × (x ∷ l ≡ slotsAt b unit time))
+live-slots b unit time e = (_, (_, sym (ap (λ (t : Bool). cond t (slotsTold (b .plan) (placeFor unit (rowsAt b time)) (holding b unit time)) []) e)))
 
--- what a member that is heard was told last
-heard-told : (b : Stated) (elapsed unit time : ℕ) (g : Grant) → heardOf b unit time .refused ≡ 0 → Knows b elapsed unit g
-    → g .told ≡ slotsTold (b .plan) (rowFor unit (rowsAt b time)) (holding b unit time)
-heard-told b elapsed unit time g z k =
-    let t = heard-taken b unit time z in
-    let live = lt-ltb (rowFor unit (rowsAt b time)) (length (rowsAt b time)) (t .place .there) in
-    let slots = slotsTold (b .plan) (rowFor unit (rowsAt b time)) (holding b unit time) in
-    told-of (eqb unit (b .plan .manager) || leb (elapsed + ageAt time (b .time)) _) _ _ (g .told)
-    (sym (ap (λ (l : Bool). cond l slots []) live) ∙ k .slots time (t .allowed .order))
+-- what counts and is something counts wholly
+all-counts : (t : Bool) (x : ℕ) (l told : List ℕ) → x ∷ l ≡ cond t told [] → cond t told [] ≡ told
+all-counts true x l told e = refl
+all-counts false x l told e = let n : suc (length l) ≡ 0 = ap length e in absurd (omega (arith, n))
+
+-- a member that is heard was told last what it has, and all of that counts
+module _ (b : Contents) (elapsed unit time : ℕ) (g : Grant) (z : heardOf b unit time .refused ≡ 0) (k : Knows b elapsed unit g) where
+  abbrev heardNow : ℕ
+  heardNow = elapsed + ageAt time (b .time)
+
+  heard-live : liveAt b unit time ≡ true
+  heard-live = lt-ltb (placeFor unit (rowsAt b time)) (length (rowsAt b time)) (heard-taken b unit time z .place .there)
+
+  heard-slots : slotsAt b unit time ≡ counts (b .plan) unit heardNow g
+  heard-slots = k .slots time (heard-taken b unit time z .allowed .order)
+
+  pub heard-counts : counts (b .plan) unit heardNow g ≡ g .told
+  heard-counts = let (x, (l, e)) = live-slots b unit time heard-live in all-counts (recent (b .plan) unit heardNow g) x l (g .told) (e ∙ heard-slots)
+
+  heard-told : g .told ≡ slotsTold (b .plan) (placeFor unit (rowsAt b time)) (holding b unit time)
+  heard-told =
+      let slots = slotsTold (b .plan) (placeFor unit (rowsAt b time)) (holding b unit time) in
+      sym heard-counts ∙ (sym heard-slots ∙ ap (λ (l : Bool). cond l slots []) heard-live)
 
 -- who left has nothing
-left-known : (b : Stated) (now unit time : ℕ) → leaveOf b unit time .refused ≡ 0 → Knows (leaveOf b unit time .book) now unit (grant [] now)
+left-known : (b : Contents) (now unit time : ℕ) → leaveOf b unit time .refused ≡ 0 → Knows (leaveOf b unit time .book) now unit (grant [] now)
 left-known b now unit time z =
     let f = leave-freed b unit time z in
     let some = some-unit (f .allowed) in
     let rs = rowsAt b time in
-    let at = rowFor unit rs in
+    let at = placeFor unit rs in
     let rows = ap rowsIn (f .book) ∙ rows-written b time at emptyRow (f .place .there) in
     let own : one (ofUnit unit) (row rs at) ≡ 1 = rw (eq-eqb (row rs at .unit) unit (found-unit unit rs (f .place .there))) in
     let none : tally (ofUnit unit) (set rs at emptyRow) ≡ 0 =
@@ -153,13 +155,9 @@ soon-counts p unit now g x l other e = go (leb now (g .at + 300000)) refl (rw (n
     go true q f = leb-true now (g .at + 300000) q
     go false q f = let n : suc (length l) ≡ 0 = ap length f in absurd (omega (arith, n))
 
--- what a book has for a live unit begins with its control slot
-pub live-slots : (b : Stated) (unit time : ℕ) → liveAt b unit time ≡ true → (x : ℕ) × ((l : List ℕ) × (x ∷ l ≡ slotsAt b unit time))
-live-slots b unit time e = (_, (_, sym (ap (λ (t : Bool). cond t (slotsTold (b .plan) (rowFor unit (rowsAt b time)) (holding b unit time)) []) e)))
-
 module _ (unit : ℕ) (a : address unit ≡ true) where
   -- the manager's row stays
-  manager-stays : (b : Stated) → withinRule b ≡ true → unit ≡ b .plan .manager → (time later : ℕ) → slotsAt b unit later ≡ slotsAt b unit time
+  manager-stays : (b : Contents) → withinRule b ≡ true → unit ≡ b .plan .manager → (time later : ℕ) → slotsAt b unit later ≡ slotsAt b unit time
   manager-stays b w e time later =
       let some = address-some unit a in
       let own = led-first (b .plan .manager) (rowsIn b) (within b w .rows .led) ∙ sym e in
@@ -168,13 +166,13 @@ module _ (unit : ℕ) (a : address unit ≡ true) where
       λ t. row-slots b w unit some 0 own t ∙ ap (λ (m : Bool). cond (m || leb (ageAt t (row (rowsIn b) 0 .time)) 300000) told []) (eq-eqb unit (b .plan .manager) e) in
       always later ∙ sym (always time)
 
-  module _ (b : Stated) (c : Call) (z : refusalOf b c ≡ 0) (s : Settled b c) (n : keeping.unitOf c ≡ unit → ⊥) (elapsed : ℕ) (g : Grant)
+  module _ (b : Contents) (c : Call) (z : refusalOf b c ≡ 0) (s : Settled b c) (n : unitOf c ≡ unit → ⊥) (elapsed : ℕ) (g : Grant)
       (k : Knows b elapsed unit g) where
-    abbrev new : Stated
-    new = keeping.next b c
+    abbrev new : Contents
+    new = next b c
 
     abbrev time : ℕ
-    time = keeping.timeOf c
+    time = timeOf c
 
     new-within : withinRule new ≡ true
     new-within = keeps-rule .1 b c z
@@ -249,9 +247,9 @@ module _ (unit : ℕ) (a : address unit ≡ true) where
           other-later later on ∙ (λ i. counts (old i) unit (elapsed + ageAt time (b .time) + ageAt later (at i)) g);
     }
 
--- ---- every event
+-- ---- every call
 -- of the unit and accepted, of another and accepted, or refused
-chosen : (P : Clock → Grant → Type 0) (n u unit : ℕ) (changing : Bool) (on k : Clock) (x g : Grant)
+pub chosen : (P : Clock → Grant → Type 0) (n u unit : ℕ) (changing : Bool) (on k : Clock) (x g : Grant)
     → (n ≡ 0 → u ≡ unit → P (cond changing on k) x) → (n ≡ 0 → (u ≡ unit → ⊥) → P (cond changing on k) g) → ((n ≡ 0 → ⊥) → P k g)
     → P (cond (eqb n 0 && changing) on k) (cond (eqb n 0 && eqb u unit) x g)
 chosen P n u unit changing on k x g own other refused = go (ℕ-discrete n 0) (ℕ-discrete u unit)
@@ -262,60 +260,64 @@ chosen P n u unit changing on k x g own other refused = go (ℕ-discrete n 0) (�
     go (no z) d = rw (ne-eqb n 0 z) (refused z)
 
 -- by a clock that is the book's
-pub record Known (b : Stated) (unit : ℕ) (k : Clock) (g : Grant) : Type 0 where
+pub record Known (b : Contents) (unit : ℕ) (k : Clock) (g : Grant) : Type 0 where
   pub clock : k .last ≡ b .time
   pub knows : Knows b (k .elapsed) unit g
 
 module _ (unit : ℕ) (a : address unit ≡ true) where
   -- a call that changes the book where it is accepted, and makes a grant of its own unit
-  call-known : (b : Stated) (c : Call) (k : Clock) (x : ℕ → Grant) (g : Grant) → Known b unit k g → (refusalOf b c ≡ 0 → Settled b c)
-      → (refusalOf b c ≡ 0 → (now : ℕ) → Knows b (k .elapsed) (keeping.unitOf c) g → Knows (keeping.next b c) now (keeping.unitOf c) (x now))
-      → let now = nowAt k (keeping.timeOf c) in
-      Known (keeping.next b c) unit (cond (eqb (refusalOf b c) 0 && true) (record { last = keeping.timeOf c; elapsed = now }) k)
-      (cond (eqb (refusalOf b c) 0 && eqb (keeping.unitOf c) unit) (x now) g)
+  call-known : (b : Contents) (c : Call) (k : Clock) (x : ℕ → Grant) (g : Grant) → Known b unit k g → (refusalOf b c ≡ 0 → Settled b c)
+      → (refusalOf b c ≡ 0 → (now : ℕ) → Knows b (k .elapsed) (unitOf c) g → Knows (next b c) now (unitOf c) (x now))
+      → let now = nowAt k (timeOf c) in
+      Known (next b c) unit (cond (eqb (refusalOf b c) 0 && true) (record { last = timeOf c; elapsed = now }) k)
+      (cond (eqb (refusalOf b c) 0 && eqb (unitOf c) unit) (x now) g)
   call-known b c k x g h settled own =
-      chosen (Known new unit) (refusalOf b c) (keeping.unitOf c) unit _ (record { last = keeping.timeOf c; elapsed = now }) k (x now) g
+      chosen (Known new unit) (refusalOf b c) (unitOf c) unit _ (record { last = timeOf c; elapsed = now }) k (x now) g
       (λ z u. record {
         clock = sym (settled z .time);
         knows = subst (λ (v : ℕ). Knows new now v (x now)) u (own z now (subst (λ (v : ℕ). Knows b (k .elapsed) v g) (sym u) (h .knows)));
       })
       (λ z n. record { clock = sym (settled z .time); knows = rw (h .clock) (other-known unit a b c z (settled z) n (k .elapsed) g (h .knows)) })
-      (λ z. subst (λ (b′ : Stated). Known b′ unit k g) (sym (refused-keeps b c z)) h)
+      (λ z. subst (λ (b′ : Contents). Known b′ unit k g) (sym (refused-keeps b c z)) h)
     where
-      new : Stated
-      new = keeping.next b c
+      new : Contents
+      new = next b c
 
       now : ℕ
-      now = nowAt k (keeping.timeOf c)
+      now = nowAt k (timeOf c)
 
-  known-next : (b : Stated) (k : Clock) (g : Grant) (e : Event) → Known b unit k g
-      → Known (next b e) unit (moved k (stepOf (record { event = e; answer = answer b e }))) (changedBy toldIn unit e (answer b e) (nowAt k (timeOf e)) g)
-  known-next b k g (call (join s time out)) h =
+  pub known-next : (b : Contents) (k : Clock) (g : Grant) (c : Call) → Known b unit k g
+      → Known (next b c) unit (moved k (stepOf (record { call = c; answer = answer b c }))) (changedBy toldIn unit c (answer b c) (nowAt k (timeOf c)) g)
+  known-next b k g (join s time out) h =
       call-known b (join s time out) k _ g h (λ z. taken-settled (join-taken b s time out z))
       (λ z now l. taken-known (join-taken b s time out z) now _ (join-told b s time out z))
-  known-next b k g (call (ask s time out)) h =
+  known-next b k g (ask s time out) h =
       call-known b (ask s time out) k _ g h (λ z. taken-settled (ask-taken b s time out z))
       (λ z now l. taken-known (ask-taken b s time out z) now _ (ask-told b s time out z))
-  known-next b k g (call (heard v time)) h =
+  known-next b k g (heard v time) h =
       call-known b (heard v time) k (grant (g .told)) g h (λ z. taken-settled (heard-taken b v time z))
       (λ z now l. taken-known (heard-taken b v time z) now (g .told) (heard-told b (k .elapsed) v time g z l))
-  known-next b k g (call (leave v time)) h = call-known b (leave v time) k (grant []) g h (λ z. left-settled b v time z) (λ z now l. left-known b now v time z)
-  known-next b k g (call (schedule v hop time out)) h =
-      chosen (Known b unit) (answer b (call (schedule v hop time out)) .refused) v unit _ _ k g g (λ z u. h) (λ z n. h) (λ z. h)
-  known-next b k g (image time out) h = chosen (Known b unit) (answer b (image time out) .refused) 0 unit _ _ k g g (λ z u. h) (λ z n. h) (λ z. h)
+  known-next b k g (leave v time) h = call-known b (leave v time) k (grant []) g h (λ z. left-settled b v time z) (λ z now l. left-known b now v time z)
+  known-next b k g (schedule v hop time out) h =
+      chosen (Known b unit) (refusalOf b (schedule v hop time out)) v unit _ _ k g g (λ z u. h) (λ z n. h) (λ z. h)
+  known-next b k g (image time out) h = chosen (Known b unit) (refusalOf b (image time out)) 0 unit _ _ k g g (λ z u. h) (λ z n. h) (λ z. h)
 
-  pub known-after : (b : Stated) (k : Clock) (g : Grant) (es : List Event) → Known b unit k g
-      → Known (after b es) unit (clockAfter k (map stepOf (recorded b es))) (granted unit k g (recorded b es))
+  pub known-after : (b : Contents) (k : Clock) (g : Grant) (cs : List Call) → Known b unit k g
+      → Known (afterCalls b cs) unit (clockAfter k (map stepOf (recorded b cs))) (granted unit k g (recorded b cs))
   known-after b k g [] h = h
-  known-after b k g (e ∷ es) h = known-after (next b e) _ _ es (known-next b k g e h)
+  known-after b k g (c ∷ cs) h = known-after (next b c) _ _ cs (known-next b k g c h)
+
+pub known-begun : (start : Start) (unit : ℕ) → begun start .refused ≡ 0 → address unit ≡ true
+    → let b = begun start .book in Known b unit (started (b .time)) (granting b unit)
+known-begun start unit z a =
+    record { clock = refl; knows = known-start (begun start .book) (begun-within start z) (begun-new start z) unit (address-some unit a) }
 
 pub answers-tell : AnswersTell
-answers-tell start es unit time z a o =
+answers-tell start cs unit time z a o =
     let b = begun start .book in
-    let hs = recorded b es in
+    let hs = recorded b cs in
     let k = started (b .time) in
-    let known = known-start b (begun-within start z) (begun-new start z) unit (address-some unit a) in
-    let h = known-after unit a b k (granting b unit) es (record { clock = refl; knows = known }) in
+    let h = known-after unit a b k (granting b unit) cs (known-begun start unit z a) in
     let last = sym (h .clock) in
-    let plan = plan-after b es in
+    let plan = plan-after b cs in
     h .knows .slots time o ∙ (λ i. counts (plan i) unit (clockOf b hs .elapsed + ageAt time (last i)) (granted unit k (granting b unit) hs))

@@ -1,114 +1,109 @@
--- A unit's slots stay its own over every event that is neither its own request nor its leaving, as long as it is live.
+-- A unit's slots stay its own over every call that is neither its own request nor its leaving, as long as it is not silent.
 -- Assumes nothing.
-use mathlib.Core.Path.{_≡_, refl, sym, ap, subst, _∙_}
-use mathlib.Core.Bool.{Bool, true, false, not, _&&_, false≢true, and-eq-true-iff}
-use mathlib.Core.List.{List, [], _∷_}
-use mathlib.Core.Logic.{_⊎_, inl, inr}
-use Prim.Native.Nat.{ℕ}
-use native.Mathlib.Decide.{ℕ-discrete}
-use borrow.Author.Tests.{eq-eqb, lt-ltb, not-true}
-use lib.Dec.{eqb}
-use lib.ListN.{length}
+use Rattle.octets.proofs.Words.{_≡_, refl, sym, ap, subst, _∙_, Bool, true, false, not, _&&_, _||_, cond, false≢true, and-eq-true-iff, List, [], _∷_, _++_, map, ℕ, _+_, _≤_, arith, eq-eqb, le-leb, leb-true, not-true, eqb, leb}
 use Rattle.octets.specs.Lists.{every}
-use Rattle.moments.specs.Moments.{inOrder}
-use Rattle.moments.proofs.MomentLaws.{in-order-self}
-use Rattle.frame_kinds.specs.Rules.{address}
-use Rattle.book_members.specs.Members.{rowFor}
-use Rattle.book.specs.Books.{Stated, withinRule, rowsAt, liveAt}
-use Rattle.book_history.specs.Calls.{Call, join, ask, heard, leave, schedule, refusalOf}
-use Rattle.book_history.specs.Calls as keeping
-use Rattle.book_history.specs.Laws.{SameHolding}
-use Rattle.book_history.proofs.TakingLaws.{heard-taken}
-use Rattle.book_history.proofs.RuleLaws.{refused-keeps}
-use Rattle.book_history.proofs.HoldingLaws.{others-stay, keeps-own}
-use Rattle.book_history.proofs.SilenceLaws.{stays-while-live}
-use Rattle.book_history.specs.BookEvents.{begun, Event, call, image, next, after, answer, recorded}
-use Rattle.book_history.specs.BookLaws.{bookAfter, moves, its, StaysItsOwn}
-use Rattle.book_history.proofs.SettledLaws.{Settled, settles}
-use Rattle.book_history.proofs.BookRuleLaws.{rule-next, stays-within-rule, plan-after, after-more}
-use Rattle.book_history.proofs.SlotsAtLaws.{same-slots}
+use Rattle.moments.specs.Elapsed.{Clock, started, nowAt, moved, clockAfter}
+use Rattle.moments.specs.Moments.{ageAt, inOrder}
+use Rattle.moments.proofs.MomentLaws.{no-age, in-order-self}
+use Rattle.octets.specs.Addresses.{address}
+use Rattle.site_plan.specs.declared.plan.Plan.{Plan}
+use Rattle.book.specs.Books.{Contents}
+use Rattle.book_joins.specs.Responses.{toldIn}
+use Rattle.book_history.specs.Calls.{Call, join, ask, heard, leave, schedule, image, refusalOf, next, about, unitOf, timeOf, changes}
+use Rattle.book_history.specs.Histories.{begun, afterCalls, answer, Happened, recorded, stepOf, Grant, renewed, changedBy, granted, granting, recent, counts}
+use Rattle.book_history.specs.BookLaws.{slotsAt, its, StaysItsOwn}
+use Rattle.book_history.proofs.RuleLaws.{keeps-plan}
+use Rattle.book_history.proofs.BookRuleLaws.{plan-after}
+use Rattle.book_history.proofs.KnownLaws.{heard-counts, chosen, Known, known-next, known-after, known-begun}
 
--- ---- the same holding
-same-self : {b : Stated} {time unit : ℕ} → SameHolding b time b time unit
-same-self = record { live = refl; row = refl; slots = refl }
+-- what counts wholly at a time counts so at each before it
+sooner : (p : Plan) (unit now then : ℕ) (g : Grant) → now ≤ then → counts p unit then g ≡ g .told → counts p unit now g ≡ g .told
+sooner p unit now then g h e = go (recent p unit now g) (recent p unit then g) (before (eqb unit (p .manager))) e
+  where
+    before : (m : Bool) → (m || leb then (g .at + 300000)) ≡ true → (m || leb now (g .at + 300000)) ≡ true
+    before true q = refl
+    before false q = le-leb now _ (omega (arith, h, leb-true then (g .at + 300000) q))
 
-same-on : {a b c : Stated} {s t u unit : ℕ} → SameHolding a s b t unit → SameHolding b t c u unit → SameHolding a s c u unit
-same-on h k = record { live = k .live ∙ h .live; row = k .row ∙ h .row; slots = k .slots ∙ h .slots }
+    go : (s t : Bool) → (t ≡ true → s ≡ true) → cond t (g .told) [] ≡ g .told → cond s (g .told) [] ≡ g .told
+    go true t on q = refl
+    go false true on q = absurd (false≢true (on refl))
+    go false false on q = q
 
 module _ (unit : ℕ) (a : address unit ≡ true) where
-  -- from a book's time on
-  abbrev Same : Stated → Stated → Type 0
-  Same b new = SameHolding b (b .time) new (new .time) unit
+  -- a unit was told the same before, and then all of that counted
+  abbrev Still : Plan → Clock → Grant → Clock → Grant → Type 0
+  Still p k g k′ g′ = counts p unit (k′ .elapsed) g′ ≡ g′ .told → (g′ .told ≡ g .told) × (counts p unit (k .elapsed) g ≡ g .told)
 
-  -- ---- one event
-  -- the same holding at an accepted call's time
-  settled-own : (b : Stated) (c : Call) → withinRule b ≡ true → Settled b c → SameHolding b (keeping.timeOf c) (keeping.next b c) (keeping.timeOf c) unit
-      → liveAt (keeping.next b c) unit (keeping.next b c .time) ≡ true → Same b (keeping.next b c)
-  settled-own b c w s h live =
-      let then : SameHolding b (keeping.timeOf c) (keeping.next b c) (keeping.next b c .time) unit =
-      subst (λ (t : ℕ). SameHolding b (keeping.timeOf c) (keeping.next b c) t unit) (sym (s .time)) h in
-      same-on (stays-while-live b unit (b .time) (keeping.timeOf c) w a (in-order-self (b .time)) (s .order) (s .order) (sym (then .live) ∙ live)) then
+  -- ---- one call
+  module _ (b : Contents) (k : Clock) (g : Grant) (h : Known b unit k g) where
+    -- its own accepted call, if that does not move it
+    own-still : (c : Call) → refusalOf b c ≡ 0 → unitOf c ≡ unit → about c .moves ≡ false
+        → Still (b .plan) k g (cond (changes c) (record { last = timeOf c; elapsed = nowAt k (timeOf c) }) k) (renewed c (answer b c) (nowAt k (timeOf c)) g)
+    own-still (join s time out) z u m e = absurd (false≢true (sym m))
+    own-still (ask s time out) z u m e = absurd (false≢true (sym m))
+    own-still (heard v time) z u m e =
+        let then = heard-counts b (k .elapsed) unit time g (subst (λ (w : ℕ). refusalOf b (heard w time) ≡ 0) u z) (h .knows) in
+        (refl, sooner (b .plan) unit (k .elapsed) _ g (omega arith) then)
+    own-still (leave v time) z u m e = absurd (false≢true (sym m))
+    own-still (schedule v hop time out) z u m e = (refl, e)
+    own-still (image time out) z u m e = (refl, e)
 
-  -- a member that is heard keeps its own
-  heard-own : (b : Stated) (time : ℕ) → refusalOf b (heard unit time) ≡ 0 → SameHolding b time (keeping.next b (heard unit time)) time unit
-  heard-own b time z =
-      let live = lt-ltb (rowFor unit (rowsAt b time)) (length (rowsAt b time)) (heard-taken b unit time z .place .there) in
-      keeps-own .0 b (heard unit time) refl live
+    -- any call but its own request and its leaving
+    stays-put : (n u : ℕ) (moves : Bool) → (eqb n 0 && eqb u unit && moves) ≡ false → n ≡ 0 → u ≡ unit → moves ≡ false
+    stays-put n u moves e z s = rw (eq-eqb n 0 z, eq-eqb u unit s) at e
 
-  -- the unit's own accepted call, if it does not move it
-  own-kept : (b : Stated) (c : Call) → refusalOf b c ≡ 0 → keeping.unitOf c ≡ unit → moves (call c) ≡ false
-      → SameHolding b (keeping.timeOf c) (keeping.next b c) (keeping.timeOf c) unit
-  own-kept b (join s time out) z u m = absurd (false≢true (sym m))
-  own-kept b (ask s time out) z u m = absurd (false≢true (sym m))
-  own-kept b (heard v time) z u m =
-      subst (λ (w : ℕ). refusalOf b (heard w time) ≡ 0 → SameHolding b time (keeping.next b (heard w time)) time unit) (sym u) (heard-own b time) z
-  own-kept b (leave v time) z u m = absurd (false≢true (sym m))
-  own-kept b (schedule v hop time out) z u m = same-self
+    later : (t : Bool) (time : ℕ) → k .elapsed ≤ cond t (record { last = time; elapsed = nowAt k time }) k .elapsed
+    later true time = omega arith
+    later false time = omega arith
 
-  own-call : (b : Stated) (c : Call) → withinRule b ≡ true → (refusalOf b c ≡ 0 → keeping.unitOf c ≡ unit → moves (call c) ≡ false)
-      → liveAt (keeping.next b c) unit (keeping.next b c .time) ≡ true → Same b (keeping.next b c)
-  own-call b c w own live = go (ℕ-discrete (refusalOf b c) 0)
-    where
-      accepted : refusalOf b c ≡ 0 → Settled b c → Dec (keeping.unitOf c ≡ unit) → SameHolding b (keeping.timeOf c) (keeping.next b c) (keeping.timeOf c) unit
-      accepted z s (yes u) = own-kept b c z u (own z u)
-      accepted z s (no n) = others-stay b c unit (keeping.timeOf c) a (λ e. n (sym e)) (s .order) (in-order-self (keeping.timeOf c))
-
-      settled : refusalOf b c ≡ 0 → Settled b c ⊎ (keeping.next b c ≡ b) → Same b (keeping.next b c)
-      settled z (inl s) = settled-own b c w s (accepted z s (ℕ-discrete (keeping.unitOf c) unit)) live
-      settled z (inr same) = subst (Same b) (sym same) same-self
-
-      go : Dec (refusalOf b c ≡ 0) → Same b (keeping.next b c)
-      go (yes z) = settled z (settles b c z)
-      go (no z) = subst (Same b) (sym (refused-keeps b c z)) same-self
-
-  -- an event that is not its own request or leaving
-  stays-put : (n u : ℕ) (moved : Bool) → (eqb n 0 && eqb u unit && moved) ≡ false → n ≡ 0 → u ≡ unit → moved ≡ false
-  stays-put n u moved e z s = rw (eq-eqb n 0 z, eq-eqb u unit s) at e
-
-  own-next : (b : Stated) (e : Event) → withinRule b ≡ true → its unit (record { event = e; answer = answer b e }) ≡ false
-      → liveAt (next b e) unit (next b e .time) ≡ true → Same b (next b e)
-  own-next b (call (join s time out)) w m = own-call b (join s time out) w (stays-put _ _ true m)
-  own-next b (call (ask s time out)) w m = own-call b (ask s time out) w (stays-put _ _ true m)
-  own-next b (call (heard v time)) w m = own-call b (heard v time) w (λ z u. refl)
-  own-next b (call (leave v time)) w m = own-call b (leave v time) w (stays-put _ _ true m)
-  own-next b (call (schedule v hop time out)) w m = own-call b (schedule v hop time out) w (λ z u. refl)
-  own-next b (image time out) w m = λ live. same-self
+    call-still : (c : Call) → its unit (record { call = c; answer = answer b c }) ≡ false
+        → Still (b .plan) k g (moved k (stepOf (record { call = c; answer = answer b c }))) (changedBy toldIn unit c (answer b c) (nowAt k (timeOf c)) g)
+    call-still c m =
+        chosen (Still (b .plan) k g) (refusalOf b c) (unitOf c) unit (changes c) _ k (renewed c (answer b c) (nowAt k (timeOf c)) g) g
+        (λ z u. own-still c z u (stays-put (refusalOf b c) (unitOf c) (about c .moves) m z u))
+        (λ z n e. (refl, sooner (b .plan) unit (k .elapsed) _ g (later (changes c) (timeOf c)) e))
+        (λ z e. (refl, e))
 
   -- ---- all of them
-  own-after : (b : Stated) (more : List Event) (time : ℕ) → withinRule b ≡ true → every (λ h. not (its unit h)) (recorded b more) ≡ true
-      → inOrder (after b more .time) time ≡ true → liveAt (after b more) unit time ≡ true → SameHolding b (b .time) (after b more) time unit
+  all-still : (b : Contents) (k : Clock) (g : Grant) (cs : List Call) → Known b unit k g → every (λ h. not (its unit h)) (recorded b cs) ≡ true
+      → Still (b .plan) k g (clockAfter k (map stepOf (recorded b cs))) (granted unit k g (recorded b cs))
   unfolding every
-  own-after b [] time w m o live = stays-while-live b unit (b .time) time w a (in-order-self (b .time)) o o live
-  own-after b (e ∷ es) time w m o live =
-      let (here, later) = and-eq-true-iff (not (its unit (record { event = e; answer = answer b e }))) (every (λ h. not (its unit h)) (recorded (next b e) es)) .0 m in
-      let rest = own-after (next b e) es time (rule-next b e w) later o live in
-      same-on (own-next b e w (not-true _ here) (sym (rest .live) ∙ live)) rest
+  all-still b k g [] h m e = (refl, e)
+  all-still b k g (c ∷ cs) h m e =
+      let happens : Happened = record { call = c; answer = answer b c } in
+      let k′ = moved k (stepOf happens) in
+      let g′ = changedBy toldIn unit c (answer b c) (nowAt k (timeOf c)) g in
+      let (here, behind) = and-eq-true-iff (not (its unit happens)) (every (λ h. not (its unit h)) (recorded (next b c) cs)) .0 m in
+      let rest =
+      subst (λ (p : Plan). Still p k′ g′ (clockAfter k (map stepOf (recorded b (c ∷ cs)))) (granted unit k g (recorded b (c ∷ cs)))) (keeps-plan b c .0)
+      (all-still (next b c) k′ g′ cs (known-next unit a b k g c h) behind) e in
+      let (same, all) = call-still b k g h c (not-true _ here) (rest .1) in
+      (rest .0 ∙ same, all)
+
+  -- a book, the calls up to then and those since
+  own-since : (b : Contents) (k : Clock) (g : Grant) (cs more : List Call) (time : ℕ) → Known b unit k g
+      → every (λ h. not (its unit h)) (recorded (afterCalls b cs) more) ≡ true → inOrder (afterCalls b (cs ++ more) .time) time ≡ true
+      → recent (b .plan) unit (nowAt (clockAfter k (map stepOf (recorded b (cs ++ more)))) time) (granted unit k g (recorded b (cs ++ more))) ≡ true
+      → slotsAt (afterCalls b (cs ++ more)) unit time ≡ slotsAt (afterCalls b cs) unit (afterCalls b cs .time)
+  own-since b k g (c ∷ cs) more time h m o e =
+      own-since (next b c) _ _ cs more time (known-next unit a b k g c h) m o
+      (subst (λ (p : Plan). recent p unit (nowAt (clockAfter k (map stepOf (recorded b (c ∷ cs ++ more)))) time) (granted unit k g (recorded b (c ∷ cs ++ more))) ≡ true)
+      (sym (keeps-plan b c .0)) e)
+  own-since b k g [] more time h m o e =
+      let new = afterCalls b more in
+      let k′ = clockAfter k (map stepOf (recorded b more)) in
+      let g′ = granted unit k g (recorded b more) in
+      let h′ = known-after unit a b k g more h in
+      let last = sym (h′ .clock) in
+      let plan = plan-after b more in
+      let now-all : counts (b .plan) unit (nowAt k′ time) g′ ≡ g′ .told = ap (λ (t : Bool). cond t (g′ .told) []) e in
+      let (same, all) = all-still b k g more h m (sooner (b .plan) unit (k′ .elapsed) (nowAt k′ time) g′ (omega arith) now-all) in
+      let then : slotsAt b unit (b .time) ≡ counts (b .plan) unit (k .elapsed) g =
+      h .knows .slots (b .time) (in-order-self (b .time)) ∙ ap (λ (now : ℕ). counts (b .plan) unit now g) (omega (arith, no-age (b .time))) in
+      h′ .knows .slots time o
+      ∙ ((λ i. counts (plan i) unit (k′ .elapsed + ageAt time (last i)) g′) ∙ (now-all ∙ (same ∙ (sym all ∙ sym then))))
 
 pub stays-its-own : StaysItsOwn
-stays-its-own start es more unit time z a m o live =
-    let b = bookAfter start es in
-    let on = after-more (begun start .book) es more in
-    let h : SameHolding b (b .time) (after b more) time unit =
-    own-after unit a b more time (stays-within-rule start es z) m
-    (sym (ap (λ (new : Stated). inOrder (new .time) time) on) ∙ o) (sym (ap (λ (new : Stated). liveAt new unit time) on) ∙ live) in
-    same-slots (ap (λ (new : Stated). new .plan) on ∙ plan-after b more) (subst (λ (new : Stated). SameHolding b (b .time) new time unit) (sym on) h)
+stays-its-own start cs more unit time z a m o e =
+    let b = begun start .book in
+    own-since unit a b (started (b .time)) (granting b unit) cs more time (known-begun start unit z a) m o e

@@ -1,15 +1,6 @@
 -- Who sends in a slot, by schedules from one book: the statements of specs/Laws on it, proved.
 -- Assumes nothing.
-use mathlib.Core.Path.{_≡_, refl, ap, _∙_}
-use mathlib.Core.Bool.{Bool, true, false, _||_, and-eq-true-iff}
-use mathlib.Core.List.{List, _++_}
-use Prim.Native.Nat.{ℕ, _<_, _≤_}
-use native.Mathlib.Nat.{zero-add}
-use native.Mathlib.Omega.{arith}
-use borrow.Author.Tests.{eq-eqb, ltb-true}
-use lib.Dec.{leb, ltb}
-use lib.ListN.{length, getD, drop, List·getD-append}
-use lib.Seq.{sets, sets-eq}
+use Rattle.octets.proofs.Words.{_≡_, refl, ap, _∙_, Bool, true, false, _||_, and-eq-true-iff, List, _++_, ℕ, _<_, _≤_, zero-add, arith, eq-eqb, ltb-true, leb, ltb, length, getD, drop, List·getD-append, sets, sets-eq}
 use Rattle.octets.specs.Lists.{tab}
 use Rattle.octets.proofs.ListLaws.{length-tab, getD-tab}
 use Rattle.site_plan.specs.declared.plan.Plan.{Plan}
@@ -17,12 +8,12 @@ use Rattle.site_plan.specs.Plans.{planRule, slots, controlAt, dataAt, discovery
 use Rattle.site_plan.specs.Schedules.{sleep, inControls, inData, kindOf}
 use Rattle.site_plan.proofs.PlanLaws.{rule-bounds}
 use Rattle.site_plan.proofs.SendingLaws.{one-sender-of-units, one-hop-of-units}
-use Rattle.book_members.specs.Members.{rowFor}
+use Rattle.book_members.specs.Members.{placeFor}
 use Rattle.book_members.proofs.LookupLaws.{found-same}
-use Rattle.book.specs.Books.{Stated, rowsAt, liveAt}
+use Rattle.book.specs.Books.{Contents, rowsAt, holding}
 use Rattle.book.specs.Schedules.{scheduleRefusal, scheduleOf}
 use Rattle.book.proofs.ScheduleLaws.{Schedulable}
-use Rattle.book_history.specs.Laws.{holding, kindIn, OneSenderInBook, OneHopInBook}
+use Rattle.book_history.specs.Laws.{kindIn, OneSenderInBook, OneHopInBook}
 use Rattle.book_history.proofs.CallLaws.{schedule-unrefused, schedule-allowed}
 use Rattle.book.proofs.WithinLaws.{within}
 use Rattle.book_history.proofs.HoldingLaws.{hold-apart}
@@ -36,22 +27,22 @@ stored n f out s d h l =
     let whole : sets out 0 (tab n f) ≡ tab n f ++ rest = sets-eq (tab n f) out 0 (omega (arith, long)) ∙ rw zero-add in
     ap (λ (t : List ℕ). getD t s d) whole ∙ List·getD-append (tab n f) rest d s (omega (arith, long)) ∙ getD-tab n f s d h
 
-module _ (b : Stated) (unit hop time : ℕ) (out : List ℕ) (e : scheduleOf b unit hop time out .said .refusal ≡ 0) where
-  may : Schedulable b unit hop time (liveAt b unit time) (length out)
+module _ (b : Contents) (unit hop time : ℕ) (out : List ℕ) (e : scheduleOf b unit hop time out .said .refusal ≡ 0) where
+  may : Schedulable b unit hop time (length out)
   may = schedule-allowed b unit hop time out e
 
   plan-kept : planRule (b .plan) ≡ true
   plan-kept = within b (may .book) .plan
 
-  member-there : rowFor unit (rowsAt b time) < length (rowsAt b time)
+  member-there : placeFor unit (rowsAt b time) < length (rowsAt b time)
   member-there = ltb-true _ _ (may .member)
 
   kind-there : (s : ℕ) → s < slots (b .plan)
-      → kindIn (scheduleOf b unit hop time out .held) s ≡ kindOf (b .plan) (rowFor unit (rowsAt b time)) hop (holding b unit time) s
+      → kindIn (scheduleOf b unit hop time out .held) s ≡ kindOf (b .plan) (placeFor unit (rowsAt b time)) hop (holding b unit time) s
   unfolding scheduleOf
   kind-there s h =
-      rw (eq-eqb (scheduleRefusal b unit hop time (liveAt b unit time) (length out)) 0 (schedule-unrefused b unit hop time out e))
-      (stored (slots (b .plan)) (kindOf (b .plan) (rowFor unit (rowsAt b time)) hop (holding b unit time)) out s sleep h (may .fits))
+      rw (eq-eqb (scheduleRefusal b unit hop time (length out)) 0 (schedule-unrefused b unit hop time out e))
+      (stored (slots (b .plan)) (kindOf (b .plan) (placeFor unit (rowsAt b time)) hop (holding b unit time)) out s sleep h (may .fits))
 
 -- ---- the regions are among the slots
 within-slots : (p : Plan) (s : ℕ) → planRule p ≡ true → s < discoveryAt p → s < slots p
@@ -70,7 +61,7 @@ one-sender-in-book b time unit unit′ hop hop′ out out′ e e′ n s region =
     let rs = rowsAt b time in
     let h = within-slots (b .plan) s (plan-kept b unit hop time out e) (before-discovery (b .plan) s region) in
     rw (kind-there b unit hop time out e s h, kind-there b unit′ hop′ time out′ e′ s h)
-    (one-sender-of-units (b .plan) (rowFor unit rs) (rowFor unit′ rs) hop hop′ (holding b unit time) (holding b unit′ time)
+    (one-sender-of-units (b .plan) (placeFor unit rs) (placeFor unit′ rs) hop hop′ (holding b unit time) (holding b unit′ time)
     (λ same. n (found-same rs unit unit′ (member-there b unit hop time out e) same))
     (hold-apart b time unit unit′ (may b unit hop time out e .book) n) s region)
 
@@ -79,5 +70,5 @@ one-hop-in-book b time unit unit′ hop hop′ out out′ e e′ s region t t′
     let rs = rowsAt b time in
     let before = ltb-true s (controlAt (b .plan)) region in
     let h = within-slots (b .plan) s (plan-kept b unit hop time out e) (omega arith) in
-    one-hop-of-units (b .plan) (rowFor unit rs) (rowFor unit′ rs) hop hop′ (holding b unit time) (holding b unit′ time) s region
+    one-hop-of-units (b .plan) (placeFor unit rs) (placeFor unit′ rs) hop hop′ (holding b unit time) (holding b unit′ time) s region
     (rw (kind-there b unit hop time out e s h) at t) (rw (kind-there b unit′ hop′ time out′ e′ s h) at t′)

@@ -1,18 +1,14 @@
 -- The slots that a unit may have with its row: its own, those that a newcomer is granted, those that a member is left with.
 -- Assumes nothing.
-use mathlib.Core.Path.{_≡_}
-use mathlib.Core.List.{List}
-use Prim.Native.Nat.{ℕ, _+_, _-_, _≤_, _<_, min}
-use native.Mathlib.Omega.{arith}
-use lib.ListN.{length}
+use Rattle.octets.proofs.Words.{_≡_, List, ℕ, _+_, _-_, _≤_, _<_, min, arith, length}
 use Rattle.slot_sets.specs.Sets.{Slots, count}
 use Rattle.slot_sets.proofs.SetLaws.{in-left, in-right}
-use Rattle.book_members.specs.Members.{Row, vacantRow, rowFor, free, vacant, spare}
+use Rattle.book_members.specs.Members.{Row, vacantRow, placeFor, free, vacant, spare}
 use Rattle.book_members.proofs.RowLaws.{row}
 use Rattle.book_members.proofs.RowSums.{one}
 use Rattle.book_members.proofs.RowRuleLaws.{Ruled, Share, member-at, vacant-free}
 use Rattle.book_members.proofs.SeatLaws.{own-unfree, free-row}
-use Rattle.book_joins.specs.Joins.{wish, granted, asks}
+use Rattle.book_joins.specs.Joins.{wish, grantFor, asks}
 use Rattle.book_history.proofs.GrantLaws.{lesser, count-granted, granted-free, count-brought, brought-from}
 
 -- a member's slots after its request are as many as it is due
@@ -47,9 +43,9 @@ module _ {manager dataSlots last : ℕ} {rs : List Row} (few : dataSlots ≤ 64)
           spared = omega (arith, k .spared);
         }
 
-  pub granted-share : (asked : ℕ) → 1 ≤ vacant rs → Share g (rowFor 0 rs) (granted dataSlots rs asked)
+  pub granted-share : (asked : ℕ) → 1 ≤ vacant rs → Share g (placeFor 0 rs) (grantFor dataSlots rs asked)
   granted-share asked some =
-      let old = row rs (rowFor 0 rs) in
+      let old = row rs (placeFor 0 rs) in
       let k = lesser asked _ (spare dataSlots rs + 1) (count-granted dataSlots rs asked some (vacant-free few g)) (omega arith) in
       let empty : one vacantRow old ≡ 1 = rw (free-row g some) in
       record {

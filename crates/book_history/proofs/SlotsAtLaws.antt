@@ -1,17 +1,9 @@
 -- What a book has for a unit at a time, by the unit's row: the same where the holding is the same, what the row says as long as it counts, nothing else.
 -- Assumes nothing.
-use mathlib.Core.Path.{_≡_, refl, sym, ap, _∙_}
-use mathlib.Core.Bool.{Bool, true, false, not, _||_, cond}
-use mathlib.Core.Logic.{inl, inr}
-use mathlib.Core.List.{[]}
-use Prim.Native.Nat.{ℕ, _+_, _≤_}
-use native.Mathlib.Omega.{arith}
-use borrow.Author.Tests.{eq-eqb, ne-eqb, le-leb, lt-leb, leb-true, leb-false, ltb-true}
-use lib.Dec.{eqb, leb}
-use lib.ListN.{length}
+use Rattle.octets.proofs.Words.{_≡_, refl, sym, ap, _∙_, Bool, true, false, not, _||_, cond, [], inl, inr, ℕ, _+_, _≤_, arith, eq-eqb, ne-eqb, le-leb, lt-leb, leb-true, leb-false, ltb-true, eqb, leb, length}
 use Rattle.moments.specs.Moments.{ageAt, inOrder}
 use Rattle.moments.proofs.MomentLaws.{ages-add}
-use Rattle.book_members.specs.Members.{Row, rowFor}
+use Rattle.book_members.specs.Members.{Row, placeFor}
 use Rattle.book_members.specs.Rules.{rowRule}
 use Rattle.book_members.proofs.RowLaws.{row, Timed, still}
 use Rattle.book_members.proofs.RowSums.{weigh-current, one, tally, ofUnit}
@@ -19,21 +11,21 @@ use Rattle.book_members.proofs.LookupLaws.{found-tally, found-unit}
 use Rattle.book_members.proofs.PairLaws.{led-first}
 use Rattle.book_members.proofs.RowRuleLaws.{units-least}
 use Rattle.book_members.proofs.TimedLaws.{timed-rows}
-use Rattle.book.specs.Books.{Stated, withinRule, rowsIn, rowsAt, liveAt}
+use Rattle.book.specs.Books.{Contents, withinRule, rowsIn, rowsAt, liveAt, holding}
 use Rattle.book.proofs.WithinLaws.{within}
 use Rattle.book_joins.specs.Responses.{slotsTold}
-use Rattle.book_history.specs.Laws.{SameHolding, holding}
+use Rattle.book_history.specs.Laws.{SameHolding}
 use Rattle.book_history.proofs.SilenceLaws.{lasts, live-lasts, row-lasts, slots-last}
-use Rattle.book_history.specs.BookEvents.{Grant, grant, counts}
+use Rattle.book_history.specs.Histories.{Grant, grant, counts}
 use Rattle.book_history.specs.BookLaws.{slotsAt}
 
 -- the same in two books where it holds the same
-pub same-slots : {b b′ : Stated} {time time′ unit : ℕ} → b′ .plan ≡ b .plan → SameHolding b time b′ time′ unit → slotsAt b′ unit time′ ≡ slotsAt b unit time
+pub same-slots : {b b′ : Contents} {time time′ unit : ℕ} → b′ .plan ≡ b .plan → SameHolding b time b′ time′ unit → slotsAt b′ unit time′ ≡ slotsAt b unit time
 same-slots p h = λ i. cond (h .live i) (slotsTold (p i) (h .row i) (h .slots i)) []
 
 -- nothing where it is no live member
-pub no-slots : (b : Stated) (unit time : ℕ) → liveAt b unit time ≡ false → slotsAt b unit time ≡ []
-no-slots b unit time e = ap (λ (live : Bool). cond live (slotsTold (b .plan) (rowFor unit (rowsAt b time)) (holding b unit time)) []) e
+pub no-slots : (b : Contents) (unit time : ℕ) → liveAt b unit time ≡ false → slotsAt b unit time ≡ []
+no-slots b unit time e = ap (λ (live : Bool). cond live (slotsTold (b .plan) (placeFor unit (rowsAt b time)) (holding b unit time)) []) e
 
 -- two tests by sums that are one
 same-test : (a b c d : ℕ) → a + d ≡ c + b → leb a b ≡ leb c d
@@ -44,7 +36,7 @@ same-test a b c d e = go (leb a b) refl
     go false q = sym (lt-leb c d (omega (arith, e, leb-false a b q)))
 
 -- where it has a row: what the row says, as long as it counts
-module _ (b : Stated) (w : withinRule b ≡ true) (unit : ℕ) (some : unit ≡ 0 → ⊥) (at : ℕ) (own : row (rowsIn b) at .unit ≡ unit) (later : ℕ) where
+module _ (b : Contents) (w : withinRule b ≡ true) (unit : ℕ) (some : unit ≡ 0 → ⊥) (at : ℕ) (own : row (rowsIn b) at .unit ≡ unit) (later : ℕ) where
   abbrev said : ℕ → Grant
   said now = grant (slotsTold (b .plan) at (row (rowsIn b) at .slots)) now
 
@@ -69,11 +61,11 @@ module _ (b : Stated) (w : withinRule b ≡ true) (unit : ℕ) (some : unit ≡ 
       (same-test (ageAt later (row (rowsIn b) at .time)) _ (now + ageAt later (b .time)) _ (omega (arith, age)))
 
 -- a unit but the manager that is live is so for at most 300,000 ms after the last accepted time
-pub live-soon : (b : Stated) → withinRule b ≡ true → (unit : ℕ) → (unit ≡ 0 → ⊥) → (unit ≡ b .plan .manager → ⊥) → (later : ℕ) → inOrder (b .time) later ≡ true
+pub live-soon : (b : Contents) → withinRule b ≡ true → (unit : ℕ) → (unit ≡ 0 → ⊥) → (unit ≡ b .plan .manager → ⊥) → (later : ℕ) → inOrder (b .time) later ≡ true
     → liveAt b unit later ≡ true → ageAt later (b .time) ≤ 300000
 live-soon b w unit some other later o e =
     let then = rowsAt b later in
-    let i = rowFor unit then in
+    let i = placeFor unit then in
     let mine = found-unit unit then (ltb-true i (length then) e) in
     let own : row (rowsIn b) i .unit ≡ unit = ap (λ (r : Row). r .unit) (sym (still later (rowsIn b) i (λ z. some (sym mine ∙ z)))) ∙ mine in
     let lives : lasts b w unit some i own later ≡ true = sym (live-lasts b w unit some i own later) ∙ e in
@@ -86,9 +78,9 @@ live-soon b w unit some other later o e =
     by-row {r} (inr p) own young = omega (arith, ages-add (r .time) (b .time) later p o)
 
 -- where no row is its own, nothing
-pub none-counts : (b : Stated) → withinRule b ≡ true → (unit : ℕ) → (unit ≡ 0 → ⊥) → tally (ofUnit unit) (rowsIn b) ≡ 0 → (later : ℕ) → slotsAt b unit later ≡ []
+pub none-counts : (b : Contents) → withinRule b ≡ true → (unit : ℕ) → (unit ≡ 0 → ⊥) → tally (ofUnit unit) (rowsIn b) ≡ 0 → (later : ℕ) → slotsAt b unit later ≡ []
 none-counts b w unit some none later =
     let fewer =
-    weigh-current (one (ofUnit unit)) (rowRule (b .plan .manager) (b .plan .«data_slots») (b .time)) (λ r e. omega (arith, units-least unit some)) later (rowsIn b) (within b w .rows .each) in
+    weigh-current (one (ofUnit unit)) (rowRule (b .plan .«data_slots»)) (λ r e. omega (arith, units-least unit some)) later (rowsIn b) (within b w .rows .each) in
     let gone : tally (ofUnit unit) (rowsAt b later) ≡ 0 = omega (arith, none, fewer) in
     no-slots b unit later (found-tally unit (rowsAt b later) ∙ ap not (eq-eqb (tally (ofUnit unit) (rowsAt b later)) 0 gone))

@@ -1,28 +1,15 @@
 -- Rows weighed unit by unit: over all units up to one that no row's is above, they weigh what all the rows do, if free rows weigh nothing.
 -- Assumes nothing.
-use mathlib.Core.Path.{_≡_, refl, sym, ap, ap₂, _∙_}
-use mathlib.Core.Bool.{Bool, true, false, _&&_, cond, and-eq-true-iff}
-use mathlib.Core.List.{List, [], _∷_}
-use Prim.Native.Nat.{ℕ, zero, suc, _+_, _≤_}
-use native.Mathlib.Decide.{ℕ-discrete}
-use native.Mathlib.Numerals.{one-add}
-use native.Mathlib.Omega.{arith}
-use borrow.Author.Tests.{eq-eqb, ne-eqb, eqb-true, leb-true, lt-ltb}
-use lib.Dec.{eqb, leb, ltb, leb·suc-suc, eqb·suc-suc}
-use lib.ListN.{length}
+use Rattle.octets.proofs.Words.{_≡_, refl, sym, ap, ap₂, _∙_, Bool, true, false, cond, and-eq-true-iff, List, [], _∷_, ℕ, zero, suc, _+_, _≤_, ℕ-discrete, one-add, arith, eq-eqb, ne-eqb, eqb-true, leb-true, lt-ltb, leb, ltb, leb·suc-suc, length}
 use Rattle.octets.specs.Lists.{every}
-use Rattle.frame_kinds.specs.Rules.{address}
+use Rattle.octets.specs.Addresses.{address}
 use Rattle.slot_sets.specs.Sets.{noSlots}
-use Rattle.book_members.specs.Members.{Row, vacantRow, rowFor}
+use Rattle.book_members.specs.Members.{Row, vacantRow, placeFor}
 use Rattle.book_members.specs.Rules.{rowRule}
 use Rattle.book_members.proofs.RowLaws.{row}
 use Rattle.book_members.proofs.RowSums.{weigh, tally, tally-pass, tally-skip, ofUnit, alone-here, alone-behind}
 use Rattle.book_members.proofs.RowRuleLaws.{rule-either}
-
--- f 1 + .. + f n
-unfoldable pub sumTo : (ℕ → ℕ) → ℕ → ℕ
-sumTo f zero = 0
-sumTo f (suc n) = f (suc n) + sumTo f n
+use Rattle.book_history.specs.Histories.{sumTo}
 
 pub sum-same : (f g : ℕ → ℕ) (n : ℕ) → ((u : ℕ) → 1 ≤ u → u ≤ n → f u ≡ g u) → sumTo f n ≡ sumTo g n
 unfolding sumTo
@@ -34,39 +21,10 @@ unfolding sumTo
 sum-add f g zero = refl
 sum-add f g (suc n) = omega (arith, sum-add f g n)
 
--- what grows so is such a sum
-pub sums : (f g : ℕ → ℕ) → g 0 ≡ 0 → ((n : ℕ) → g (suc n) ≡ f (suc n) + g n) → (n : ℕ) → g n ≡ sumTo f n
-unfolding sumTo
-sums f g e h zero = e
-sums f g e h (suc n) = h n ∙ ap (λ (k : ℕ). f (suc n) + k) (sums f g e h n)
-
 sum-none : (f : ℕ → ℕ) (n : ℕ) → ((u : ℕ) → 1 ≤ u → u ≤ n → f u ≡ 0) → sumTo f n ≡ 0
 unfolding sumTo
 sum-none f zero h = refl
 sum-none f (suc n) h = omega (arith, h (suc n) (omega arith) (omega arith), sum-none f n (λ u l m. h u l (omega arith)))
-
--- every row passes a test exactly if as many pass it as there are
-module _ (test : Row → Bool) where
-  tally-most : (rs : List Row) → tally test rs ≤ length rs
-  unfolding weigh
-  tally-most [] = omega arith
-  tally-most (r ∷ rs) = go (test r) (tally-most rs)
-    where
-      go : (b : Bool) → tally test rs ≤ length rs → cond b 1 0 + tally test rs ≤ suc (length rs)
-      go true ih = omega (arith, ih)
-      go false ih = omega (arith, ih)
-
-  every-tally : (rs : List Row) → every test rs ≡ eqb (tally test rs) (length rs)
-  unfolding every weigh
-  every-tally [] = refl
-  every-tally (r ∷ rs) = go (test r) (every-tally rs)
-    where
-      go : (b : Bool) → every test rs ≡ eqb (tally test rs) (length rs) → (b && every test rs) ≡ eqb (cond b 1 0 + tally test rs) (suc (length rs))
-      go true ih = rw one-add (ih ∙ sym (eqb·suc-suc (tally test rs) (length rs)))
-      go false ih = sym (ne-eqb (0 + tally test rs) (suc (length rs)) (λ z. omega (arith, z, tally-most rs)))
-
-  pub every-many : (rs : List Row) (m n : ℕ) → m ≡ tally test rs → length rs ≡ n → every test rs ≡ eqb m n
-  every-many rs m n p q = every-tally rs ∙ ap₂ eqb (sym p) q
 
 module _ (weight : Row → ℕ) where
   -- ---- the weight of one row, by its unit
@@ -94,23 +52,23 @@ module _ (weight : Row → ℕ) where
   sum-rows [] n = sum-none (λ u. 0) n (λ u l m. refl)
   sum-rows (r ∷ rs) n = sum-add (λ u. mine u r) (λ u. weigh (mine u) rs) n ∙ ap (λ (k : ℕ). sumTo (λ u. mine u r) n + k) (sum-rows rs n)
 
-  module _ (manager dataSlots last n : ℕ) (most : (u : ℕ) → address u ≡ true → u ≤ n) (free : (r : Row) → vacantRow r ≡ true → r .slots ≡ noSlots → weight r ≡ 0) where
-    row-sum : (r : Row) → rowRule manager dataSlots last r ≡ true → sumTo (λ u. mine u r) n ≡ weight r
+  module _ (dataSlots n : ℕ) (most : (u : ℕ) → address u ≡ true → u ≤ n) (free : (r : Row) → vacantRow r ≡ true → r .slots ≡ noSlots → weight r ≡ 0) where
+    row-sum : (r : Row) → rowRule dataSlots r ≡ true → sumTo (λ u. mine u r) n ≡ weight r
     row-sum r e =
-        rule-either manager dataSlots last r e
+        rule-either dataSlots r e
         (λ t none.
         let empty = eqb-true (r .unit) 0 t in
         sum-none (λ u. mine u r) n (λ u l m. mine-other u r (λ z. omega (arith, z, empty, l))) ∙ sym (free r t none))
         (λ t m. mine-sum r n (leb-true 1 (r .unit) (and-eq-true-iff (leb 1 (r .unit)) (leb (r .unit) 0xFFFE) .0 (m .unit) .0)) (most (r .unit) (m .unit)))
 
-    pub units-sum : (rs : List Row) → every (rowRule manager dataSlots last) rs ≡ true → sumTo (λ u. weigh (mine u) rs) n ≡ weigh weight rs
+    pub units-sum : (rs : List Row) → every (rowRule dataSlots) rs ≡ true → sumTo (λ u. weigh (mine u) rs) n ≡ weigh weight rs
     unfolding weigh every
     units-sum rs e = sum-rows rs n ∙ go rs e
       where
-        go : (rs : List Row) → every (rowRule manager dataSlots last) rs ≡ true → weigh (λ r. sumTo (λ u. mine u r) n) rs ≡ weigh weight rs
+        go : (rs : List Row) → every (rowRule dataSlots) rs ≡ true → weigh (λ r. sumTo (λ u. mine u r) n) rs ≡ weigh weight rs
         go [] e = refl
         go (r ∷ rs) e =
-            let (here, later) = and-eq-true-iff (rowRule manager dataSlots last r) (every (rowRule manager dataSlots last) rs) .0 e in
+            let (here, later) = and-eq-true-iff (rowRule dataSlots r) (every (rowRule dataSlots) rs) .0 e in
             ap₂ _+_ (row-sum r here) (go rs later)
 
   -- ---- a unit's own row
@@ -125,15 +83,15 @@ module _ (weight : Row → ℕ) where
       go ih false q = omega (arith, ih (sym (tally-skip (ofUnit unit) r rs q) ∙ e))
 
   -- else what the one weighs that it has
-  pub held-by : (unit : ℕ) (rs : List Row) → tally (ofUnit unit) rs ≤ 1 → weigh (mine unit) rs ≡ cond (ltb (rowFor unit rs) (length rs)) (weight (row rs (rowFor unit rs))) 0
-  unfolding weigh rowFor
+  pub held-by : (unit : ℕ) (rs : List Row) → tally (ofUnit unit) rs ≤ 1 → weigh (mine unit) rs ≡ cond (ltb (placeFor unit rs) (length rs)) (weight (row rs (placeFor unit rs))) 0
+  unfolding weigh placeFor
   held-by unit [] h = refl
   held-by unit (r ∷ rs) h = go (ofUnit unit r) refl (held-by unit rs (alone-behind (ofUnit unit) r rs h))
     where
-      go : (b : Bool) → ofUnit unit r ≡ b → weigh (mine unit) rs ≡ cond (ltb (rowFor unit rs) (length rs)) (weight (row rs (rowFor unit rs))) 0
+      go : (b : Bool) → ofUnit unit r ≡ b → weigh (mine unit) rs ≡ cond (ltb (placeFor unit rs) (length rs)) (weight (row rs (placeFor unit rs))) 0
           → cond b (weight r) 0 + weigh (mine unit) rs
-          ≡ cond (ltb (cond b 0 (1 + rowFor unit rs)) (length (r ∷ rs))) (weight (row (r ∷ rs) (cond b 0 (1 + rowFor unit rs)))) 0
+          ≡ cond (ltb (cond b 0 (1 + placeFor unit rs)) (length (r ∷ rs))) (weight (row (r ∷ rs) (cond b 0 (1 + placeFor unit rs)))) 0
       go true q ih =
           let there : ltb 0 (suc (length rs)) ≡ true = lt-ltb 0 (suc (length rs)) (omega arith) in
           rw there (omega (arith, none-mine unit rs (alone-here (ofUnit unit) r rs h q)))
-      go false q ih = rw (one-add, leb·suc-suc (suc (rowFor unit rs)) (length rs)) (omega (arith, ih))
+      go false q ih = rw (one-add, leb·suc-suc (suc (placeFor unit rs)) (length rs)) (omega (arith, ih))

@@ -1,23 +1,15 @@
 -- The book in which one row was written: its rows, and when it is within rule.
 -- Assumes nothing.
-use mathlib.Core.Path.{_≡_, refl, ap, _∙_}
-use mathlib.Core.Bool.{true}
-use mathlib.Core.List.{List}
-use Prim.Native.Nat.{ℕ, zero, suc, _<_}
-use native.Mathlib.Omega.{arith}
-use lib.ListN.{length, set, length-take}
-use lib.Seq.{take-set-lt, drop-set-lt}
-use Rattle.moments.proofs.MomentLaws.{no-age}
-use Rattle.slot_sets.specs.Sets.{Slots}
+use Rattle.octets.proofs.Words.{_≡_, refl, ap, _∙_, true, List, ℕ, zero, suc, _<_, arith, length, set, length-take, take-set-lt, drop-set-lt}
 use Rattle.book_members.specs.Members.{Row, kept, current}
 use Rattle.book_members.specs.Rules.{emptyIs}
 use Rattle.book_members.proofs.RowLaws.{row, DroppedOn, kept-again, length-current, every-behind, keptAt, current-set}
 use Rattle.book_members.proofs.RowRuleLaws.{empty-is}
-use Rattle.book.specs.Books.{Stated, withinRule, rowsIn, rowsAt, placesAt, withRow}
+use Rattle.book.specs.Books.{Contents, withinRule, rowsIn, rowsAt, placesAt, withRow}
 use Rattle.book.proofs.VisitLaws.{take-current}
 use Rattle.book.proofs.WithinLaws.{RowsRuled, Within, by-parts}
 
-module _ (b : Stated) (time at : ℕ) (r : Row) (there : at < length (rowsAt b time)) where
+module _ (b : Contents) (time at : ℕ) (r : Row) (there : at < length (rowsAt b time)) where
   among-rows : at < b .plan .rows
   among-rows = omega (arith, there, length-current time (rowsIn b), length-take (b .plan .rows) (b .places))
 
@@ -48,10 +40,3 @@ module _ (b : Stated) (time at : ℕ) (r : Row) (there : at < length (rowsAt b t
             rw (drop-set-lt (b .plan .rows) (placesAt b time) at r among-rows)
             (every-behind emptyIs empty-is time (b .plan .rows) (b .places) (w .behind));
       })
-
--- a unit's row of this time, which counts then
-abbrev pub rowNow : ℕ → ℕ → Slots 64 → Row
-rowNow unit time own = record { unit = unit; slots = own; time = time }
-
-pub kept-now : (unit time : ℕ) (own : Slots 64) → kept time (rowNow unit time own) ≡ rowNow unit time own
-kept-now unit time own = rw (no-age time)

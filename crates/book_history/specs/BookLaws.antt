@@ -1,5 +1,5 @@
 -- What holds over every history of a member book, as statements: demand 3.
--- A history is a start that is accepted, a fresh book or a restored image, and any list of events, accepted and refused.
+-- A history is a start that is accepted, a fresh book or a restored image, and any list of calls, accepted and refused.
 -- Assumes nothing.
 use mathlib.Core.Path.{_≡_}
 use mathlib.Core.Bool.{Bool, true, false, not, _&&_, _||_, cond}
@@ -10,48 +10,48 @@ use lib.ListN.{length}
 use Rattle.octets.specs.Lists.{every}
 use Rattle.moments.specs.Elapsed.{lastOf, Timely, IsTrue}
 use Rattle.moments.specs.Moments.{inOrder}
-use Rattle.frame_kinds.specs.Rules.{address}
+use Rattle.octets.specs.Addresses.{address}
 use Rattle.slot_sets.specs.Sets.{count}
 use Rattle.site_plan.specs.Schedules.{sends, inBeacons, inControls, inData}
-use Rattle.book_members.specs.Members.{rowFor, free}
-use Rattle.book.specs.Books.{Stated, withinRule, rowsAt, liveAt}
+use Rattle.book_members.specs.Members.{placeFor, free}
+use Rattle.book.specs.Books.{Contents, withinRule, rowsAt, liveAt, holding}
 use Rattle.book.specs.Schedules.{hopRule, scheduleOf}
 use Rattle.book_joins.specs.Joins.{joinOf}
 use Rattle.book_joins.specs.Responses.{slotsTold}
-use Rattle.book_history.specs.Calls.{join, ask, heard, leave, schedule}
-use Rattle.book_history.specs.Laws.{full, Newcomer, due, Admitted, holding, kindIn}
-use Rattle.book_history.specs.BookEvents.{Start, begun, Event, call, image, unitOf, after, answer, Happened, recorded, stepOf, clockOf, grantedAt, lastAddress, grantedTo, unitsGranted}
+use Rattle.book_history.specs.Calls.{Call, join, ask, heard, leave, schedule, image, refusalOf, about, unitOf}
+use Rattle.book_history.specs.Laws.{full, Newcomer, due, Admitted, kindIn}
+use Rattle.book_history.specs.Histories.{Start, begun, afterCalls, Happened, recorded, stepOf, clockOf, recentAt, grantedAt, dataGranted, unitsGranted}
 
 -- the book after a history
-abbrev pub bookAfter : Start → List Event → Stated
-bookAfter start es = after (begun start .book) es
+abbrev pub bookAfter : Start → List Call → Contents
+bookAfter start cs = afterCalls (begun start .book) cs
 
 -- ---- the rule
 -- every book of a history is within rule
 abbrev pub StaysWithinRule : Type 0
-StaysWithinRule = (start : Start) (es : List Event) → begun start .refused ≡ 0 → withinRule (bookAfter start es) ≡ true
+StaysWithinRule = (start : Start) (cs : List Call) → begun start .refused ≡ 0 → withinRule (bookAfter start cs) ≡ true
 
 -- so that 14 is never for the book: it is only for a hop that the caller names
-abbrev pub wrongHop : Stated → Event → Bool
-wrongHop b (call (join s time out)) = false
-wrongHop b (call (ask s time out)) = false
-wrongHop b (call (heard unit time)) = false
-wrongHop b (call (leave unit time)) = false
-wrongHop b (call (schedule unit hop time out)) = not (hopRule (b .plan) unit hop)
+abbrev pub wrongHop : Contents → Call → Bool
+wrongHop b (join s time out) = false
+wrongHop b (ask s time out) = false
+wrongHop b (heard unit time) = false
+wrongHop b (leave unit time) = false
+wrongHop b (schedule unit hop time out) = not (hopRule (b .plan) unit hop)
 wrongHop b (image time out) = false
 
 abbrev pub OnlyForHops : Type 0
 OnlyForHops =
-    (start : Start) (es : List Event) (e : Event) → begun start .refused ≡ 0 → answer (bookAfter start es) e .refused ≡ 14
-    → wrongHop (bookAfter start es) e ≡ true
+    (start : Start) (cs : List Call) (c : Call) → begun start .refused ≡ 0 → refusalOf (bookAfter start cs) c ≡ 14
+    → wrongHop (bookAfter start cs) c ≡ true
 
 -- ---- joining
 -- a valid request to join, its time accepted, by a unit that is no live member, is refused for room exactly if every member row is live; otherwise,
 -- given room for its answer frames, it gets exactly the paper's count, at least one slot and at most its limit
 abbrev pub JoinsExactly : Type 0
 JoinsExactly =
-    (start : Start) (es : List Event) (s : List ℕ) (time : ℕ) (out : List ℕ) → begun start .refused ≡ 0
-    → let b = bookAfter start es in Newcomer b s time
+    (start : Start) (cs : List Call) (s : List ℕ) (time : ℕ) (out : List ℕ) → begun start .refused ≡ 0
+    → let b = bookAfter start cs in Newcomer b s time
     → ((full b time ≡ true → joinOf b s time out .refused ≡ 12) × (joinOf b s time out .refused ≡ 12 → full b time ≡ true))
     × (full b time ≡ false → 13 * (1 + due b s time) ≤ length out → Admitted b s time out)
 
@@ -59,56 +59,47 @@ JoinsExactly =
 -- then, in elapsed time
 abbrev pub FullByAnswers : Type 0
 FullByAnswers =
-    (start : Start) (es : List Event) (time : ℕ) → begun start .refused ≡ 0
-    → let b = bookAfter start es in inOrder (b .time) time ≡ true → full b time ≡ eqb (unitsGranted start es time lastAddress) (b .plan .rows)
+    (start : Start) (cs : List Call) (time : ℕ) → begun start .refused ≡ 0
+    → let b = bookAfter start cs in inOrder (b .time) time ≡ true → full b time ≡ eqb (unitsGranted (λ unit. grantedAt start cs unit time)) (b .plan .rows)
 
 -- ---- holding
 -- the slots that a book has for a unit at a time, its control slot first; none where it is no live member
-abbrev pub slotsAt : Stated → ℕ → ℕ → List ℕ
-slotsAt b unit time = cond (liveAt b unit time) (slotsTold (b .plan) (rowFor unit (rowsAt b time)) (holding b unit time)) []
+abbrev pub slotsAt : Contents → ℕ → ℕ → List ℕ
+slotsAt b unit time = cond (liveAt b unit time) (slotsTold (b .plan) (placeFor unit (rowsAt b time)) (holding b unit time)) []
 
 -- what the book has for a unit is what the start and the answers to the unit's own calls say, whatever others do
 abbrev pub AnswersTell : Type 0
 AnswersTell =
-    (start : Start) (es : List Event) (unit time : ℕ) → begun start .refused ≡ 0 → address unit ≡ true → inOrder (bookAfter start es .time) time ≡ true
-    → slotsAt (bookAfter start es) unit time ≡ grantedAt start es unit time
+    (start : Start) (cs : List Call) (unit time : ℕ) → begun start .refused ≡ 0 → address unit ≡ true → inOrder (bookAfter start cs .time) time ≡ true
+    → slotsAt (bookAfter start cs) unit time ≡ grantedAt start cs unit time
 
--- which events can move the slots of the unit that they are about: its requests, and its leaving
-abbrev pub moves : Event → Bool
-moves (call (join s time out)) = true
-moves (call (ask s time out)) = true
-moves (call (heard unit time)) = false
-moves (call (leave unit time)) = true
-moves (call (schedule unit hop time out)) = false
-moves (image time out) = false
-
--- an accepted one of these, of this unit
+-- an accepted call of this unit that can move its slots: its request, or its leaving
 abbrev pub its : ℕ → Happened → Bool
-its unit h = eqb (h .answer .refused) 0 && eqb (unitOf (h .event)) unit && moves (h .event)
+its unit h = eqb (h .answer .refused) 0 && eqb (unitOf (h .call)) unit && about (h .call) .moves
 
--- a unit's slots stay its own until its own request, its leaving or its silence: while it is live, and none of the events since is one of those, they are
--- the same. A restore begins another history
+-- a unit's slots stay its own until its own request, its leaving or its silence: while none of the calls since is one of those, and the record says that it is
+-- not silent, they are the same. A restore begins another history
 abbrev pub StaysItsOwn : Type 0
 StaysItsOwn =
-    (start : Start) (es more : List Event) (unit time : ℕ) → begun start .refused ≡ 0 → address unit ≡ true
-    → every (λ h. not (its unit h)) (recorded (bookAfter start es) more) ≡ true
-    → inOrder (bookAfter start (es ++ more) .time) time ≡ true → liveAt (bookAfter start (es ++ more)) unit time ≡ true
-    → slotsAt (bookAfter start (es ++ more)) unit time ≡ slotsAt (bookAfter start es) unit (bookAfter start es .time)
+    (start : Start) (cs more : List Call) (unit time : ℕ) → begun start .refused ≡ 0 → address unit ≡ true
+    → every (λ h. not (its unit h)) (recorded (bookAfter start cs) more) ≡ true
+    → inOrder (bookAfter start (cs ++ more) .time) time ≡ true → recentAt start (cs ++ more) unit time ≡ true
+    → slotsAt (bookAfter start (cs ++ more)) unit time ≡ slotsAt (bookAfter start cs) unit (bookAfter start cs .time)
 
 -- ---- counting
 -- free slots plus those that the history grants to live members are always D; the grants are computed from the start and the answers alone, over every address
 abbrev pub AlwaysD : Type 0
 AlwaysD =
-    (start : Start) (es : List Event) (time : ℕ) → begun start .refused ≡ 0 → inOrder (bookAfter start es .time) time ≡ true
-    → let b = bookAfter start es in
-    count (free (b .plan .«data_slots») (rowsAt b time)) + grantedTo start es time lastAddress ≡ b .plan .«data_slots»
+    (start : Start) (cs : List Call) (time : ℕ) → begun start .refused ≡ 0 → inOrder (bookAfter start cs .time) time ≡ true
+    → let b = bookAfter start cs in
+    count (free (b .plan .«data_slots») (rowsAt b time)) + dataGranted (λ unit. grantedAt start cs unit time) ≡ b .plan .«data_slots»
 
 -- ---- sending
 -- in schedules made from the book at one time, no control or data slot has two senders, and two units send in one beacon slot only at equal hop
 abbrev pub OneSender : Type 0
 OneSender =
-    (start : Start) (es : List Event) (time unit unit′ hop hop′ : ℕ) (out out′ : List ℕ) → begun start .refused ≡ 0
-    → let b = bookAfter start es in
+    (start : Start) (cs : List Call) (time unit unit′ hop hop′ : ℕ) (out out′ : List ℕ) → begun start .refused ≡ 0
+    → let b = bookAfter start cs in
     scheduleOf b unit hop time out .said .refusal ≡ 0 → scheduleOf b unit′ hop′ time out′ .said .refusal ≡ 0 → (unit ≡ unit′ → ⊥)
     → (s : ℕ)
     → ((inControls (b .plan) s || inData (b .plan) s) ≡ true
@@ -117,9 +108,9 @@ OneSender =
     → sends (kindIn (scheduleOf b unit hop time out .held) s) ≡ true → sends (kindIn (scheduleOf b unit′ hop′ time out′ .held) s) ≡ true → hop ≡ hop′)
 
 -- ---- true time
--- where the events of a history are made in time, as document 02 asks, its elapsed time is true time: grants count and end by the true one
+-- where the calls of a history are made in time, as document 02 asks, its elapsed time is true time: grants count and end by the true one
 abbrev pub TrueTime : Type 0
 TrueTime =
-    (start : Start) (es : List Event) (began : ℕ) (nows : List ℕ)
+    (start : Start) (cs : List Call) (began : ℕ) (nows : List ℕ)
     → let b = begun start .book in
-    let hs = recorded b es in b .time ≡ began % 2 ^ 32 → Timely began (map stepOf hs) nows → IsTrue began (clockOf b hs) (lastOf began (map stepOf hs) nows)
+    let hs = recorded b cs in b .time ≡ began % 2 ^ 32 → Timely began (map stepOf hs) nows → IsTrue began (clockOf b hs) (lastOf began (map stepOf hs) nows)

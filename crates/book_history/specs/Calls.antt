@@ -1,10 +1,13 @@
--- A call on a member book with its arguments, what it answers, and the book after it.
+-- A call on a member book with its arguments, its outcome, and what it is about.
 -- Assumes nothing.
 use Prim.Native.Nat.{ℕ}
-use mathlib.Core.List.{List}
-use Rattle.book.specs.Books.{Stated, heardOf, leaveOf}
+use mathlib.Core.Bool.{Bool, true, false, _||_}
+use mathlib.Core.List.{List, []}
+use Rattle.octets.specs.Told.{Wrote, writtenIn}
+use Rattle.book.specs.Books.{Contents, BookChange, heardOf, leaveOf}
 use Rattle.book.specs.Schedules.{scheduleOf}
-use Rattle.book_joins.specs.Joins.{joinIn, joinOf, askIn, askOf}
+use Rattle.book_joins.specs.Joins.{Answered, joinIn, joinOf, askIn, askOf}
+use Rattle.book_image.specs.Images.{imageWritten}
 
 -- any bytes, any numbers, any times
 pub data Call : Type 0 where
@@ -18,35 +21,55 @@ pub data Call : Type 0 where
   leave : ℕ → ℕ → Call
   -- a unit, its hop, the time, the buffer
   schedule : ℕ → ℕ → ℕ → List ℕ → Call
+  -- the time, the buffer
+  image : ℕ → List ℕ → Call
 
--- when a call is made
-abbrev pub timeOf : Call → ℕ
-timeOf (join s time out) = time
-timeOf (ask s time out) = time
-timeOf (heard unit time) = time
-timeOf (leave unit time) = time
-timeOf (schedule unit hop time out) = time
+-- ---- its outcome
+-- of a call that writes nothing, ..
+abbrev pub changing : BookChange → Answered
+changing c = record { refused = c .refused; written = 0; book = c .book; held = [] }
 
--- the unit that a call is about
+-- .. and of one that only reads the book
+abbrev pub reading : Contents → Wrote → Answered
+reading b w = record { refused = w .said .refusal; written = writtenIn w; book = b; held = w .held }
+
+-- the number that refuses it, 0 where it is accepted, how many bytes were written, the book after it, and what the buffer then holds
+abbrev pub outcome : Contents → Call → Answered
+outcome b (join s time out) = joinOf b s time out
+outcome b (ask s time out) = askOf b s time out
+outcome b (heard unit time) = changing (heardOf b unit time)
+outcome b (leave unit time) = changing (leaveOf b unit time)
+outcome b (schedule unit hop time out) = reading b (scheduleOf b unit hop time out)
+outcome b (image time out) = reading b (imageWritten b time out)
+
+abbrev pub refusalOf : Contents → Call → ℕ
+refusalOf b c = outcome b c .refused
+
+abbrev pub next : Contents → Call → Contents
+next b c = outcome b c .book
+
+-- ---- what it is about
+-- the unit, 0 where it is about none, and when it is made; whether it renews that unit's time, and whether it can move that unit's slots
+pub record About : Type 0 where
+  pub unit : ℕ
+  pub time : ℕ
+  pub renews : Bool
+  pub moves : Bool
+
+abbrev pub about : Call → About
+about (join s time out) = record { unit = joinIn s .node; time = time; renews = true; moves = true }
+about (ask s time out) = record { unit = askIn s .node; time = time; renews = true; moves = true }
+about (heard unit time) = record { unit = unit; time = time; renews = true; moves = false }
+about (leave unit time) = record { unit = unit; time = time; renews = false; moves = true }
+about (schedule unit hop time out) = record { unit = unit; time = time; renews = false; moves = false }
+about (image time out) = record { unit = 0; time = time; renews = false; moves = false }
+
 abbrev pub unitOf : Call → ℕ
-unitOf (join s time out) = joinIn s .node
-unitOf (ask s time out) = askIn s .node
-unitOf (heard unit time) = unit
-unitOf (leave unit time) = unit
-unitOf (schedule unit hop time out) = unit
+unitOf c = about c .unit
 
--- the number that refuses a call, 0 where it is accepted
-abbrev pub refusalOf : Stated → Call → ℕ
-refusalOf b (join s time out) = joinOf b s time out .refused
-refusalOf b (ask s time out) = askOf b s time out .refused
-refusalOf b (heard unit time) = heardOf b unit time .refused
-refusalOf b (leave unit time) = leaveOf b unit time .refused
-refusalOf b (schedule unit hop time out) = scheduleOf b unit hop time out .said .refusal
+abbrev pub timeOf : Call → ℕ
+timeOf c = about c .time
 
--- the book after a call: a schedule only reads it
-abbrev pub next : Stated → Call → Stated
-next b (join s time out) = joinOf b s time out .book
-next b (ask s time out) = askOf b s time out .book
-next b (heard unit time) = heardOf b unit time .book
-next b (leave unit time) = leaveOf b unit time .book
-next b (schedule unit hop time out) = b
+-- it changes the book, if it is accepted
+abbrev pub changes : Call → Bool
+changes c = about c .renews || about c .moves

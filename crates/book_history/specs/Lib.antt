@@ -1,4 +1,4 @@
-pub mod BookEvents
 pub mod BookLaws
 pub mod Calls
+pub mod Histories
 pub mod Laws

@@ -1,33 +1,24 @@
 -- An accepted image in its parts, and that these are document 01's list.
 -- Assumes nothing.
-use mathlib.Core.Path.{_≡_, refl, ap, ap₂, _∙_}
-use mathlib.Core.Bool.{true, false≢true, and-eq-true-iff, or-true}
-use mathlib.Core.List.{List, [], _∷_, map}
-use mathlib.Core.Logic.{_⊎_, inl, inr}
-use Prim.Native.Nat.{ℕ, _<_}
-use native.Mathlib.Omega.{arith}
-use borrow.Author.Tests.{eq-eqb, ne-eqb, eqb-true, lt-ltb, le-ltb, le-leb}
-use lib.Dec.{eqb}
-use lib.ListN.{length, getD, drop}
+use Rattle.octets.proofs.Words.{_≡_, refl, ap, ap₂, _∙_, true, false≢true, and-eq-true-iff, List, [], _∷_, map, _⊎_, inl, inr, ℕ, _<_, arith, eq-eqb, eqb-true, lt-ltb, le-ltb, le-leb, eqb, length, getD, drop}
 use Rattle.octets.specs.Layouts.{fields}
 use Rattle.octets.specs.Lists.{tab, every}
 use Rattle.octets.proofs.ListLaws.{length-tab, getD-tab, tab-same, take-tab, map-tab, every-at, every-tab, every-behind-tab}
-use Rattle.moments.proofs.MomentLaws.{in-order-self}
 use Rattle.site_plan.specs.Plans.{planRule}
 use Rattle.site_plan.proofs.PlanLaws.{rule-bounds, kept}
 use Rattle.slot_sets.specs.Sets.{count}
-use Rattle.book_members.specs.Members.{Row, emptyRow, free, vacant}
-use Rattle.book_members.specs.Rules.{emptyIs, rowRule, rowsRule, distinct}
+use Rattle.book_members.specs.Members.{Row, emptyRow, free, vacant, restoredAt}
+use Rattle.book_members.specs.Rules.{emptyIs, rowRule, Used, pastTime, rowsRule, distinct}
 use Rattle.book_members.proofs.RowSums.{tally-distinct, tally-apart}
-use Rattle.book_members.proofs.RowRuleLaws.{address-some, member-rule, rule-either, rule-zeros, rule-empty, empty-is, Ruled, ruled, vacant-free}
+use Rattle.book_members.proofs.RowRuleLaws.{rule-either, rule-zeros, rule-empty, empty-is, Ruled, ruled, vacant-free, used-rule}
 use Rattle.book_members.proofs.PairLaws.{led-first, first-led, distinct-pairs, pairs-distinct, apart-pairs, pairs-apart}
 use Rattle.book.specs.Books.{rowsIn, withinRule}
 use Rattle.book.proofs.WithinLaws.{within, by-parts}
 use Rattle.book_image.specs.Forms.{headWidths, headValues, formSize, same, fits}
-use Rattle.book_image.specs.Images.{sections, planIn, rowIn, bookIn, acceptedImage}
-use Rattle.book_image.specs.Laws.{renewed, Used, Acceptable, AcceptedExactly}
+use Rattle.book_image.specs.Images.{sections, planIn, rowIn, imageBook, acceptedImage}
+use Rattle.book_image.specs.Laws.{Acceptable, AcceptedExactly}
 use Rattle.book_image.proofs.RestoringLaws.{placeIn}
-use Rattle.book_image.proofs.RenewedLaws.{ruled-renewed}
+use Rattle.book_image.proofs.RenewedLaws.{renewed-past, ruled-renewed}
 
 -- ---- the head
 pub same-true : (xs ys : List ℕ) → same xs ys ≡ true → xs ≡ ys
@@ -71,30 +62,30 @@ pub record Good (s : List ℕ) (time : ℕ) : Type 0 where
   pub rows : RowsRuled s time
 
 module _ (s : List ℕ) (time : ℕ) where
-  pub rows-used : planRule (planIn s) ≡ true → rowsIn (bookIn s time) ≡ rowsFrom s time
-  unfolding bookIn
+  pub rows-used : planRule (planIn s) ≡ true → rowsIn (imageBook s time) ≡ rowsFrom s time
+  unfolding imageBook
   rows-used h =
       let count = planIn s .rows in
       take-tab count 21 (placeIn s time count) (omega (arith, rule-bounds (planIn s) h .few-rows)) ∙
       tab-same count (placeIn s time count) (rowIn s time) (λ k l. rw (lt-ltb k count l))
 
-  zeros-behind : every emptyIs (drop (planIn s .rows) (bookIn s time .places)) ≡ true
-  unfolding bookIn
+  zeros-behind : every emptyIs (drop (planIn s .rows) (imageBook s time .places)) ≡ true
+  unfolding imageBook
   zeros-behind =
       let count = planIn s .rows in
       every-behind-tab emptyIs count 21 (placeIn s time count) (λ k l. rw (le-ltb k count l) empty-is)
 
   pub good : acceptedImage s time ≡ true → Good s time
-  unfolding acceptedImage bookIn
+  unfolding acceptedImage imageBook
   good e =
-      let (fit, ok) = and-eq-true-iff (fits (sections (planIn s .rows)) s) (withinRule (bookIn s time)) .0 e in
-      let w = within (bookIn s time) ok in
+      let (fit, ok) = and-eq-true-iff (fits (sections (planIn s .rows)) s) (withinRule (imageBook s time)) .0 e in
+      let w = within (imageBook s time) ok in
       record { fit = fit; plan = w .plan; rows = rw (rows-used (w .plan)) at (w .rows) }
 
   pub accepted : Good s time → acceptedImage s time ≡ true
-  unfolding acceptedImage bookIn
+  unfolding acceptedImage imageBook
   accepted g =
-      rw (g .fit) (by-parts (bookIn s time) (record {
+      rw (g .fit) (by-parts (imageBook s time) (record {
         plan = g .plan;
         few = omega (arith, rule-bounds (planIn s) (g .plan) .few-data-slots);
         rows = rw (rows-used (g .plan)) (g .rows);
@@ -102,9 +93,9 @@ module _ (s : List ℕ) (time : ℕ) where
       }))
 
   -- at another time
-  rows-then : (then : ℕ) → map (renewed then) (rowsFrom s time) ≡ rowsFrom s then
+  rows-then : (then : ℕ) → map (restoredAt then) (rowsFrom s time) ≡ rowsFrom s then
   unfolding rowIn
-  rows-then then = map-tab (renewed then) (planIn s .rows) (rowIn s time)
+  rows-then then = map-tab (restoredAt then) (planIn s .rows) (rowIn s time)
 
   good-then : (then : ℕ) → Good s time → Good s then
   good-then then g = record { fit = g .fit; plan = g .plan; rows = rw (rows-then then) at (ruled-renewed then (g .rows)) }
@@ -130,7 +121,6 @@ module _ (s : List ℕ) where
   acceptable g =
       let (head, long) = fits-parts s count-rows (g .fit) in
       let plan = planIn s in
-      let manager = plan .manager in
       let dataSlots = plan .«data_slots» in
       let some = kept plan (g .plan) .rows in
       record {
@@ -138,34 +128,22 @@ module _ (s : List ℕ) where
         size = omega (arith, long);
         plan = g .plan;
         manager = rw (row-at 0 (omega (arith, some))) at (led-first (plan .manager) all (g .rows .led));
-        rows = λ i h. rule-either manager dataSlots 0 (rowIn s 0 i) (rule i h) (λ t none. inl (rule-zeros manager dataSlots 0 (rowIn s 0 i) (rule i h) t)) (λ t m. inr (record {
-          unit = m .unit;
-          least = m .least;
-          most = m .most;
-          inside = m .inside;
-        }));
+        rows = λ i h. rule-either dataSlots (rowIn s 0 i) (rule i h) (λ t none. inl (rule-zeros dataSlots (rowIn s 0 i) (rule i h) t)) (λ t m. inr m);
         distinct = λ i j h k. rw (row-at i h, row-at j k) at (distinct-pairs all (tally-distinct all (g .rows .units)) i j (there i h) (there j k));
         disjoint = λ i j h k. rw (row-at i h, row-at j k) at (apart-pairs all (tally-apart all (g .rows .owners)) i j (there i h) (there j k));
         room = vacant-free (omega (arith, rule-bounds plan (g .plan) .few-data-slots)) (g .rows);
       }
     where
-      rule : (i : ℕ) → i < count-rows → rowRule (planIn s .manager) (planIn s .«data_slots») 0 (rowIn s 0 i) ≡ true
-      rule i h = rw (row-at i h) at (every-at (rowRule (planIn s .manager) (planIn s .«data_slots») 0) all i emptyRow (g .rows .each) (there i h))
+      rule : (i : ℕ) → i < count-rows → rowRule (planIn s .«data_slots») (rowIn s 0 i) ≡ true
+      rule i h = rw (row-at i h) at (every-at (rowRule (planIn s .«data_slots»)) all i emptyRow (g .rows .each) (there i h))
 
-  no-time : (i : ℕ) → (rowIn s 0 i .unit ≡ 0 → ⊥) → rowIn s 0 i .time ≡ 0
+  listed-rule : (dataSlots i : ℕ) → (rowIn s 0 i ≡ emptyRow) ⊎ Used dataSlots (rowIn s 0 i) → rowRule dataSlots (rowIn s 0 i) ≡ true
+  listed-rule dataSlots i (inl e) = rw e (rule-empty dataSlots)
+  listed-rule dataSlots i (inr u) = used-rule dataSlots (rowIn s 0 i) u
+
+  past-rule : (manager i : ℕ) → pastTime manager 0 (rowIn s 0 i) ≡ true
   unfolding rowIn
-  no-time i some = rw (ne-eqb (rowIn s 0 i .unit) 0 some)
-
-  used-rule : (manager dataSlots i : ℕ) → (rowIn s 0 i ≡ emptyRow) ⊎ Used dataSlots (rowIn s 0 i) → rowRule manager dataSlots 0 (rowIn s 0 i) ≡ true
-  used-rule manager dataSlots i (inl e) = rw e (rule-empty manager dataSlots 0)
-  used-rule manager dataSlots i (inr u) =
-      member-rule manager dataSlots 0 (rowIn s 0 i) (record {
-        unit = u .unit;
-        least = u .least;
-        most = u .most;
-        inside = u .inside;
-        past = rw (no-time i (address-some (rowIn s 0 i .unit) (u .unit)), in-order-self 0, or-true);
-      })
+  past-rule manager i = renewed-past manager 0 (rowIn s 0 i)
 
   rows-listed : Acceptable s → rowsRule (planIn s .manager) (planIn s .«data_slots») 0 all ≡ true
   unfolding rowsRule
@@ -175,7 +153,8 @@ module _ (s : List ℕ) where
       let some = kept (planIn s) (a .plan) .rows in
       rw (
         first-led manager all (there 0 (omega (arith, some))) (rw (row-at 0 (omega (arith, some))) (a .manager)),
-        every-tab (rowRule manager dataSlots 0) count-rows (rowIn s 0) (λ i h. used-rule manager dataSlots i (a .rows i h)),
+        every-tab (rowRule dataSlots) count-rows (rowIn s 0) (λ i h. listed-rule dataSlots i (a .rows i h)),
+        every-tab (pastTime manager 0) count-rows (rowIn s 0) (λ i h. past-rule manager i),
         pairs-distinct all (λ i j h k. rw (row-at i (among i h), row-at j (among j k)) (a .distinct i j (among i h) (among j k))),
         pairs-apart all (λ i j h k. rw (row-at i (among i h), row-at j (among j k)) (a .disjoint i j (among i h) (among j k))),
         le-leb (vacant all) (count (free dataSlots all)) (a .room),

@@ -1,19 +1,11 @@
 -- The bytes of an image: its rows one behind the other, how many bytes its parts have, and all of it stored.
 -- Assumes nothing.
-use mathlib.Core.Path.{_≡_, refl, _∙_}
-use mathlib.Core.Bool.{Bool, true, false, _&&_}
-use mathlib.Core.List.{List, [], _∷_, _++_, map}
-use Prim.Native.Nat.{ℕ, _+_, _-_, _*_, _≤_, _<_, min}
-use native.Mathlib.Omega.{arith}
-use lib.Dec.{eqb}
-use lib.ListN.{length, getD, take, drop, length-append, List·getD-map}
-use lib.Seq.{sets, getD-take}
+use Rattle.octets.proofs.Words.{_≡_, refl, _∙_, Bool, true, false, _&&_, List, _++_, map, ℕ, _+_, _-_, _*_, _≤_, _<_, min, arith, eqb, length, getD, take, drop, length-append, List·getD-map, sets, getD-take}
 use Rattle.octets.specs.Layouts.{bytes}
 use Rattle.octets.specs.Numbers.{num}
 use Rattle.octets.proofs.LayoutLaws.{length-bytes}
 use Rattle.octets.proofs.RunLaws.{Run, part-turn, cut-turn}
 use Rattle.octets.proofs.StoreLaws.{sets-append}
-use Rattle.slot_sets.specs.Sets.{maskOf}
 use Rattle.site_plan.specs.declared.plan.Plan.{Plan}
 use Rattle.site_plan.specs.PlanBytes.{planBytes}
 use Rattle.site_plan.proofs.PlanByteLaws.{length-plan}
@@ -21,12 +13,9 @@ use Rattle.book_members.specs.declared.member.Member.{Member}
 use Rattle.book_members.specs.Members.{Row, rowOf, rowsOf}
 use Rattle.book_members.proofs.RowLoopLaws.{nobody, rows-length}
 use Rattle.book_image.specs.Forms.{headWidths, headValues, headBytes, formSize, fits}
-use Rattle.book_image.specs.Images.{rowWidths, sections, rowsBytes}
+use Rattle.book_image.specs.Images.{rowWidths, rowValues, sections, rowsBytes}
 
 -- ---- rows
-abbrev pub rowValues : Row → List ℕ
-rowValues r = r .unit ∷ maskOf (r .slots) ∷ []
-
 pub rows-run : Run rowWidths rowValues rowsBytes
 rows-run = record { none = refl; more = λ r rs. refl; full = λ r. refl }
 

@@ -1,14 +1,6 @@
 -- The round trips: an accepted image written again, and a book written and restored.
 -- Assumes nothing.
-use mathlib.Core.Path.{_≡_, refl, sym, ap, _∙_}
-use mathlib.Core.Bool.{Bool, true, false, cond, and-eq-true-iff}
-use mathlib.Core.List.{List, [], _∷_, _++_, map, append-assoc}
-use Prim.Native.Nat.{ℕ, zero, suc, _+_, _*_, _≤_, _<_}
-use native.Mathlib.Omega.{arith}
-use borrow.Author.Tests.{eqb-true, leb-true}
-use lib.Dec.{eqb, leb, lit<}
-use lib.ListN.{length, getD, take, drop, length-append, length-take}
-use lib.Seq.{take-all, take-add}
+use Rattle.octets.proofs.Words.{_≡_, refl, sym, ap, _∙_, Bool, true, false, and-eq-true-iff, List, [], _∷_, _++_, map, append-assoc, ℕ, zero, suc, _+_, _*_, _≤_, _<_, arith, eqb-true, leb-true, leb, lit<, length, getD, take, drop, length-append, length-take, take-all, take-add}
 use Rattle.octets.specs.Layouts.{fields, bytes, Fit, Bytes}
 use Rattle.octets.specs.Lists.{tab, every}
 use Rattle.octets.specs.Numbers.{num}
@@ -17,23 +9,22 @@ use Rattle.octets.proofs.ListLaws.{getD-tab, length-tab, tab-same, map-tab, eve
 use Rattle.octets.proofs.NumberLaws.{num-lt}
 use Rattle.octets.proofs.RunLaws.{run-length, run-read, run-kept}
 use Rattle.moments.specs.Moments.{inOrder}
-use Rattle.moments.proofs.MomentLaws.{no-age}
 use Rattle.slot_sets.specs.Sets.{slotsOf, maskOf}
 use Rattle.slot_sets.proofs.BitLaws.{set-of-mask}
 use Rattle.slot_sets.proofs.MaskLaws.{mask-back, set-back}
 use Rattle.site_plan.specs.Plans.{planValues}
 use Rattle.site_plan.proofs.PlanLaws.{rule-bounds}
-use Rattle.book_members.specs.Members.{Row, emptyRow, vacantRow, kept, current}
+use Rattle.book_members.specs.Members.{Row, emptyRow, vacantRow, kept, current, restoredAt, memberWith}
 use Rattle.book_members.specs.Rules.{rowRule}
-use Rattle.book_members.proofs.RowLaws.{length-current, kept-empty}
+use Rattle.book_members.proofs.RowLaws.{length-current, kept-empty, kept-now}
 use Rattle.book_members.proofs.RowRuleLaws.{rule-zeros, rule-either}
-use Rattle.book.specs.Books.{Stated, rowsIn, rowsAt}
+use Rattle.book.specs.Books.{Contents, rowsIn, rowsAt}
 use Rattle.book.proofs.WithinLaws.{RowsRuled, Within, within, rows-then}
 use Rattle.site_plan.specs.PlanBytes.{planWidths, planFrom, planAt, planBytes}
 use Rattle.book_image.specs.Forms.{headWidths, headValues, headBytes, formSize}
-use Rattle.book_image.specs.Images.{rowWidths, sections, rowsBytes, imageOf, planIn, rowIn, bookIn}
-use Rattle.book_image.specs.Laws.{WrittenAgain, renewed, Sized, RestoredAs, Restored}
-use Rattle.book_image.proofs.ImageLaws.{rowValues, rows-run, length-head, length-front}
+use Rattle.book_image.specs.Images.{rowWidths, rowValues, sections, rowsBytes, imageOf, planIn, rowIn, imageBook}
+use Rattle.book_image.specs.Laws.{WrittenAgain, Sized, RestoredAs, Restored}
+use Rattle.book_image.proofs.ImageLaws.{rows-run, length-head, length-front}
 use Rattle.book_image.proofs.RenewedLaws.{ruled-renewed}
 use Rattle.book_image.proofs.AcceptedLaws.{fits-parts, parts-fit, rowsFrom, Good, rows-used, good, accepted}
 
@@ -46,17 +37,14 @@ current-tab time (suc n) f h =
     let rest : ℕ → Row = λ k. f (suc k) in
     ap (λ (rs : List Row). f 0 ∷ rs) (map-tab (kept time) n rest ∙ tab-same n (λ k. kept time (rest k)) rest (λ k l. h (suc k) (omega (arith, l))))
 
-kept-now : (time : ℕ) (r : Row) → r .time ≡ time → kept time r ≡ r
-kept-now time r e = rw (e, no-age time)
-
 time-in : (s : List ℕ) (time i : ℕ) → vacantRow (rowIn s time i) ≡ false → rowIn s time i .time ≡ time
 unfolding rowIn
 time-in s time i e = rw e
 
 module _ (s : List ℕ) (time : ℕ) (g : Good s time) where
-  row-rule : (i : ℕ) → i < planIn s .rows → rowRule (planIn s .manager) (planIn s .«data_slots») time (rowIn s time i) ≡ true
+  row-rule : (i : ℕ) → i < planIn s .rows → rowRule (planIn s .«data_slots») (rowIn s time i) ≡ true
   row-rule i h =
-      let rule = rowRule (planIn s .manager) (planIn s .«data_slots») time in
+      let rule = rowRule (planIn s .«data_slots») in
       rw (getD-tab (planIn s .rows) (rowIn s time) i emptyRow h) at (every-at rule (rowsFrom s time) i emptyRow (g .rows .each) (omega (arith, h, length-tab (planIn s .rows) (rowIn s time))))
 
   -- none is silent at the time of its restore
@@ -64,10 +52,10 @@ module _ (s : List ℕ) (time : ℕ) (g : Good s time) where
   row-stays i h = go (vacantRow (rowIn s time i)) refl
     where
       go : (b : Bool) → vacantRow (rowIn s time i) ≡ b → kept time (rowIn s time i) ≡ rowIn s time i
-      go true t = rw (rule-zeros (planIn s .manager) (planIn s .«data_slots») time (rowIn s time i) (row-rule i h) t) (kept-empty time)
+      go true t = rw (rule-zeros (planIn s .«data_slots») (rowIn s time i) (row-rule i h) t) (kept-empty time)
       go false t = kept-now time (rowIn s time i) (time-in s time i t)
 
-  rows-stay : rowsAt (bookIn s time) time ≡ rowsFrom s time
+  rows-stay : rowsAt (imageBook s time) time ≡ rowsFrom s time
   rows-stay = ap (current time) (rows-used s time (g .plan)) ∙ current-tab time (planIn s .rows) (rowIn s time) row-stays
 
 module _ (s : List ℕ) (b : Bytes s) where
@@ -90,7 +78,7 @@ module _ (s : List ℕ) (b : Bytes s) where
     all-kept = rw (← take-add 11 9 s, ← take-add 20 (10 * rows) s) (take-all (20 + 10 * rows) s (omega (arith, long)))
 
 pub written-again : WrittenAgain
-unfolding imageOf bookIn
+unfolding imageOf imageBook
 written-again s time b e =
     let g = good s time e in
     let rows = planIn s .rows in
@@ -99,28 +87,28 @@ written-again s time b e =
     rw (rows-stay s time g, head-kept s b rows long head, plan-kept s b rows long, rows-kept s b rows long time) (all-kept s b rows long)
 
 -- ---- what was written, read
-row-fits : (manager dataSlots last : ℕ) (r : Row) → rowRule manager dataSlots last r ≡ true → Fit rowWidths (rowValues r)
-row-fits manager dataSlots last r e = (
-  rule-either manager dataSlots last r e
+row-fits : (dataSlots : ℕ) (r : Row) → rowRule dataSlots r ≡ true → Fit rowWidths (rowValues r)
+row-fits dataSlots r e = (
+  rule-either dataSlots r e
       (λ t none. omega (arith, eqb-true (r .unit) 0 t))
       (λ t m. omega (arith, leb-true (r .unit) 0xFFFE (and-eq-true-iff (leb 1 (r .unit)) (leb (r .unit) 0xFFFE) .0 (m .unit) .1))),
   (set-of-mask 64 (r .slots) .1, tt),
 )
 
-each-fits : (manager dataSlots last : ℕ) (r : Row) (rs : List Row) → every (rowRule manager dataSlots last) (r ∷ rs) ≡ true → Fit rowWidths (rowValues r) × (every (rowRule manager dataSlots last) rs ≡ true)
+each-fits : (dataSlots : ℕ) (r : Row) (rs : List Row) → every (rowRule dataSlots) (r ∷ rs) ≡ true → Fit rowWidths (rowValues r) × (every (rowRule dataSlots) rs ≡ true)
 unfolding every
-each-fits manager dataSlots last r rs e =
-    let (here, later) = and-eq-true-iff (rowRule manager dataSlots last r) (every (rowRule manager dataSlots last) rs) .0 e in
-    (row-fits manager dataSlots last r here, later)
+each-fits dataSlots r rs e =
+    let (here, later) = and-eq-true-iff (rowRule dataSlots r) (every (rowRule dataSlots) rs) .0 e in
+    (row-fits dataSlots r here, later)
 
 abbrev rowFrom : ℕ → List ℕ → Row
-rowFrom time vs = record { unit = getD vs 0 0; slots = slotsOf (getD vs 1 0); time = cond (eqb (getD vs 0 0) 0) 0 time }
+rowFrom time vs = restoredAt time (memberWith (getD vs 0 0) (slotsOf (getD vs 1 0)) 0)
 
-rows-back : (time : ℕ) (rs : List Row) → map (λ r. rowFrom time (rowValues r)) rs ≡ map (renewed time) rs
+rows-back : (time : ℕ) (rs : List Row) → map (λ r. rowFrom time (rowValues r)) rs ≡ map (restoredAt time) rs
 rows-back time [] = refl
 rows-back time (r ∷ rs) = rw (set-back (r .slots), rows-back time rs)
 
-module _ (b : Stated) (time : ℕ) (z : Sized b) (w : Within b) (h : inOrder (b .time) time ≡ true) where
+module _ (b : Contents) (time : ℕ) (z : Sized b) (w : Within b) (h : inOrder (b .time) time ≡ true) where
   abbrev count : ℕ
   count = b .plan .rows
 
@@ -155,12 +143,12 @@ module _ (b : Stated) (time : ℕ) (z : Sized b) (w : Within b) (h : inOrder (b 
   size-read =
       rw (length-append (headBytes (sections count) ++ planBytes (b .plan)) (rowsBytes rows), length-front (b .plan), run-length rows-run rows, length-rows) (omega arith)
 
-  rows-read : tab count (rowIn image time) ≡ map (renewed time) rows
+  rows-read : tab count (rowIn image time) ≡ map (restoredAt time) rows
   unfolding imageOf rowIn
   rows-read =
-      let rule = rowRule (b .plan .manager) (b .plan .«data_slots») time in
+      let rule = rowRule (b .plan .«data_slots») in
       let front = headBytes (sections count) ++ planBytes (b .plan) in
-      let read = run-read rows-run (λ rs. every rule rs ≡ true) (each-fits (b .plan .manager) (b .plan .«data_slots») time) (rowFrom time) (rowIn image time) rows front 20 (length-front (b .plan)) (rows-ruled .each) (λ i. refl) in
+      let read = run-read rows-run (λ rs. every rule rs ≡ true) (each-fits (b .plan .«data_slots»)) (rowFrom time) (rowIn image time) rows front 20 (length-front (b .plan)) (rows-ruled .each) (λ i. refl) in
       (rw length-rows at read) ∙ rows-back time rows
 
   good-read : Good image time
@@ -171,7 +159,7 @@ module _ (b : Stated) (time : ℕ) (z : Sized b) (w : Within b) (h : inOrder (b 
   }
 
   restored-as : RestoredAs b time
-  unfolding bookIn
+  unfolding imageBook
   restored-as = record {
     accepted = accepted image time good-read;
     plan = plan-read;

@@ -1,22 +1,17 @@
 -- An image in a buffer: refused, or written whole.
 -- Assumes nothing.
-use mathlib.Core.Path.{_≡_}
-use mathlib.Core.List.{List}
-use Prim.Native.Nat.{ℕ}
-use borrow.Author.Tests.{ne-eqb}
-use lib.ListN.{length}
-use lib.Seq.{sets}
+use Rattle.octets.proofs.Words.{_≡_, List, ℕ, ne-eqb, length, sets}
 use Rattle.octets.specs.Answers.{first}
 use Rattle.octets.specs.declared.answers.Written.{Written}
 use Rattle.octets.specs.Told.{wrote}
 use Rattle.book_members.specs.Members.{Row}
-use Rattle.book.specs.Books.{Stated, rowsAt}
+use Rattle.book.specs.Books.{Contents, rowsAt}
 use Rattle.site_plan.specs.PlanBytes.{planBytes}
 use Rattle.book_image.specs.Forms.{headBytes, formSize}
 use Rattle.book_image.specs.Images.{sections, rowsBytes, imageOf, imageReasons, imageWritten}
 use Rattle.book_image.proofs.ImageLaws.{head-first}
 
-module _ (b : Stated) (time n : ℕ) (out : List ℕ) (e : n ≡ first (imageReasons b time (length out))) where
+module _ (b : Contents) (time n : ℕ) (out : List ℕ) (e : n ≡ first (imageReasons b time (length out))) where
   pub unwritten : (n ≡ 0 → ⊥) → wrote (Written.Refused (record { number = n })) out ≡ imageWritten b time out
   unfolding imageWritten
   unwritten z = rw (← e, ne-eqb n 0 z)

@@ -5,7 +5,7 @@ use Prim.Native.Nat.{ℕ, _+_, _*_}
 use mathlib.Core.Bool.{Bool, true, false, _&&_}
 use mathlib.Core.List.{List, [], _∷_, _++_}
 use lib.Dec.{eqb}
-use lib.ListN.{length}
+use lib.ListN.{length, take}
 use Rattle.octets.specs.Layouts.{total, fields, bytes}
 
 pub record Section : Type 0 where
@@ -48,6 +48,10 @@ bodiesSize (s ∷ ss) = s .size + bodiesSize ss
 
 abbrev pub formSize : List Section → ℕ
 formSize ss = headSize ss + bodiesSize ss
+
+-- where the body of a section starts, of those in this order: behind the head and the bodies before it
+abbrev pub placeAt : List Section → ℕ → ℕ
+placeAt ss i = headSize ss + bodiesSize (take i ss)
 
 -- two lists of numbers are the same
 abbrev pub same : List ℕ → List ℕ → Bool

@@ -1,3 +1,3 @@
-// Image: the stored form of a book, written at a time and restored at a time.
+// The stored form of a book, written at a time and restored at a time.
 pub mod restoring;
 pub mod writing;

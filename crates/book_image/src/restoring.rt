@@ -1,20 +1,21 @@
 // Restoring a book from an image: as its plan and its rows say, every time the given one.
 ghost use mathlib.Core.Path.{_≡_};
 ghost use mathlib.Core.Bool.{cond};
-ghost use Prim.Native.Nat.{_+_, _*_};
+ghost use Prim.Native.Nat.{_+_};
 ghost use lib.Dec.{ltb};
 ghost use Rattle.octets.specs.Lists.{tab};
 ghost use Rattle.octets.specs.Numbers.{num};
 ghost use Rattle.book_members.specs.Members.{rowOf, rowsOf, emptyRow};
-ghost use Rattle.book.specs.Books.{leftBy};
+ghost use Rattle.book.specs.Books.{changeOf};
 ghost use Rattle.book_image.specs.Forms.{fits};
-ghost use Rattle.book_image.specs.Images.{sections, rowIn, restoreOf};
+ghost use Rattle.book_image.specs.Images.{sections, rowPlace, rowIn, restoreOf};
 use crate::writing::size_for;
 use book::book::Book;
 use book::book::Changed;
 use book::book::settled;
 use book::book::zeros;
 use book_members::member::Member;
+use octets::answers::Refusal;
 use octets::answers::refuse_if;
 use octets::numbers::number8;
 use octets::numbers::number16;
@@ -49,7 +50,7 @@ fn numbers_in(s: &[u8]) -> Member
 
 // Those of the row at a place, counted from 0. A part of known length spares a test of the image's end before each.
 fn numbers_at(s: &[u8], place: u8) -> Member
-    ensures { λ r. ⌜ (r .unit ≡ num 2 (now (s .entry)) (20 + 10 * place)) × (r .slots ≡ num 8 (now (s .entry)) (20 + 10 * place + 2)) ⌝ }
+    ensures { λ r. ⌜ (r .unit ≡ num 2 (now (s .entry)) (rowPlace place)) × (r .slots ≡ num 8 (now (s .entry)) (rowPlace place + 2)) ⌝ }
 {
     let start = 20 + 10 * (place as usize);
     let end = start + 10;
@@ -102,11 +103,11 @@ fn members_in(s: &[u8], time: u32, count: u8) -> [Member; 21]
 
 // The book of an accepted image, at a time; any other bytes are refused, with zeros.
 pub fn restore(image: &[u8], time: u32) -> Changed
-    ensures { λ r. ⌜ leftBy r ≡ restoreOf (now (image .entry)) time ⌝ }
+    ensures { λ r. ⌜ changeOf r ≡ restoreOf (now (image .entry)) time ⌝ }
 {
     let plan = plan_of(image, 11);
     let rows = members_in(image, time, plan.rows);
     let book = Book { plan, time, rows };
     let good = fits(image, plan.rows) & book.within_rule();
-    settled(refuse_if(!good, 14, 0), zeros(), book)
+    settled(refuse_if(!good, Refusal::RULE, 0), zeros(), book)
 }

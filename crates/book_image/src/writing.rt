@@ -8,9 +8,9 @@ ghost use Rattle.octets.specs.Layouts.{bytes};
 ghost use Rattle.octets.specs.Told.{wrote};
 ghost use Rattle.slot_sets.specs.Sets.{slotsOf, maskOf};
 ghost use Rattle.book_members.specs.Members.{rowsOf};
-ghost use Rattle.book.specs.Books.{stated};
+ghost use Rattle.book.specs.Books.{contents};
 ghost use Rattle.book_image.specs.Forms.{headBytes, formSize};
-ghost use Rattle.book_image.specs.Images.{rowWidths, sections, rowsBytes, imageReasons, imageWritten};
+ghost use Rattle.book_image.specs.Images.{rowWidths, sections, rowsPlace, rowsBytes, imageReasons, imageWritten};
 use book::book::Book;
 use book_members::member::Member;
 use book_members::rows::current;
@@ -55,7 +55,7 @@ fn put_row(out: &mut [u8], place: u16, member: Member)
 
 // The rows that a plan uses, each put into a part of known length. The row that the end cuts is the last.
 fn put_rows(out: &mut [u8], rows: [Member; 21], count: u8)
-    ensures { λ _. ⌜ now (out .exit) ≡ sets (now (out .entry)) 20 (rowsBytes (take count (rowsOf rows))) ⌝ }
+    ensures { λ _. ⌜ now (out .exit) ≡ sets (now (out .entry)) rowsPlace (rowsBytes (take count (rowsOf rows))) ⌝ }
 {
     let used = in_use(count);
     let mut written: u8 = 0;
@@ -75,17 +75,17 @@ fn put_rows(out: &mut [u8], rows: [Member; 21], count: u8)
 
 // Why no image is written in a buffer with this room; 0 where one is.
 fn refusal(book: Book, time: u32, room: usize) -> u8
-    ensures { λ r. ⌜ r ≡ first (imageReasons (stated book) time room) ⌝ }
+    ensures { λ r. ⌜ r ≡ first (imageReasons (contents book) time room) ⌝ }
 {
     let plan = book.plan;
-    let refused = refuse_if(room < size_for(plan.rows), 5, 0);
-    let refused = refuse_if(!in_order(book.time, time), 8, refused);
-    refuse_if(!book.within_rule(), 14, refused)
+    let refused = refuse_if(room < size_for(plan.rows), Refusal::ROOM, 0);
+    let refused = refuse_if(!in_order(book.time, time), Refusal::EARLIER, refused);
+    refuse_if(!book.within_rule(), Refusal::RULE, refused)
 }
 
 // Writes the image of a book at a time.
 pub fn write_image(book: Book, time: u32, out: &mut [u8]) -> Written
-    ensures { λ r. ⌜ wrote r (now (out .exit)) ≡ imageWritten (stated book) time (now (out .entry)) ⌝ }
+    ensures { λ r. ⌜ wrote r (now (out .exit)) ≡ imageWritten (contents book) time (now (out .entry)) ⌝ }
 {
     let refused = refusal(book, time, out.len());
     if refused != 0 {

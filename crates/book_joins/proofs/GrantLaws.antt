@@ -1,20 +1,12 @@
 -- What a join and a slot request take from the rows, and the end of both.
 -- Assumes nothing.
-use mathlib.Core.Path.{_≡_, sym, ap, _∙_}
-use mathlib.Core.Bool.{Bool, true, false, cond}
-use mathlib.Core.List.{List, [], _∷_}
-use Prim.Native.Nat.{ℕ, suc, _+_, _*_, _-_, _≤_, _<_, min}
-use native.Mathlib.Omega.{arith}
-use borrow.Author.Tests.{ne-eqb, le-leb, lt-leb}
-use lib.Dec.{eqb}
-use lib.ListN.{length, getD, take, set, length-take, List·getD-eq-default}
-use lib.Seq.{sets}
+use Rattle.octets.proofs.Words.{_≡_, sym, ap, _∙_, Bool, true, false, cond, List, [], _∷_, ℕ, suc, _+_, _*_, _-_, _≤_, _<_, min, arith, ne-eqb, le-leb, lt-leb, eqb, length, getD, take, set, length-take, List·getD-eq-default, sets}
 use Rattle.octets.specs.Calls.{after}
 use Rattle.slot_sets.specs.Sets.{Slots, union, count, lowest, withoutHighest, slotsOf}
 use Rattle.slot_sets.proofs.MaskLaws.{mask-nothing}
-use Rattle.book_members.specs.Members.{Row, emptyRow, rowFor, free, vacant}
-use Rattle.book.specs.Books.{Stated, placesAt, withRow}
-use Rattle.book_joins.specs.Joins.{wish, granted, brought, asks, Answered, grants}
+use Rattle.book_members.specs.Members.{Row, emptyRow, placeFor, free, vacant, memberWith}
+use Rattle.book.specs.Books.{Contents, placesAt, withRow}
+use Rattle.book_joins.specs.Joins.{wish, grantFor, brought, asks, Answered, grants}
 use Rattle.book_joins.specs.Responses.{responses}
 use Rattle.book_joins.proofs.ResponseLaws.{length-responses}
 
@@ -24,19 +16,14 @@ none-behind n rs at h =
     mask-nothing ∙ ap (λ (r : Row). r .slots) (sym (List·getD-eq-default (take n rs) emptyRow (omega (arith, length-take n rs))))
 
 -- a unit's row is one of the rows, or just past them
-pub row-within : (unit : ℕ) (rs : List Row) → rowFor unit rs ≤ length rs
-unfolding rowFor
+pub row-within : (unit : ℕ) (rs : List Row) → placeFor unit rs ≤ length rs
+unfolding placeFor
 row-within unit [] = omega arith
 row-within unit (r ∷ rs) = go (eqb (r .unit) unit) (row-within unit rs)
   where
-    go : (b : Bool) → rowFor unit rs ≤ length rs → cond b 0 (1 + rowFor unit rs) ≤ suc (length rs)
+    go : (b : Bool) → placeFor unit rs ≤ length rs → cond b 0 (1 + placeFor unit rs) ≤ suc (length rs)
     go true h = omega arith
     go false h = omega arith
-
--- of two numbers that are within, so is the one that is chosen
-pub one-within : (t : Bool) (x y most : ℕ) → x ≤ most → y ≤ most → cond t x y ≤ most
-one-within true x y most h k = h
-one-within false x y most h k = k
 
 -- a holding that is brought to so many slots gets more, or keeps fewer
 module _ (to held : ℕ) (own spaces : Slots 64) (e : held ≡ count own) where
@@ -49,22 +36,22 @@ module _ (to held : ℕ) (own spaces : Slots 64) (e : held ≡ count own) where
 -- what is granted of the slots that the rows leave free
 module _ (dataSlots : ℕ) (rs : List Row) (spaces held got : Slots 64) (empty asked : ℕ) (s : spaces ≡ free dataSlots rs) (e : empty ≡ vacant rs) where
   pub is-seated : (live : Bool) (own : Slots 64) → held ≡ own → got ≡ cond live held (lowest (min (wish asked) (count spaces - empty + 1)) spaces)
-      → got ≡ cond live own (granted dataSlots rs asked)
+      → got ≡ cond live own (grantFor dataSlots rs asked)
   is-seated live own h g = rw (g, h, s, e)
 
   pub is-asked : got ≡ brought (min (wish asked) (count held + (count spaces - empty))) held spaces → got ≡ asks dataSlots rs held asked
   is-asked g = rw (g, s, e)
 
-module _ (n : ℕ) (b : Stated) (unit time at : ℕ) (own : Slots 64) (out : List ℕ) where
+module _ (n : ℕ) (b : Contents) (unit time at : ℕ) (own : Slots 64) (out : List ℕ) where
   pub unsettled : (n ≡ 0 → ⊥) → record { refused = n; written = 0; book = b; held = out } ≡ grants n b unit time at own out
   unsettled z = rw (ne-eqb n 0 z)
 
   -- the book is made from the rows of the call's time
   pub settled : (places now : List Row) (written : ℕ) (held : List ℕ) → n ≡ 0 → written ≡ 13 * (1 + count own) → now ≡ placesAt b time
-      → places ≡ set now at (record { unit = unit; slots = own; time = time }) → held ≡ sets out 0 (responses (b .plan) unit time at own)
+      → places ≡ set now at (memberWith unit own time) → held ≡ sets out 0 (responses (b .plan) unit time at own)
       → record { refused = n; written = written; book = record { plan = b .plan; time = time; places = places }; held = held } ≡ grants n b unit time at own out
   settled places now written held z w e p h = go (responses (b .plan) unit time at own) (w ∙ sym (length-responses (b .plan) unit time at own)) h
     where
       go : (bytes : List ℕ) → written ≡ length bytes → held ≡ sets out 0 bytes → _≡_ {A = Answered} (record { refused = n; written = written; book = record { plan = b .plan; time = time; places = places }; held = held })
-          (record { refused = n; written = after n 0 (length bytes); book = after n b (withRow b time at (record { unit = unit; slots = own; time = time })); held = after n out (sets out 0 bytes) })
+          (record { refused = n; written = after n 0 (length bytes); book = after n b (withRow b time at (memberWith unit own time)); held = after n out (sets out 0 bytes) })
       go bytes w h = rw (z, w, h, p, e)

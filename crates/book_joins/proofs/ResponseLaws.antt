@@ -1,24 +1,13 @@
--- Response frames: their lengths, one of them sealed, and a turn of the loop that stores them.
+-- Response frames: their lengths, and a turn of the loop that stores them.
 -- Assumes nothing.
-use mathlib.Core.Path.{_≡_, refl, sym, ap, ap₂, _∙_}
-use mathlib.Core.Bool.{Bool, true, false, _&&_, cond}
-use mathlib.Core.List.{List, [], _∷_, _++_, map, append-nil, append-assoc}
-use Prim.Native.Nat.{ℕ, zero, suc, _+_, _*_, _-_, _/_, _^_, _≤_, _<_}
-use native.Mathlib.Nat.{zero-add}
-use native.Mathlib.Numerals.{add-one}
-use native.Mathlib.Omega.{arith}
-use borrow.Author.Tests.{ltb-false}
-use lib.Dec.{ltb}
-use lib.ListN.{length, take, drop, set, length-append, length-map}
-use lib.Seq.{sets, sets-eq, drop-at}
+use Rattle.octets.proofs.Words.{_≡_, refl, sym, ap, ap₂, _∙_, Bool, true, false, _&&_, cond, List, [], _∷_, _++_, map, append-nil, append-assoc, ℕ, zero, suc, _+_, _*_, _-_, _/_, _^_, _≤_, _<_, zero-add, add-one, arith, ltb-false, ltb, length, drop, length-append, length-map, sets, sets-eq, drop-at}
 use Rattle.octets.specs.Layouts.{bytes}
 use Rattle.octets.specs.Numbers.{num, digits}
 use Rattle.octets.specs.Sums.{xors}
-use Rattle.octets.proofs.LayoutLaws.{length-bytes}
 use Rattle.octets.proofs.NumberLaws.{length-digits, num-digits}
-use Rattle.octets.proofs.StoreLaws.{sets-append, take-sets, sets-whole}
+use Rattle.octets.proofs.StoreLaws.{sets-append}
 use Rattle.frame_kinds.proofs.SealLaws.{length-sealed}
-use Rattle.frame_kinds.specs.Shape.{Kind, placeOf, valuesIn, sealed, frameOf}
+use Rattle.frame_kinds.specs.Shape.{valuesIn, sealed}
 use Rattle.frame_requests.specs.Requests.{joinResponse, joinResponseFrom}
 use Rattle.slot_sets.specs.Sets.{Slots, has, count, [] as []ˢ, _∷_ as _∷ˢ_}
 use Rattle.site_plan.specs.declared.plan.Plan.{Plan}
@@ -177,21 +166,6 @@ below-told bound w p row own h l = (h, below-listed bound p own 0 w (omega (arit
 pub small-told : (w : ℕ) (p : Plan) (row : ℕ) (own : Slots w) → controlSlot p row < 256 ^ 2 → dataAt p + w ≤ 256 ^ 2
     → Below (256 ^ 2) (controlSlot p row ∷ map (dataSlot p) (listed own 0 w))
 small-told w p row own h l = below-told (256 ^ 2) w p row own h l
-
--- ---- one frame
--- the type and the fields of a kind that has nothing behind them, and the checksum
-pub sealed-alone : (k : Kind) (vs room : List ℕ) (sum : ℕ) → length (k .widths) ≡ length vs → length room ≡ placeOf k + 1
-    → sum ≡ xors 0 (take (placeOf k) (sets room 0 (bytes (1 ∷ k .widths) (k .code ∷ vs))))
-    → set (sets room 0 (bytes (1 ∷ k .widths) (k .code ∷ vs))) (placeOf k) sum ≡ frameOf k vs []
-unfolding sealed
-sealed-alone k vs room sum v r e =
-    let bs = bytes (1 ∷ k .widths) (k .code ∷ vs) in
-    let n = placeOf k in
-    let l : length bs ≡ n = length-bytes (1 ∷ k .widths) (k .code ∷ vs) (ap suc v) in
-    let s : sum ≡ xors 0 bs = e ∙ ap (xors 0) (take-sets room bs n l (omega arith)) in
-    let m = length-append bs (xors 0 bs ∷ []) in
-    let w : sets room 0 (bs ++ (xors 0 bs ∷ [])) ≡ set (sets room 0 bs) n (xors 0 bs) = sets-append bs (xors 0 bs ∷ []) room 0 ∙ rw (zero-add, l) in
-    rw (append-nil bs, s) (sym w ∙ sets-whole room (bs ++ (xors 0 bs ∷ [])) (omega arith))
 
 -- ---- the loop
 -- what is left to tell from a slot on

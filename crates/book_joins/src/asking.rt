@@ -1,10 +1,11 @@
 // A slot request: a member's holding is brought to as many slots as it asks for and may have.
 ghost use mathlib.Core.Path.{_≡_};
 ghost use Prim.Native.Nat.{_+_, _-_, min};
+ghost use lib.ListN.{length};
 ghost use Rattle.octets.specs.Answers.{first};
 ghost use Rattle.slot_sets.specs.Sets.{slotsOf, count};
-ghost use Rattle.book.specs.Books.{stated};
-ghost use Rattle.book_joins.specs.Joins.{wish, brought, answeredBy, askReasons, askOf};
+ghost use Rattle.book.specs.Books.{contents, liveAt};
+ghost use Rattle.book_joins.specs.Joins.{wish, brought, answeredBy, askIn, askResponses, askReasons, askOf};
 use crate::grants::Granted;
 use crate::grants::fewer;
 use crate::grants::settle;
@@ -16,9 +17,9 @@ use book::book::Book;
 use book_members::census::counted;
 use book_members::rows::current;
 use book_members::rows::in_use;
-use frame_reading::refusals::slot_request;
-use frame_requests::slot_request::SlotRequest;
+use frame_requests::SlotRequest;
 use moments::in_order;
+use octets::answers::Refusal;
 use octets::answers::refuse_if;
 use slot_sets::masks::joined;
 use slot_sets::masks::lowest;
@@ -44,24 +45,25 @@ fn asks(own: u64, spaces: u64, empty: u8, asked: u8) -> u64
     brought(fewer(wish(asked), most), own, spaces)
 }
 
-// Why a slot request is refused, by a unit that is a live member or not, whose responses do not fit or do; 0 where it is not.
-fn refusal(book: Book, frame: &[u8], time: u32, live: bool, short: bool) -> u8
-    ensures { λ r. ⌜ r ≡ first (askReasons (stated book) (now (frame .entry)) time live short) ⌝ }
+// Why a slot request is refused, by a unit that is a live member or not, whose responses take so many bytes; 0 where it is not.
+fn refusal(book: Book, frame: &[u8], time: u32, live: bool, bytes: usize, room: usize) -> u8
+    requires { ⌜ (live ≡ liveAt (contents book) (askIn (now frame) .node) time) × (bytes ≡ length (askResponses (contents book) (now frame) time)) ⌝ }
+    ensures { λ r. ⌜ r ≡ first (askReasons (contents book) (now (frame .entry)) time room) ⌝ }
 {
-    let unread = slot_request(frame);
+    let unread = SlotRequest::refusal(frame);
     let unit = SlotRequest::of(frame).node;
     let manager = book.plan.manager;
-    let refused = refuse_if(short, 5, 0);
-    let refused = refuse_if(!live, 13, refused);
-    let refused = refuse_if(!in_order(book.time, time), 8, refused);
-    let refused = refuse_if(unit == manager, 6, refused);
+    let refused = refuse_if(room < bytes, Refusal::ROOM, 0);
+    let refused = refuse_if(!live, Refusal::NO_MEMBER, refused);
+    let refused = refuse_if(!in_order(book.time, time), Refusal::EARLIER, refused);
+    let refused = refuse_if(unit == manager, Refusal::OWN, refused);
     let refused = refuse_if(!(unread == 0), unread, refused);
-    refuse_if(!book.within_rule(), 14, refused)
+    refuse_if(!book.within_rule(), Refusal::RULE, refused)
 }
 
 // A live member asks for slots: it is told all that it then holds.
 pub fn ask(book: Book, frame: &[u8], time: u32, out: &mut [u8]) -> Granted
-    ensures { λ r. ⌜ answeredBy r (now (out .exit)) ≡ askOf (stated book) (now (frame .entry)) time (now (out .entry)) ⌝ }
+    ensures { λ r. ⌜ answeredBy r (now (out .exit)) ≡ askOf (contents book) (now (frame .entry)) time (now (out .entry)) ⌝ }
 {
     let request = SlotRequest::of(frame);
     let unit = request.node;
@@ -73,7 +75,6 @@ pub fn ask(book: Book, frame: &[u8], time: u32, out: &mut [u8]) -> Granted
     let live = at < in_use(plan.rows);
     let held = slots_in(now, plan.rows, at);
     let own = asks(held, census.slots, census.vacant, request.slots);
-    let short = out.len() < bytes_for(own);
-    let refused = refusal(book, frame, time, live, short);
+    let refused = refusal(book, frame, time, live, bytes_for(own), out.len());
     settle(refused, book, now, unit, time, at as u8, own, out)
 }

@@ -4,7 +4,7 @@ ghost use Prim.Native.Nat.{_-_, _≤_, min};
 ghost use lib.ListN.{getD, take};
 ghost use Rattle.slot_sets.specs.Sets.{slotsOf, count};
 ghost use Rattle.book_members.specs.Members.{rowsOf, emptyRow, current};
-ghost use Rattle.book.specs.Books.{stated};
+ghost use Rattle.book.specs.Books.{contents};
 ghost use Rattle.book_joins.specs.Joins.{wish, answeredBy, grants};
 use crate::responses::bytes_for;
 use crate::responses::put_responses;
@@ -69,7 +69,7 @@ pub(crate) fn settle(
     out: &mut [u8],
 ) -> Granted
     requires { ⌜ rowsOf rows ≡ current time (rowsOf (book .rows)) ⌝ }
-    ensures { λ r. ⌜ answeredBy r (now (out .exit)) ≡ grants refused (stated book) unit time at (slotsOf own) (now (out .entry)) ⌝ }
+    ensures { λ r. ⌜ answeredBy r (now (out .exit)) ≡ grants refused (contents book) unit time at (slotsOf own) (now (out .entry)) ⌝ }
 {
     if refused != 0 {
         return Granted {

@@ -1,4 +1,4 @@
-// Joins: a unit that asks to be a member, and a member that asks for more slots or fewer; what each is granted, and the frames that tell it.
+// A unit that asks to be a member, and a member that asks for more slots or fewer; what each is granted, and the frames that tell it.
 pub mod asking;
 pub mod grants;
 pub mod joining;

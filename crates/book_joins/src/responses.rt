@@ -7,11 +7,9 @@ ghost use lib.Seq.{sets};
 ghost use Rattle.slot_sets.specs.Sets.{slotsOf, count};
 ghost use Rattle.site_plan.specs.Schedules.{dataSlot};
 ghost use Rattle.book_joins.specs.Responses.{listed, response, responsesFor, responses};
-use octets::fixed::put8;
-use octets::fixed::put16;
-use octets::fixed::put32;
+use frame_kinds::sealing::seal;
+use frame_requests::JoinResponse;
 use octets::parts::put_bytes;
-use octets::sums::xor_of;
 use site_plan::plan::Plan;
 use slot_sets::masks::holds;
 use slot_sets::masks::size;
@@ -28,14 +26,15 @@ fn response(plan: Plan, unit: u16, time: u32, slot: u16) -> [u8; 13]
     ensures { λ r. ⌜ r ≡ response plan unit time slot ⌝ }
 {
     let mut frame = room();
-    put8(&mut frame, 0, 0x22);
-    put16(&mut frame, 1, unit);
-    put8(&mut frame, 3, 0);
-    put16(&mut frame, 4, slot);
-    put32(&mut frame, 6, time);
-    put16(&mut frame, 10, plan.network);
-    let sum = xor_of(&frame, 12);
-    frame[12] = sum;
+    let granted = JoinResponse {
+        node: unit,
+        status: 0,
+        slot,
+        superframe_time: time,
+        network: plan.network,
+    };
+    granted.put(&mut frame);
+    seal(&mut frame, 12);
     frame
 }
 

@@ -1,19 +1,13 @@
 -- The loops that go over the rows of a book from the last down: what the rows from a place on hold, how many are free, whether they are within rule, and
 -- where a unit is among them.
 -- Assumes nothing.
-use mathlib.Core.Path.{_≡_, sym, ap, _∙_}
-use mathlib.Core.Bool.{Bool, true, false, _&&_, cond}
-use mathlib.Core.List.{List, [], _∷_}
-use Prim.Native.Nat.{ℕ, _+_, _-_, _≤_, _<_, min}
-use native.Mathlib.Omega.{arith}
-use lib.Dec.{eqb}
-use lib.ListN.{length, getD, take, drop}
+use Rattle.octets.proofs.Words.{_≡_, sym, ap, _∙_, Bool, true, false, _&&_, cond, List, [], _∷_, ℕ, _+_, _-_, _≤_, _<_, min, arith, eqb, length, getD, take, drop}
 use mir.Val.{boolByte}
 use Rattle.slot_sets.specs.Sets.{slotsOf, union, disjoint}
 use Rattle.slot_sets.proofs.MaskLaws.{mask-nothing}
 use Rattle.book_members.specs.declared.member.Member.{Member}
-use Rattle.book_members.specs.Members.{Row, rowOf, rowsOf, rowFor, held, vacant}
-use Rattle.book_members.specs.Rules.{rowRule, judged}
+use Rattle.book_members.specs.Members.{Row, rowOf, rowsOf, placeFor, heldSlots, vacant}
+use Rattle.book_members.specs.Rules.{rowRule, pastTime, judged}
 use Rattle.book_members.proofs.RowLoopLaws.{nobody, none-left, row-below}
 
 -- the rows from a place on, of those that a plan uses
@@ -23,7 +17,7 @@ from ms n i = drop i (take n (rowsOf ms))
 pub record Counted (ms : List Member) (n i all found : ℕ) : Type 0 where
   pub place : i ≤ min n 21
   pub long : length ms ≡ 21
-  pub holds : slotsOf all ≡ held (from ms n i)
+  pub holds : slotsOf all ≡ heldSlots (from ms n i)
   pub free : found ≡ vacant (from ms n i)
   pub few : found + i ≤ 21
 
@@ -32,16 +26,16 @@ module _ (ms : List Member) (n : ℕ) (l : length ms ≡ 21) (i : ℕ) (e : i �
   none = none-left ms n l i (omega (arith, e))
 
   pub counted-start : Counted ms n i 0 0
-  unfolding held vacant
+  unfolding heldSlots vacant
   counted-start =
-      record { place = omega (arith, e); long = l; holds = mask-nothing ∙ sym (ap held none); free = sym (ap vacant none); few = omega (arith, e) }
+      record { place = omega (arith, e); long = l; holds = mask-nothing ∙ sym (ap heldSlots none); free = sym (ap vacant none); few = omega (arith, e) }
 
   pub judged-start : (manager dataSlots last : ℕ) → true ≡ judged manager dataSlots last (from ms n i)
   judged-start manager dataSlots last = sym (ap (judged manager dataSlots last) none)
 
-  pub found-start : (unit : ℕ) → i ≡ i + rowFor unit (from ms n i)
-  unfolding rowFor
-  found-start unit = let z : rowFor unit (from ms n i) ≡ 0 = ap (rowFor unit) none in omega (arith, z)
+  pub found-start : (unit : ℕ) → i ≡ i + placeFor unit (from ms n i)
+  unfolding placeFor
+  found-start unit = let z : placeFor unit (from ms n i) ≡ 0 = ap (placeFor unit) none in omega (arith, z)
 
 module _ {ms : List Member} {n i all found : ℕ} (k : Counted ms n i all found) (h : 0 < i) where
   abbrev member : Member
@@ -58,12 +52,12 @@ module _ {ms : List Member} {n i all found : ℕ} (k : Counted ms n i all found)
       go false = omega (arith, k .few)
 
   pub counted-turn : (all′ : ℕ) → slotsOf all′ ≡ union (slotsOf (member .slots)) (slotsOf all) → Counted ms n (i - 1) all′ (found + boolByte (eqb (member .unit) 0))
-  unfolding held vacant
+  unfolding heldSlots vacant
   counted-turn all′ e =
       record {
         place = omega (arith, k .place);
         long = k .long;
-        holds = e ∙ (rw (k .holds) (sym (ap held below)));
+        holds = e ∙ (rw (k .holds) (sym (ap heldSlots below)));
         free = more (eqb (member .unit) 0) ∙ sym (ap vacant below);
         few = few (eqb (member .unit) 0);
       }
@@ -77,15 +71,15 @@ module _ {ms : List Member} {n i all found : ℕ} (k : Counted ms n i all found)
       few false = omega (arith, k .few, h)
 
   pub judged-turn : (manager dataSlots last : ℕ) (good ruled apart : Bool) → good ≡ judged manager dataSlots last (from ms n i)
-      → ruled ≡ rowRule manager dataSlots last (rowOf member) → apart ≡ disjoint (slotsOf (member .slots)) (slotsOf all)
+      → ruled ≡ (rowRule dataSlots (rowOf member) && pastTime manager last (rowOf member)) → apart ≡ disjoint (slotsOf (member .slots)) (slotsOf all)
       → (ruled && apart && good) ≡ judged manager dataSlots last (from ms n (i - 1))
   judged-turn manager dataSlots last good ruled apart g r a = rw (r, a, g, k .holds) (sym (ap (judged manager dataSlots last) below))
 
-  pub found-turn : (unit at at′ : ℕ) → at ≡ i + rowFor unit (from ms n i) → at′ ≡ cond (eqb (member .unit) unit) (i - 1) at
-      → at′ ≡ (i - 1) + rowFor unit (from ms n (i - 1))
-  unfolding rowFor
-  found-turn unit at at′ e q = q ∙ (go (eqb (member .unit) unit) ∙ ap (λ (rs : List Row). (i - 1) + rowFor unit rs) (sym below))
+  pub found-turn : (unit at at′ : ℕ) → at ≡ i + placeFor unit (from ms n i) → at′ ≡ cond (eqb (member .unit) unit) (i - 1) at
+      → at′ ≡ (i - 1) + placeFor unit (from ms n (i - 1))
+  unfolding placeFor
+  found-turn unit at at′ e q = q ∙ (go (eqb (member .unit) unit) ∙ ap (λ (rs : List Row). (i - 1) + placeFor unit rs) (sym below))
     where
-      go : (b : Bool) → cond b (i - 1) at ≡ (i - 1) + cond b 0 (1 + rowFor unit (from ms n i))
+      go : (b : Bool) → cond b (i - 1) at ≡ (i - 1) + cond b 0 (1 + placeFor unit (from ms n i))
       go true = omega arith
       go false = omega (arith, e, h)

@@ -1,15 +1,6 @@
 -- The loop that compares each row with those before it: whether no two are one unit's.
 -- Assumes nothing.
-use mathlib.Core.Path.{_≡_, refl, sym, ap, _∙_}
-use mathlib.Core.Bool.{Bool, true, false, _||_, false≢true}
-use mathlib.Core.List.{List, [], _∷_}
-use Prim.Native.Nat.{ℕ, zero, suc, _+_, _-_, _*_, _≤_, _<_, min}
-use native.Mathlib.Decide.{ℕ-discrete, decLt}
-use native.Mathlib.Omega.{arith}
-use borrow.Author.Tests.{eqb-true, eqb-false}
-use lib.Dec.{eqb}
-use lib.ListN.{length, getD, take}
-use lib.Seq.{getD-take}
+use Rattle.octets.proofs.Words.{_≡_, refl, sym, ap, _∙_, Bool, true, false, _||_, false≢true, List, [], _∷_, ℕ, zero, suc, _+_, _-_, _*_, _≤_, _<_, min, ℕ-discrete, decLt, arith, eqb-true, eqb-false, eqb, length, getD, take, getD-take}
 use Rattle.book_members.specs.declared.member.Member.{Member}
 use Rattle.book_members.specs.Members.{Row, rowsOf, emptyRow}
 use Rattle.book_members.specs.Rules.{distinct}

@@ -1,14 +1,6 @@
 -- The rule of rows place by place: who leads, and any two rows.
 -- Assumes nothing.
-use mathlib.Core.Path.{_≡_, refl, sym, ap, _∙_}
-use mathlib.Core.Bool.{Bool, true, false, false≢true}
-use mathlib.Core.List.{List, [], _∷_}
-use Prim.Native.Nat.{ℕ, zero, suc, _≤_, _<_}
-use native.Mathlib.Decide.{ℕ-discrete}
-use native.Mathlib.Nat.{suc-inj}
-use native.Mathlib.Omega.{arith}
-use borrow.Author.Tests.{eq-eqb, eqb-true}
-use lib.ListN.{length, getD}
+use Rattle.octets.proofs.Words.{_≡_, refl, sym, ap, _∙_, Bool, true, false, false≢true, List, [], _∷_, ℕ, zero, suc, _≤_, _<_, ℕ-discrete, suc-inj, arith, eq-eqb, eqb-true, length, getD}
 use Rattle.slot_sets.specs.Sets.{Apart}
 use Rattle.book_members.specs.Members.{Row, emptyRow}
 use Rattle.book_members.specs.Rules.{distinct, apart, ledBy}

@@ -1,18 +1,11 @@
 -- Rows one by one: a test that every row passes, silent rows dropped, one row written, the rows at a time.
 -- Assumes nothing.
-use mathlib.Core.Path.{_≡_, refl, sym, ap, ap₂, _∙_}
-use mathlib.Core.Bool.{Bool, true, false, cond, and-eq-true-iff}
-use mathlib.Core.List.{List, [], _∷_, map}
-use mathlib.Core.Logic.{_⊎_, inl, inr}
-use Prim.Native.Nat.{ℕ, zero, suc}
-use native.Mathlib.Decide.{ℕ-discrete}
-use native.Mathlib.Omega.{arith}
-use borrow.Author.Tests.{le-leb, lt-leb, leb-true, leb-false}
-use lib.Dec.{leb}
-use lib.ListN.{length, getD, set, drop, length-map, List·getD-map}
+use Rattle.octets.proofs.Words.{_≡_, refl, sym, ap, ap₂, _∙_, Bool, true, false, cond, and-eq-true-iff, List, [], _∷_, map, _⊎_, inl, inr, ℕ, zero, suc, ℕ-discrete, arith, le-leb, lt-leb, leb-true, leb-false, leb, length, getD, set, drop, length-map, List·getD-map}
 use Rattle.octets.specs.Lists.{every}
+use Rattle.octets.proofs.ListLaws.{every-map}
+use Rattle.octets.proofs.TestLaws.{of-cond}
 use Rattle.moments.specs.Moments.{ageAt, inOrder}
-use Rattle.moments.proofs.MomentLaws.{older-on}
+use Rattle.moments.proofs.MomentLaws.{no-age, older-on}
 use Rattle.book_members.specs.Members.{Row, emptyRow, kept, current}
 
 -- the row at a place, zeros past the end
@@ -20,14 +13,6 @@ abbrev pub row : List Row → ℕ → Row
 row rs i = getD rs i emptyRow
 
 -- ---- every row
--- what holds of every row, changed or not, by what held of it before
-pub every-map : (test test′ : Row → Bool) (f : Row → Row) → ((r : Row) → test r ≡ true → test′ (f r) ≡ true) → (rs : List Row) → every test rs ≡ true → every test′ (map f rs) ≡ true
-unfolding every
-every-map test test′ f on [] e = refl
-every-map test test′ f on (r ∷ rs) e =
-    let (here, later) = and-eq-true-iff (test r) (every test rs) .0 e in
-    and-eq-true-iff (test′ (f r)) (every test′ (map f rs)) .1 (on r here, every-map test test′ f on rs later)
-
 pub every-set : (test : Row → Bool) (rs : List Row) (at : ℕ) (r : Row) → test r ≡ true → every test rs ≡ true → every test (set rs at r) ≡ true
 unfolding every
 every-set test [] at r h e = refl
@@ -39,11 +24,7 @@ every-set test (a ∷ rs) (suc at) r h e =
 -- ---- silent rows dropped
 -- what holds of a row where it is live, and of an empty one, holds of the row that is kept
 pub kept-either : (P : Row → Type 0) (time : ℕ) (r : Row) → (leb (ageAt time (r .time)) 300000 ≡ true → P r) → P emptyRow → P (kept time r)
-kept-either P time r p q = go (leb (ageAt time (r .time)) 300000) refl
-  where
-    go : (b : Bool) → leb (ageAt time (r .time)) 300000 ≡ b → P (cond b r emptyRow)
-    go true e = p e
-    go false e = q
+kept-either P time r p q = of-cond P (leb (ageAt time (r .time)) 300000) r emptyRow p (λ e. q)
 
 every-dropped : (test : Row → Bool) → test emptyRow ≡ true → (time : ℕ) (rs : List Row) → every test rs ≡ true → every test (map (kept time) rs) ≡ true
 every-dropped test empty time = every-map test test (kept time) (λ r here. kept-either (λ k. test k ≡ true) time r (λ e. here) empty)
@@ -71,6 +52,10 @@ every-behind test empty time (suc n) (r ∷ rs) e = go n rs e
     go zero rs e = every-dropped test empty time rs e
     go (suc n) [] e = e
     go (suc n) (r ∷ rs) e = go n rs e
+
+-- a row of this time stays
+pub kept-now : (time : ℕ) (r : Row) → r .time ≡ time → kept time r ≡ r
+kept-now time r e = rw (e, no-age time)
 
 -- ---- dropped twice
 pub kept-empty : (time : ℕ) → kept time emptyRow ≡ emptyRow

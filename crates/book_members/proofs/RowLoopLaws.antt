@@ -1,22 +1,13 @@
 -- The loops over the rows of a book: from the last row down, from the first up, and each row changed.
 -- Assumes nothing.
-use mathlib.Core.Path.{_≡_, refl, sym, ap, _∙_}
-use mathlib.Core.Bool.{Bool, true, false, _&&_}
-use mathlib.Core.List.{List, [], _∷_, _++_, map, append-nil}
-use Prim.Native.Nat.{ℕ, zero, suc, _+_, _-_, _≤_, _<_, min}
-use native.Mathlib.Numerals.{add-one}
-use native.Mathlib.Omega.{arith}
-use borrow.Author.Tests.{eq-eqb, ne-eqb, lt-ltb, le-leb, lt-leb}
-use lib.Dec.{eqb, leb, ltb}
-use lib.ListN.{length, getD, take, drop, set, length-map, length-take, List·getD-map, List·getD-eq-default, drop-of-length-le}
-use lib.Seq.{drop-cons, getD-take, take-all, take-suc-set, drop-set-lt, append-snoc, set-out}
+use Rattle.octets.proofs.Words.{_≡_, refl, sym, ap, _∙_, Bool, true, false, _&&_, List, [], _∷_, _++_, map, append-nil, ℕ, zero, suc, _+_, _-_, _≤_, _<_, min, add-one, arith, eq-eqb, ne-eqb, lt-ltb, le-leb, lt-leb, eqb, leb, ltb, length, getD, take, drop, set, length-map, length-take, List·getD-map, List·getD-eq-default, drop-of-length-le, drop-cons, getD-take, take-all, take-suc-set, drop-set-lt, append-snoc, set-out}
 use Rattle.book_members.specs.declared.member.Member.{Member}
 use Rattle.octets.specs.Lists.{every}
 use Rattle.moments.specs.Moments.{ageAt}
 use Rattle.slot_sets.specs.Sets.{slotsOf, disjoint, count}
 use Rattle.slot_sets.proofs.MaskLaws.{mask-nothing}
-use Rattle.book_members.specs.Members.{Row, rowOf, rowsOf, emptyRow, kept, current, rowFor, held, free, vacant}
-use Rattle.book_members.specs.Rules.{emptyIs, rowRule, distinct, apart, judged, ledBy, rowsRule}
+use Rattle.book_members.specs.Members.{Row, rowOf, rowsOf, emptyRow, kept, current, placeFor, heldSlots, free, vacant}
+use Rattle.book_members.specs.Rules.{emptyIs, rowRule, pastTime, distinct, apart, judged, ledBy, rowsRule}
 
 -- what an array reads as past its end
 abbrev pub nobody : Member
@@ -47,23 +38,23 @@ module _ (ms : List Member) (n : ℕ) (l : length ms ≡ 21) where
       row-and-rest (i - 1) (omega (arith, h)) ∙ ap (λ (k : ℕ). rowOf (getD ms (i - 1) nobody) ∷ drop k rows) e
 
   -- upward: looking for a unit
-  module _ (unit i : ℕ) (e : rowFor unit rows ≡ i + rowFor unit (drop i rows)) where
-    pub row-found : i < min n 21 → getD ms i nobody .unit ≡ unit → i ≡ rowFor unit rows
-    unfolding rowFor
+  module _ (unit i : ℕ) (e : placeFor unit rows ≡ i + placeFor unit (drop i rows)) where
+    pub row-found : i < min n 21 → getD ms i nobody .unit ≡ unit → i ≡ placeFor unit rows
+    unfolding placeFor
     row-found h q =
-        let z : rowFor unit (drop i rows) ≡ 0 = ap (rowFor unit) (row-and-rest i h) ∙ rw (eq-eqb (getD ms i nobody .unit) unit q) in
+        let z : placeFor unit (drop i rows) ≡ 0 = ap (placeFor unit) (row-and-rest i h) ∙ rw (eq-eqb (getD ms i nobody .unit) unit q) in
         omega (arith, e, z)
 
-    pub row-on : i < min n 21 → (getD ms i nobody .unit ≡ unit → ⊥) → rowFor unit rows ≡ (i + 1) + rowFor unit (drop (i + 1) rows)
-    unfolding rowFor
+    pub row-on : i < min n 21 → (getD ms i nobody .unit ≡ unit → ⊥) → placeFor unit rows ≡ (i + 1) + placeFor unit (drop (i + 1) rows)
+    unfolding placeFor
     row-on h q =
-        let z : rowFor unit (drop i rows) ≡ 1 + rowFor unit (drop (suc i) rows) = ap (rowFor unit) (row-and-rest i h) ∙ rw (ne-eqb (getD ms i nobody .unit) unit q) in
+        let z : placeFor unit (drop i rows) ≡ 1 + placeFor unit (drop (suc i) rows) = ap (placeFor unit) (row-and-rest i h) ∙ rw (ne-eqb (getD ms i nobody .unit) unit q) in
         rw add-one (omega (arith, e, z))
 
-    pub row-none : i ≡ min n 21 → i ≡ rowFor unit rows
-    unfolding rowFor
+    pub row-none : i ≡ min n 21 → i ≡ placeFor unit rows
+    unfolding placeFor
     row-none h =
-        let z : rowFor unit (drop i rows) ≡ 0 = ap (rowFor unit) (none-left i (omega (arith, h))) in
+        let z : placeFor unit (drop i rows) ≡ 0 = ap (placeFor unit) (none-left i (omega (arith, h))) in
         omega (arith, e, z)
 
 -- ---- live or silent
@@ -103,18 +94,23 @@ module _ (time i : ℕ) (ms : List Member) (whole : List Row) (e : take i (rowsO
       sym (append-nil (map rowOf ms)) ∙ (rw (take-all i (map rowOf ms) long, drop-of-length-le (map rowOf ms) long) at e)
 
 -- ---- judging rows
--- what one loop sees of the rows is what two of the rules say
-pub judged-all : (manager dataSlots last : ℕ) (rs : List Row) → judged manager dataSlots last rs ≡ (every (rowRule manager dataSlots last) rs && apart rs)
+-- what one loop sees of the rows is what three of the rules say
+judged-all : (manager dataSlots last : ℕ) (rs : List Row)
+    → judged manager dataSlots last rs ≡ ((every (rowRule dataSlots) rs && every (pastTime manager last) rs) && apart rs)
 unfolding every
 judged-all manager dataSlots last [] = refl
 judged-all manager dataSlots last (r ∷ rs) =
-    rw (judged-all manager dataSlots last rs) (regroup (rowRule manager dataSlots last r) (disjoint (r .slots) (held rs)) (every (rowRule manager dataSlots last) rs) (apart rs))
+    rw (judged-all manager dataSlots last rs)
+    (regroup (rowRule dataSlots r) (pastTime manager last r) (disjoint (r .slots) (heldSlots rs)) (every (rowRule dataSlots) rs) (every (pastTime manager last) rs) (apart rs))
   where
-    regroup : (r d e a : Bool) → (r && d && (e && a)) ≡ ((r && e) && (d && a))
-    regroup true true e a = refl
-    regroup true false true a = refl
-    regroup true false false a = refl
-    regroup false d e a = refl
+    regroup : (r p d e q a : Bool) → ((r && p) && d && ((e && q) && a)) ≡ (((r && e) && (p && q)) && (d && a))
+    regroup true true true e q a = refl
+    regroup true true false true true a = refl
+    regroup true true false true false a = refl
+    regroup true true false false q a = refl
+    regroup true false d true q a = refl
+    regroup true false d false q a = refl
+    regroup false p d e q a = refl
 
 -- the rows of a plan within rule, from what the code sees of them
 led : (ms : List Member) (n : ℕ) → length ms ≡ 21 → (manager : ℕ) → (ltb 0 n && eqb (getD ms 0 nobody .unit) manager) ≡ ledBy manager (take n (rowsOf ms))
@@ -129,15 +125,16 @@ pub rows-ruled : (ms : List Member) (n : ℕ) → length ms ≡ 21 → (manager 
 unfolding rowsRule
 rows-ruled ms n l manager dataSlots last good unlike empty room g u e r =
     rw (g, u, e, r, judged-all manager dataSlots last (take n (rowsOf ms)), ← led ms n l manager)
-    (regrouped (ltb 0 n && eqb (getD ms 0 nobody .unit) manager) (every (rowRule manager dataSlots last) (take n (rowsOf ms))) (distinct (take n (rowsOf ms))) (apart (take n (rowsOf ms))) _)
+    (regrouped (ltb 0 n && eqb (getD ms 0 nobody .unit) manager) (every (rowRule dataSlots) (take n (rowsOf ms))) (every (pastTime manager last) (take n (rowsOf ms))) (distinct (take n (rowsOf ms))) (apart (take n (rowsOf ms))) _)
   where
-    regrouped : (x e d a v : Bool) → (x && (e && a) && d && v) ≡ (x && e && d && a && v)
-    regrouped true true true true v = refl
-    regrouped true true true false v = refl
-    regrouped true true false true v = refl
-    regrouped true true false false v = refl
-    regrouped true false d a v = refl
-    regrouped false e d a v = refl
+    regrouped : (x e p d a v : Bool) → (x && ((e && p) && a) && d && v) ≡ (x && e && p && d && a && v)
+    regrouped true true true true true v = refl
+    regrouped true true true true false v = refl
+    regrouped true true true false true v = refl
+    regrouped true true true false false v = refl
+    regrouped true true false d a v = refl
+    regrouped true false p d a v = refl
+    regrouped false e p d a v = refl
 
 -- ---- one row
 pub row-written : (ms : List Member) (at : ℕ) (m : Member) → rowsOf (set ms at m) ≡ set (rowsOf ms) at (rowOf m)

@@ -1,18 +1,11 @@
 -- Sums over the rows of a book. Rows that are free, slots held, rows of a unit, owners of a slot are each a sum, and to write a row changes one term.
 -- Assumes nothing.
-use mathlib.Core.Path.{_≡_, refl, sym, ap, ap₂, _∙_}
-use mathlib.Core.Bool.{Bool, true, false, not, _&&_, _||_, cond, false≢true, and-eq-true-iff}
-use mathlib.Core.List.{List, [], _∷_, map}
-use Prim.Native.Nat.{ℕ, zero, suc, _+_, _≤_, _<_}
-use native.Mathlib.Decide.{ℕ-discrete}
-use native.Mathlib.Omega.{arith}
-use borrow.Author.Tests.{eq-eqb, ne-eqb, eqb-true, eqb-false, not-true, not-false}
-use lib.Dec.{eqb}
-use lib.ListN.{length, set}
+use Rattle.octets.proofs.Words.{_≡_, refl, sym, ap, ap₂, _∙_, Bool, true, false, not, _&&_, _||_, cond, false≢true, and-eq-true-iff, List, [], _∷_, map, ℕ, zero, suc, _+_, _≤_, _<_, ℕ-discrete, one-add, arith, eq-eqb, ne-eqb, eqb-true, eqb-false, not-true, not-false, eqb, eqb·suc-suc, length, set}
 use Rattle.octets.specs.Lists.{every}
+use Rattle.octets.proofs.TestLaws.{of-choice}
 use Rattle.slot_sets.specs.Sets.{has, Subset, disjoint}
 use Rattle.slot_sets.proofs.SetLaws.{union-has, nothing-has, disjoint-is-apart}
-use Rattle.book_members.specs.Members.{Row, emptyRow, vacantRow, kept, current, held, vacant}
+use Rattle.book_members.specs.Members.{Row, emptyRow, vacantRow, kept, current, heldSlots, vacant}
 use Rattle.book_members.specs.Rules.{unknownIn, distinct, apart}
 use Rattle.book_members.proofs.RowLaws.{row, kept-either}
 
@@ -101,6 +94,25 @@ module _ (test : Row → Bool) (r : Row) (rs : List Row) where
   unfolding weigh
   alone-behind l = omega arith
 
+-- every row passes exactly if as many pass as there are
+module _ (test : Row → Bool) where
+  tally-most : (rs : List Row) → tally test rs ≤ length rs
+  unfolding weigh
+  tally-most [] = omega arith
+  tally-most (r ∷ rs) = omega (arith, tally-most rs, of-choice (λ n. n ≤ 1) (test r) {x = 1} {y = 0} (omega arith) (omega arith))
+
+  every-tally : (rs : List Row) → every test rs ≡ eqb (tally test rs) (length rs)
+  unfolding every weigh
+  every-tally [] = refl
+  every-tally (r ∷ rs) = go (test r) (every-tally rs)
+    where
+      go : (b : Bool) → every test rs ≡ eqb (tally test rs) (length rs) → (b && every test rs) ≡ eqb (cond b 1 0 + tally test rs) (suc (length rs))
+      go true ih = rw one-add (ih ∙ sym (eqb·suc-suc (tally test rs) (length rs)))
+      go false ih = sym (ne-eqb (0 + tally test rs) (suc (length rs)) (λ z. omega (arith, z, tally-most rs)))
+
+  pub every-many : (rs : List Row) (m n : ℕ) → m ≡ tally test rs → length rs ≡ n → every test rs ≡ eqb m n
+  every-many rs m n p q = every-tally rs ∙ ap₂ eqb (sym p) q
+
 -- where no empty row passes, the places that do are rows; and if at most one passes, they are one place
 module _ (test : Row → Bool) (empty : test emptyRow ≡ false) where
   pub passes-there : (rs : List Row) (i : ℕ) → test (row rs i) ≡ true → i < length rs
@@ -185,21 +197,21 @@ tally-distinct (r ∷ rs) h =
 abbrev pub owns : ℕ → Row → Bool
 owns slot r = has (r .slots) slot
 
-pub held-tally : (slot : ℕ) (rs : List Row) → has (held rs) slot ≡ not (eqb (tally (owns slot) rs) 0)
-unfolding held
-held-tally slot = some-tally (owns slot) (λ rs. has (held rs) slot) (nothing-has 64 slot) (λ r rs. union-has 64 (r .slots) (held rs) slot)
+pub held-tally : (slot : ℕ) (rs : List Row) → has (heldSlots rs) slot ≡ not (eqb (tally (owns slot) rs) 0)
+unfolding heldSlots
+held-tally slot = some-tally (owns slot) (λ rs. has (heldSlots rs) slot) (nothing-has 64 slot) (λ r rs. union-has 64 (r .slots) (heldSlots rs) slot)
 
 module _ (slot : ℕ) (rs : List Row) where
-  pub held-some : has (held rs) slot ≡ true → 1 ≤ tally (owns slot) rs
+  pub held-some : has (heldSlots rs) slot ≡ true → 1 ≤ tally (owns slot) rs
   held-some e =
       let some = eqb-false (tally (owns slot) rs) 0 (not-true (eqb (tally (owns slot) rs) 0) (sym (held-tally slot rs) ∙ e)) in
       omega (arith, some)
 
-  pub held-none : has (held rs) slot ≡ false → tally (owns slot) rs ≡ 0
+  pub held-none : has (heldSlots rs) slot ≡ false → tally (owns slot) rs ≡ 0
   held-none e = eqb-true (tally (owns slot) rs) 0 (not-false (eqb (tally (owns slot) rs) 0) (sym (held-tally slot rs) ∙ e))
 
 -- what a row has is held
-pub own-held : (rs : List Row) (at : ℕ) → at < length rs → Subset (row rs at .slots) (held rs)
+pub own-held : (rs : List Row) (at : ℕ) → at < length rs → Subset (row rs at .slots) (heldSlots rs)
 own-held rs at h slot e =
     let one-owner : 1 ≤ tally (owns slot) rs = rw e at (weigh-at (one (owns slot)) rs at h) in
     held-tally slot rs ∙ ap not (ne-eqb (tally (owns slot) rs) 0 (λ z. omega (arith, z, one-owner)))
@@ -209,8 +221,8 @@ pub apart-tally : (rs : List Row) → apart rs ≡ true → (slot : ℕ) → tal
 unfolding weigh
 apart-tally [] e slot = omega arith
 apart-tally (r ∷ rs) e slot =
-    let (here, later) = and-eq-true-iff (disjoint (r .slots) (held rs)) (apart rs) .0 e in
-    alone-more (owns slot) r rs (λ own. held-none slot rs (go (has (held rs) slot) (disjoint-is-apart 64 (r .slots) (held rs) .0 here slot own))) (apart-tally rs later slot)
+    let (here, later) = and-eq-true-iff (disjoint (r .slots) (heldSlots rs)) (apart rs) .0 e in
+    alone-more (owns slot) r rs (λ own. held-none slot rs (go (has (heldSlots rs) slot) (disjoint-is-apart 64 (r .slots) (heldSlots rs) .0 here slot own))) (apart-tally rs later slot)
   where
     go : (b : Bool) → (b ≡ true → ⊥) → b ≡ false
     go true h = absurd (h refl)
@@ -219,7 +231,7 @@ apart-tally (r ∷ rs) e slot =
 pub tally-apart : (rs : List Row) → ((slot : ℕ) → tally (owns slot) rs ≤ 1) → apart rs ≡ true
 tally-apart [] h = refl
 tally-apart (r ∷ rs) h =
-    and-eq-true-iff (disjoint (r .slots) (held rs)) (apart rs) .1 (
-      disjoint-is-apart 64 (r .slots) (held rs) .1 (λ slot own there. omega (arith, held-some slot rs there, alone-here (owns slot) r rs (h slot) own)),
+    and-eq-true-iff (disjoint (r .slots) (heldSlots rs)) (apart rs) .1 (
+      disjoint-is-apart 64 (r .slots) (heldSlots rs) .1 (λ slot own there. omega (arith, held-some slot rs there, alone-here (owns slot) r rs (h slot) own)),
       tally-apart rs (λ slot. alone-behind (owns slot) r rs (h slot)),
     )

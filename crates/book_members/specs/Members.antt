@@ -14,9 +14,13 @@ pub record Row : Type 0 where
   pub slots : Slots 64
   pub time : ℕ
 
+-- the row of a unit that holds these slots, with its last accepted call at a time
+abbrev pub memberWith : ℕ → Slots 64 → ℕ → Row
+memberWith unit slots time = record { unit = unit; slots = slots; time = time }
+
 -- what a row of the code stands for
 abbrev pub rowOf : Member → Row
-rowOf m = record { unit = m .unit; slots = slotsOf (m .slots); time = m .time }
+rowOf m = memberWith (m .unit) (slotsOf (m .slots)) (m .time)
 
 -- the rows that the code's places stand for
 unfoldable pub rowsOf : List Member → List Row
@@ -24,10 +28,25 @@ rowsOf ms = map rowOf ms
 
 -- a row that is not in use is zeros
 abbrev pub emptyRow : Row
-emptyRow = record { unit = 0; slots = noSlots; time = 0 }
+emptyRow = memberWith 0 noSlots 0
 
 abbrev pub vacantRow : Row → Bool
 vacantRow r = eqb (r .unit) 0
+
+-- the same row, heard now; ..
+abbrev pub heardAt : ℕ → Row → Row
+heardAt time r = memberWith (r .unit) (r .slots) time
+
+-- .. or restored now: one that is not in use has no time
+abbrev pub restoredAt : ℕ → Row → Row
+restoredAt time r = memberWith (r .unit) (r .slots) (cond (vacantRow r) 0 time)
+
+-- how many slots a member holds: 1 to 4
+abbrev pub fewestSlots : ℕ
+fewestSlots = 1
+
+abbrev pub mostSlots : ℕ
+mostSlots = 4
 
 -- ---- who is live
 -- a member is live up to 300,000 ms after its last accepted call; a silent one counts as free, slots and row
@@ -40,19 +59,19 @@ current time [] = []
 current time (r ∷ rs) = r ∷ map (kept time) rs
 
 -- the first row of a unit, or how many rows there are; of unit 0 the lowest free row
-unfoldable pub rowFor : ℕ → List Row → ℕ
-rowFor unit [] = 0
-rowFor unit (r ∷ rs) = cond (eqb (r .unit) unit) 0 (1 + rowFor unit rs)
+unfoldable pub placeFor : ℕ → List Row → ℕ
+placeFor unit [] = 0
+placeFor unit (r ∷ rs) = cond (eqb (r .unit) unit) 0 (1 + placeFor unit rs)
 
 -- ---- slots
 -- those that some row holds
-unfoldable pub held : List Row → Slots 64
-held [] = noSlots
-held (r ∷ rs) = union (r .slots) (held rs)
+unfoldable pub heldSlots : List Row → Slots 64
+heldSlots [] = noSlots
+heldSlots (r ∷ rs) = union (r .slots) (heldSlots rs)
 
 -- the data slots, of so many, that none holds
 abbrev pub free : ℕ → List Row → Slots 64
-free dataSlots rs = minus (firsts dataSlots) (held rs)
+free dataSlots rs = minus (firsts dataSlots) (heldSlots rs)
 
 -- how many rows are free
 unfoldable pub vacant : List Row → ℕ

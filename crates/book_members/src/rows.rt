@@ -4,9 +4,10 @@ ghost use mathlib.Core.Bool.{cond};
 ghost use Prim.Native.Nat.{min, _≤_};
 ghost use lib.ListN.{length, getD, take, set};
 ghost use Rattle.slot_sets.specs.Sets.{slotsOf};
-ghost use Rattle.book_members.specs.Members.{rowOf, rowsOf, emptyRow, kept, current, rowFor};
+ghost use Rattle.book_members.specs.Members.{rowOf, rowsOf, emptyRow, kept, current, placeFor};
 use crate::member::Member;
 use moments::age;
+use site_plan::plan::Plan;
 
 // How many places are in use: no more than there are.
 pub fn in_use(count: u8) -> usize
@@ -16,8 +17,8 @@ pub fn in_use(count: u8) -> usize
 }
 
 // The first row of a unit, or how many rows there are; of unit 0 the lowest free row.
-pub fn row_for(rows: [Member; 21], count: u8, unit: u16) -> usize
-    ensures { λ r. ⌜ (r ≡ rowFor unit (take count (rowsOf rows))) × (length (take count (rowsOf rows)) ≡ min count 21) ⌝ }
+pub fn place_for(rows: [Member; 21], count: u8, unit: u16) -> usize
+    ensures { λ r. ⌜ (r ≡ placeFor unit (take count (rowsOf rows))) × (length (take count (rowsOf rows)) ≡ min count 21) ⌝ }
 {
     let used = in_use(count);
     let mut i = 0;
@@ -34,7 +35,7 @@ pub fn row_for(rows: [Member; 21], count: u8, unit: u16) -> usize
 fn kept(member: Member, time: u32) -> Member
     ensures { λ r. ⌜ rowOf r ≡ kept time (rowOf member) ⌝ }
 {
-    if age(time, member.time) <= 300000 {
+    if age(time, member.time) <= Plan::LIVE_MS {
         return member;
     }
     Member {

@@ -1,13 +1,15 @@
 // Whether the rows of a book are within rule.
 ghost use mathlib.Core.Path.{_≡_};
+ghost use mathlib.Core.Bool.{_&&_};
 ghost use lib.ListN.{take, drop};
 ghost use Rattle.octets.specs.Lists.{every};
 ghost use Rattle.slot_sets.specs.Sets.{slotsOf};
-ghost use Rattle.book_members.specs.Members.{rowOf, rowsOf, held, vacant};
-ghost use Rattle.book_members.specs.Rules.{emptyIs, rowRule, distinct, judged, rowsRule};
+ghost use Rattle.book_members.specs.Members.{rowOf, rowsOf, heldSlots, vacant};
+ghost use Rattle.book_members.specs.Rules.{emptyIs, rowRule, pastTime, distinct, judged, rowsRule};
 use crate::member::Member;
 use crate::rows::in_use;
 use moments::in_order;
+use octets::addresses::is_address;
 use slot_sets::masks::apart;
 use slot_sets::masks::below;
 use slot_sets::masks::is_empty;
@@ -25,13 +27,13 @@ impl Member {
 
     // By itself: zeros, or an address with 1 to 4 of the data slots and a time that is past, the manager with any.
     fn within_rule(self, manager: u16, data_slots: u8, last: u32) -> bool
-        ensures { λ r. ⌜ r ≡ rowRule manager «data_slots» last (rowOf self) ⌝ }
+        ensures { λ r. ⌜ r ≡ (rowRule «data_slots» (rowOf self) && pastTime manager last (rowOf self)) ⌝ }
     {
         if self.unit == 0 {
             return self.is_empty();
         }
         let outside = without(self.slots, below(data_slots as u32));
-        ((1 <= self.unit) & (self.unit <= 0xFFFE))
+        is_address(self.unit)
             & one_to_four(self.slots)
             & is_empty(outside)
             & ((self.unit == manager) | in_order(self.time, last))
@@ -70,7 +72,7 @@ struct Together {
 
 // Each row by itself and against those behind it.
 fn judged(rows: [Member; 21], count: u8, manager: u16, data_slots: u8, last: u32) -> Together
-    ensures { λ r. ⌜ (r .good ≡ judged manager «data_slots» last (take count (rowsOf rows))) × (slotsOf (r .held) ≡ held (take count (rowsOf rows))) × (r .vacant ≡ vacant (take count (rowsOf rows))) ⌝ }
+    ensures { λ r. ⌜ (r .good ≡ judged manager «data_slots» last (take count (rowsOf rows))) × (slotsOf (r .held) ≡ heldSlots (take count (rowsOf rows))) × (r .vacant ≡ vacant (take count (rowsOf rows))) ⌝ }
 {
     let mut good = true;
     let mut held: u64 = 0;

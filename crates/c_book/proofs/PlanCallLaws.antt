@@ -1,20 +1,13 @@
 -- The calls on a plan, from what the core answers.
 -- Assumes nothing.
-use mathlib.Core.Path.{_≡_, refl, sym, ap, _∙_}
-use mathlib.Core.Bool.{Bool, true, false, not, cond}
-use mathlib.Core.List.{List, [], _∷_}
-use Prim.Native.Nat.{ℕ, _≤_}
-use native.Mathlib.Omega.{arith}
-use borrow.Author.Tests.{eq-eqb, ne-eqb, ltb-false}
-use lib.Dec.{eqb, ltb}
-use lib.ListN.{length}
-use lib.Seq.{sets}
+use Rattle.octets.proofs.Words.{_≡_, sym, ap, _∙_, Bool, not, cond, List, [], _∷_, ℕ, _≤_, eq-eqb, ne-eqb, ltb-false, eqb, ltb, length, sets}
 use Rattle.octets.specs.Answers.{Reason, reason, first}
 use Rattle.octets.specs.Calls.{stored}
 use Rattle.octets.specs.declared.answers.Refusal.{Refusal}
-use Rattle.octets.proofs.AnswerLaws.{numbered, none-holds}
+use Rattle.octets.proofs.AnswerLaws.{none-holds}
 use Rattle.octets.proofs.StoreLaws.{sets-whole}
-use Rattle.frame_kinds.proofs.AnsweredLaws.{Valued, valued, valued-unless, refused-by-some}
+use Rattle.octets.proofs.AnsweredLaws.{Valued, valued, valued-unless, refused-by-some}
+use Rattle.octets.proofs.CallLaws.{stored-number, stored-none}
 use Rattle.site_plan.specs.declared.plan.Plan.{Plan}
 use Rattle.site_plan.specs.declared.plan.Made.{Made}
 use Rattle.site_plan.specs.Plans.{active, slots, superframeMs, controlAt, dataAt, discoveryAt, sleepAt, planNumbers, planRule, toldPlan, planOf}
@@ -22,14 +15,6 @@ use Rattle.site_plan.specs.PlanBytes.{planSize, planAt, planBytes}
 use Rattle.site_plan.proofs.PlanByteLaws.{length-plan}
 use Rattle.c_book.specs.BookCalls.{bookLeft}
 use Rattle.c_book.specs.PlanCalls.{planCall, numbersLeft, numbersCall}
-
--- the status of a call over a stored value, as `refuse_if` gives it
-pub stored-number : (n : ℕ) (s : List ℕ) (said : ℕ) → cond (not (eqb (length s) n)) 14 said ≡ stored n s said
-stored-number n s said = turned (eqb (length s) n)
-  where
-    turned : (b : Bool) → cond (not b) 14 said ≡ cond b said 14
-    turned true = refl
-    turned false = refl
 
 -- ---- making one
 module _ (s : List ℕ) (network manager hops rows dataSlots ms : ℕ) where
@@ -88,9 +73,5 @@ module _ (s numbers : List ℕ) where
 
       pub places : 7 ≤ length numbers
       places =
-          let none = none-holds reasons (numbered _ 14 (λ y. omega arith), (numbered _ 5 (λ y. omega arith), tt)) (go (eqb (length s) planSize) (sym e ∙ z)) in
+          let none = none-holds reasons _ (stored-none (eqb (length s) planSize) (first reasons) (sym e ∙ z) .1) in
           ltb-false (length numbers) 7 (none .1 .0)
-        where
-          go : (b : Bool) → cond b (first reasons) 14 ≡ 0 → first reasons ≡ 0
-          go true q = q
-          go false q = absurd (omega (arith, q))

@@ -2,10 +2,9 @@
 -- Assumes nothing.
 use Prim.Native.Nat.{ℕ}
 use mathlib.Core.List.{List}
-use lib.ListN.{getD}
 use Rattle.octets.specs.Calls.{after, stored, WriteLeft, writeLeft}
-use Rattle.octets.specs.Told.{Wrote}
-use Rattle.book.specs.Books.{Left, freshOf, heardOf, leaveOf}
+use Rattle.octets.specs.Told.{Wrote, writtenIn}
+use Rattle.book.specs.Books.{BookChange, freshOf, heardOf, leaveOf}
 use Rattle.book.specs.Schedules.{scheduleOf}
 use Rattle.book_image.specs.Images.{imageWritten, restoreOf}
 use Rattle.site_plan.specs.PlanBytes.{planSize, planAt}
@@ -20,7 +19,7 @@ abbrev pub bookLeft : ℕ → List ℕ → BookLeft
 bookLeft status book = record { status = status; book = book }
 
 -- a call over a buffer that answers so: 14 where the buffer has not a book's size, else the answer's number, and the new book where that is 0
-abbrev pub leaves : List ℕ → Left → BookLeft
+abbrev pub leaves : List ℕ → BookChange → BookLeft
 leaves s new =
     let status = stored bookSize s (new .refused) in
     bookLeft status (after status s (bookBytes (new .book)))
@@ -45,7 +44,7 @@ restoreCall s image time = leaves s (restoreOf image time)
 abbrev pub wroteTo : List ℕ → List ℕ → ℕ → Wrote → WriteLeft
 wroteTo s out written wrote =
     let status = stored bookSize s (wrote .said .refusal) in
-    writeLeft status (after status out (wrote .held)) (after status written (getD (wrote .said .values) 0 0))
+    writeLeft status (after status out (wrote .held)) (after status written (writtenIn wrote))
 
 unfoldable pub scheduleCall : List ℕ → ℕ → ℕ → ℕ → List ℕ → ℕ → WriteLeft
 scheduleCall s unit hop time out written = wroteTo s out written (scheduleOf (bookIn s) unit hop time out)

@@ -1,7 +1,7 @@
 // A member book of 307 bytes, kept by the caller: made of a plan, a member heard or gone, and its schedule.
 ghost use mathlib.Core.Path.{_≡_};
 ghost use Rattle.octets.specs.Calls.{writeLeft};
-ghost use Rattle.book.specs.Books.{leftBy};
+ghost use Rattle.book.specs.Books.{changeOf};
 ghost use Rattle.c_book.specs.BookCalls.{bookLeft, leaves, freshCall, heardCall, leaveCall, scheduleCall};
 use crate::plan_calls::PLAN_SIZE;
 use book::book::Book;
@@ -9,16 +9,17 @@ use book::book::Changed;
 use book_bytes::books::BOOK_SIZE;
 use book_bytes::books::book_of;
 use book_bytes::books::write_back;
+use octets::answers::Refusal;
 use octets::answers::Written;
 use octets::answers::refuse_if;
 use site_plan::plan_bytes::plan_of;
 
 // The end of every call that changes a book: the new one goes to the buffer, unless that is no book's or the call was refused.
 pub(crate) fn keep(book: &mut [u8], changed: Changed) -> u8
-    ensures { λ r. ⌜ bookLeft r (now (book .exit)) ≡ leaves (now (book .entry)) (leftBy changed) ⌝ }
+    ensures { λ r. ⌜ bookLeft r (now (book .exit)) ≡ leaves (now (book .entry)) (changeOf changed) ⌝ }
 {
     let next = changed.book;
-    let refused = refuse_if(book.len() != BOOK_SIZE, 14, changed.refused);
+    let refused = refuse_if(book.len() != BOOK_SIZE, Refusal::RULE, changed.refused);
     write_back(book, refused, next)
 }
 
@@ -30,7 +31,7 @@ pub extern "C" fn braidlark_book_fresh(book: &mut [u8], plan: &[u8], time: u32) 
     let fresh = Book::fresh(plan_of(plan, 0), time);
     let next = fresh.book;
     let opened = Changed {
-        refused: refuse_if(plan.len() != PLAN_SIZE, 14, fresh.refused),
+        refused: refuse_if(plan.len() != PLAN_SIZE, Refusal::RULE, fresh.refused),
         book: next,
     };
     keep(book, opened)
@@ -67,7 +68,7 @@ pub extern "C" fn braidlark_schedule(
     ensures { λ r. ⌜ writeLeft r (now (out .exit)) (now (written .exit)) ≡ scheduleCall (now (book .entry)) unit hop time (now (out .entry)) (now (written .entry)) ⌝ }
 {
     if book.len() != BOOK_SIZE {
-        return 14;
+        return Refusal::RULE;
     }
     match book_of(book).schedule(unit, hop, time, out) {
         Written::Done(size) => {

@@ -7,6 +7,7 @@ use book_bytes::books::BOOK_SIZE;
 use book_bytes::books::book_of;
 use book_image::restoring::restore;
 use book_image::writing::write_image;
+use octets::answers::Refusal;
 use octets::answers::Written;
 
 // Writes the image of a book, its live members alone, and says how many bytes it has.
@@ -15,7 +16,7 @@ pub extern "C" fn braidlark_image(book: &[u8], time: u32, out: &mut [u8], writte
     ensures { λ r. ⌜ writeLeft r (now (out .exit)) (now (written .exit)) ≡ imageCall (now (book .entry)) time (now (out .entry)) (now (written .entry)) ⌝ }
 {
     if book.len() != BOOK_SIZE {
-        return 14;
+        return Refusal::RULE;
     }
     match write_image(book_of(book), time, out) {
         Written::Done(size) => {

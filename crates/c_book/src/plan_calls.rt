@@ -6,6 +6,7 @@ ghost use lib.Seq.{sets};
 ghost use Rattle.site_plan.specs.Plans.{planNumbers};
 ghost use Rattle.c_book.specs.BookCalls.{bookLeft};
 ghost use Rattle.c_book.specs.PlanCalls.{planCall, numbersLeft, numbersCall};
+use octets::answers::Refusal;
 use octets::answers::refuse_if;
 use site_plan::plan::Made;
 use site_plan::plan::Plan;
@@ -30,7 +31,7 @@ pub extern "C" fn braidlark_plan(
     ensures { λ r. ⌜ bookLeft r (now (plan .exit)) ≡ planCall (now (plan .entry)) network manager «max_hops» rows «data_slots» «slot_ms» ⌝ }
 {
     if plan.len() != PLAN_SIZE {
-        return 14;
+        return Refusal::RULE;
     }
     match Plan::new(network, manager, max_hops, rows, data_slots, slot_ms) {
         Made::Plan(made) => {
@@ -68,9 +69,9 @@ pub extern "C" fn braidlark_plan_numbers(plan: &[u8], numbers: &mut [u32]) -> u8
     ensures { λ r. ⌜ numbersLeft r (now (numbers .exit)) ≡ numbersCall (now (plan .entry)) (now (numbers .entry)) ⌝ }
 {
     let held = plan_of(plan, 0);
-    let refused = refuse_if(numbers.len() < PLAN_NUMBERS, 5, 0);
-    let refused = refuse_if(!held.within_rule(), 14, refused);
-    let refused = refuse_if(plan.len() != PLAN_SIZE, 14, refused);
+    let refused = refuse_if(numbers.len() < PLAN_NUMBERS, Refusal::ROOM, 0);
+    let refused = refuse_if(!held.within_rule(), Refusal::RULE, refused);
+    let refused = refuse_if(plan.len() != PLAN_SIZE, Refusal::RULE, refused);
     if refused != 0 {
         return refused;
     }

@@ -1,12 +1,6 @@
 -- The call on the entries of an update, from what the walk answers.
 -- Assumes nothing.
-use mathlib.Core.Path.{_≡_, sym, ap, _∙_}
-use mathlib.Core.List.{List}
-use Prim.Native.Nat.{ℕ, _≤_, _<_}
-use native.Mathlib.Omega.{arith}
-use borrow.Author.Tests.{ne-eqb, lt-ltb, le-ltb}
-use lib.ListN.{length}
-use lib.Seq.{sets}
+use Rattle.octets.proofs.Words.{_≡_, sym, ap, _∙_, List, ℕ, _≤_, _<_, arith, ne-eqb, lt-ltb, le-ltb, length, sets}
 use Rattle.octets.specs.declared.answers.Refusal.{Refusal}
 use Rattle.frame_traffic.specs.Traffic.{entryValues}
 use Rattle.frame_entries.specs.declared.walking.Step.{Step}

@@ -1,15 +1,6 @@
 -- The calls on frames, from what the core answers.
 -- Assumes nothing.
-use mathlib.Core.Path.{_≡_, refl, sym, ap, _∙_}
-use mathlib.Core.Bool.{Bool, true, false, not, _||_, cond}
-use mathlib.Core.List.{List, [], _∷_}
-use mathlib.Core.Logic.{_⊎_, inl, inr, ⊎-elim}
-use Prim.Native.Nat.{ℕ, _-_, _≤_}
-use native.Mathlib.Decide.{ℕ-discrete}
-use native.Mathlib.Omega.{arith}
-use borrow.Author.Tests.{ltb-false, eqb-true}
-use lib.Dec.{eqb, ltb}
-use lib.ListN.{length, getD}
+use Rattle.octets.proofs.Words.{_≡_, refl, sym, ap, _∙_, Bool, true, false, not, _||_, cond, List, [], _∷_, _⊎_, inl, inr, ⊎-elim, ℕ, _-_, _≤_, ℕ-discrete, arith, ltb-false, eqb-true, eqb, ltb, length, getD}
 use Rattle.octets.specs.Answers.{Said, accepted, refused}
 use Rattle.octets.specs.Calls.{writeLeft}
 use Rattle.octets.specs.declared.answers.Refusal.{Refusal}

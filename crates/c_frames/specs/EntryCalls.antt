@@ -3,11 +3,11 @@
 use Prim.Native.Nat.{ℕ}
 use mathlib.Core.List.{List, [], _∷_}
 use lib.Dec.{ltb}
-use lib.ListN.{length, getD, drop}
+use lib.ListN.{length}
 use lib.Seq.{sets}
 use Rattle.octets.specs.Answers.{refusing, reason, first}
 use Rattle.octets.specs.Calls.{after}
-use Rattle.frame_entries.specs.Walks.{walkOf}
+use Rattle.frame_entries.specs.Walks.{walkOf, positionIn, entryIn}
 
 -- the status, the entry's numbers, and the next position
 pub record EntryLeft : Type 0 where
@@ -22,6 +22,6 @@ entryLeft status entry next = record { status = status; entry = entry; next = ne
 unfoldable pub entryCall : List ℕ → ℕ → List ℕ → ℕ → EntryLeft
 entryCall s position entry next =
     let said = walkOf s position in
-    let fields = drop 1 (said .values) in
+    let fields = entryIn said in
     let status = first (refusing (said .refusal) ∷ reason (ltb (length entry) (length fields)) 5 ∷ []) in
-    entryLeft status (after status entry (sets entry 0 fields)) (after status next (getD (said .values) 0 0))
+    entryLeft status (after status entry (sets entry 0 fields)) (after status next (positionIn said))

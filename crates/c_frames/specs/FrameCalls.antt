@@ -2,10 +2,11 @@
 -- Assumes nothing.
 use Prim.Native.Nat.{ℕ, _-_}
 use mathlib.Core.List.{List}
-use lib.ListN.{length, getD}
+use lib.ListN.{length}
 use Rattle.octets.specs.Calls.{after, WriteLeft, writeLeft}
 use Rattle.octets.specs.Layouts.{total}
 use Rattle.octets.specs.Numbers.{num}
+use Rattle.octets.specs.Told.{writtenIn}
 use Rattle.frames.specs.Layout.{widthsOf}
 use Rattle.frames.specs.Listed.{showRefusal, shown, writeNumbers}
 
@@ -31,4 +32,4 @@ readCall s fields place extent =
 unfoldable pub writeCall : List ℕ → List ℕ → List ℕ → ℕ → WriteLeft
 writeCall ns part out written =
     let wrote = writeNumbers ns part out in
-    writeLeft (wrote .said .refusal) (wrote .held) (after (wrote .said .refusal) written (getD (wrote .said .values) 0 0))
+    writeLeft (wrote .said .refusal) (wrote .held) (after (wrote .said .refusal) written (writtenIn wrote))

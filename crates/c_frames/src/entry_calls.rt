@@ -8,6 +8,7 @@ ghost use Rattle.c_frames.specs.EntryCalls.{entryLeft, entryCall};
 use frame_entries::reader::walk;
 use frame_entries::walking::Walked;
 use frame_traffic::entry::Entry;
+use octets::answers::Refusal;
 
 const ENTRY_FIELDS: usize = 5;
 
@@ -36,7 +37,7 @@ pub extern "C" fn braidlark_entry(
     match walk(frame, position as usize) {
         Walked::One(step) => {
             if entry.len() < ENTRY_FIELDS {
-                return 5;
+                return Refusal::ROOM;
             }
             let met = step.entry;
             put_entry(entry, met);

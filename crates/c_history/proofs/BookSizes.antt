@@ -1,47 +1,41 @@
--- The book of every start and of every event has 21 places and numbers that fit their bytes: what `book_bytes` and `book_history` say of books and of calls, of
--- images, starts and events.
+-- The book of every start and after every call has 21 places and numbers that fit their bytes: what `book_bytes` and `book_history` say of books and of calls, of
+-- images and starts.
 -- Assumes nothing.
-use mathlib.Core.Bool.{Bool, true, false, cond}
-use mathlib.Core.List.{List}
-use Prim.Native.Nat.{ℕ, _+_, _*_, _<_}
-use native.Mathlib.Omega.{arith}
-use lib.Dec.{eqb, ltb}
+use Rattle.octets.proofs.Words.{Bool, true, false, cond, List, ℕ, _+_, _*_, _<_, arith, eqb, ltb}
 use Rattle.octets.specs.Layouts.{total, Fit, Bytes}
+use Rattle.octets.proofs.EachLaws.{each-tab}
 use Rattle.octets.proofs.ListLaws.{length-tab}
 use Rattle.octets.proofs.NumberLaws.{num-lt}
+use Rattle.octets.proofs.TestLaws.{of-choice}
 use Rattle.book_members.specs.Members.{emptyRow}
-use Rattle.book.specs.Books.{Stated, noBook}
-use Rattle.book_history.specs.Calls.{join, ask, heard, leave, schedule}
+use Rattle.book.specs.Books.{Contents, noBook}
+use Rattle.book_history.specs.Calls.{Call, join, ask, heard, leave, schedule, image, next, timeOf}
 use Rattle.book_history.proofs.SizeLaws.{keeps-size}
 use Rattle.site_plan.specs.PlanBytes.{planAt}
 use Rattle.book_bytes.specs.BookBytes.{rowWidths, rowValues}
-use Rattle.book_bytes.specs.Trips.{Sized}
+use Rattle.book_bytes.specs.Trips.{RowFits, Sized}
 use Rattle.site_plan.proofs.PlanByteLaws.{plan-fits}
-use Rattle.book_bytes.proofs.SizeLaws.{row-fits, empty-fits, tab-fits, either-sized, none-sized, fresh-sized}
+use Rattle.book_bytes.proofs.SizeLaws.{row-fits, empty-fits, either-sized, none-sized, fresh-sized}
 use Rattle.book_image.specs.Images as images
 use Rattle.book_image.specs.Images.{planPlace, rowsPlace, rowIn, restoreOf}
-use Rattle.book_history.specs.BookEvents.{begun, Event, call, image, timeOf, next}
+use Rattle.book_history.specs.Histories.{begun}
 use Rattle.c_history.specs.HeldBooks.{StartInC, fresh, restored, MachineStart, startOf, Machine}
 use Rattle.c_history.specs.BookLaws.{SizedKept}
 
 -- ---- the start
 row-restored : (s : List ℕ) (time i : ℕ) → Bytes s → time < 0x100000000 → Fit rowWidths (rowValues (rowIn s time i))
 unfolding rowIn
-row-restored s time i b t = row-fits _ (rowIn s time i .slots) _ (num-lt s b 2 (rowsPlace + total images.rowWidths * i)) (go (eqb (rowIn s time i .unit) 0))
-  where
-    go : (b : Bool) → cond b 0 time < 0x100000000
-    go true = omega arith
-    go false = t
+row-restored s time i b t = row-fits _ (rowIn s time i .slots) _ (num-lt s b 2 (rowsPlace + total images.rowWidths * i)) (of-choice (λ n. n < 0x100000000) (eqb (rowIn s time i .unit) 0) (omega arith) t)
 
 restored-sized : (s : List ℕ) (time : ℕ) → Bytes s → time < 0x100000000 → Sized (restoreOf s time .book)
-unfolding restoreOf images.bookIn
+unfolding restoreOf images.imageBook
 restored-sized s time b t =
-    either-sized (restoreOf s time .refused) noBook (images.bookIn s time) none-sized (
+    either-sized (restoreOf s time .refused) noBook (images.imageBook s time) none-sized (
     record {
       places = length-tab 21 _;
       plan = plan-fits s planPlace b;
       time = t;
-      rows = tab-fits 21 _ (λ i. go i (ltb i (planAt s planPlace .rows)));
+      rows = each-tab RowFits 21 _ (λ i. go i (ltb i (planAt s planPlace .rows)));
     }
     )
   where
@@ -53,18 +47,17 @@ pub begun-sized : (start : StartInC) → MachineStart start → Sized (begun (st
 begun-sized (fresh plan time) (b, t) = fresh-sized (planAt plan 0) time (plan-fits plan 0 b) t
 begun-sized (restored bytes time) (b, t) = restored-sized bytes time b t
 
--- ---- any event
-pub machine-time : (e : Event) → Machine e → timeOf e < 0x100000000
-machine-time (call (join frame time out)) (f, t, o) = t
-machine-time (call (ask frame time out)) (f, t, o) = t
-machine-time (call (heard unit time)) (u, t) = t
-machine-time (call (leave unit time)) (u, t) = t
-machine-time (call (schedule unit hop time out)) (u, h, t, o) = t
+-- ---- any call
+machine-time : (c : Call) → Machine c → timeOf c < 0x100000000
+machine-time (join frame time out) (f, t, o) = t
+machine-time (ask frame time out) (f, t, o) = t
+machine-time (heard unit time) (u, t) = t
+machine-time (leave unit time) (u, t) = t
+machine-time (schedule unit hop time out) (u, h, t, o) = t
 machine-time (image time out) (t, o) = t
 
-pub sized-next : (b : Stated) (e : Event) → Machine e → Sized b → Sized (next b e)
-sized-next b (call c) m z = keeps-size b c (machine-time (call c) m) z
-sized-next b (image time out) m z = z
+pub sized-next : (b : Contents) (c : Call) → Machine c → Sized b → Sized (next b c)
+sized-next b c m = keeps-size b c (machine-time c m)
 
 pub sized-kept : SizedKept
 sized-kept = (begun-sized, sized-next)

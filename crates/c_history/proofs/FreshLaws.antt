@@ -1,92 +1,65 @@
 -- A next hop that a call from C answers was heard.
 -- Assumes nothing.
-use mathlib.Core.Path.{_≡_, refl, sym, ap, _∙_}
-use mathlib.Core.Bool.{Bool, true, false, cond}
-use mathlib.Core.List.{List, [], _∷_}
-use Prim.Native.Nat.{ℕ}
-use lib.ListN.{length, getD}
-use Rattle.octets.specs.Answers.{Said, accepted}
-use Rattle.moments.specs.Elapsed.{nowAt}
+use Rattle.octets.proofs.Words.{_≡_, refl, sym, subst, _∙_, Bool, true, false, List, [], _∷_, ℕ, getD}
+use Rattle.moments.specs.Elapsed.{Clock, started, nowAt}
 use Rattle.route_table.specs.declared.table.Table.{Table}
-use Rattle.route_table.specs.Tables.{lookupOf}
-use Rattle.route_relays.specs.Relays.{dataIn, forUs, copyOf, relayRefusal, relayOf}
+use Rattle.route_table.specs.Tables.{freshOf}
+use Rattle.route_relays.specs.Relays.{relayOf}
+use Rattle.route_relays.proofs.RelayLaws.{relay-no-hop}
 use Rattle.route_bytes.specs.TableBytes.{tableIn, tableBytes}
 use Rattle.route_bytes.specs.TableTrips.{Sized}
 use Rattle.route_bytes.proofs.SizeLaws.{sized-read}
 use Rattle.route_bytes.proofs.TableTripLaws.{reads-back, writes-tables}
-use Rattle.route_history.specs.TableCalls.{lookup, relay, Past, after, fresh}
-use Rattle.route_history.specs.TableLaws.{Heard, AnswersHeard}
-use Rattle.route_history.proofs.LookupLaws.{found}
-use Rattle.route_history.proofs.TableHistoryLaws.{freshness, freshness-from, relay-number}
+use Rattle.route_history.specs.TableCalls.{lookup, relay, afterCalls, Happened, recorded, clockOf, heardFrom}
+use Rattle.route_history.specs.TableLaws.{Times, Heard, AnswersHeard, After}
+use Rattle.route_history.proofs.TableHistoryLaws.{freshness, freshness-from}
 use Rattle.c_routes.specs.TableCalls.{lookupCall}
 use Rattle.c_routes.specs.RelayCalls.{relayCall}
-use Rattle.c_history.specs.HeldTables.{Held, callsOf, inBytes}
-use Rattle.c_history.specs.TableLaws.{AnswersHeardInC, FreshInC, FreshFromInC}
+use Rattle.c_history.specs.HeldTables.{InC, afterCallsInC, AllMachine, callsOf}
+use Rattle.c_history.specs.TableLaws.{Stored, AnswersHeardInC, AfterInC, FreshInC, FreshFromInC}
 use Rattle.c_history.proofs.KeptLaws.{sized-kept}
 use Rattle.c_history.proofs.StoredLaws.{status-same, sized-after, fresh-accepted, stays-stored, stored-from}
 
-module _ (t : Table) (z : Sized t) (time : ℕ) where
-  -- what is asked of the bytes is answered by the table
-  lookup-status : (d nextHop hops : ℕ) → lookupCall (tableBytes t) d time nextHop hops .status ≡ lookupOf t d time .refusal
-  lookup-status d nextHop hops = status-same t z (lookup d time) (λ i. getD (nextHop ∷ hops ∷ []) i 0)
-
-  lookup-hop : (d nextHop hops : ℕ) → lookupOf t d time .refusal ≡ 0 → lookupCall (tableBytes t) d time nextHop hops .nextHop ≡ getD (lookupOf t d time .values) 0 0
+-- what the bytes of a table answer is what it answers as a value
+module _ (t : Table) (z : Sized t) (k : Clock) (times : Times) (answers : AnswersHeard t k times) where
+  by-lookup : (d time nextHop hops : ℕ)
+      → let call = lookupCall (tableBytes t) d time nextHop hops in call .status ≡ 0 → Heard (times (call .nextHop)) (nowAt k time)
   unfolding lookupCall
-  lookup-hop d nextHop hops e = rw (reads-back t z, writes-tables t z, e)
-
-  module _ (frame out : List ℕ) (nextHop place extent : ℕ) where
-    relay-status : relayCall (tableBytes t) frame time out nextHop place extent .status ≡ relayOf t frame time out .said .refusal
-    relay-status = status-same t z (relay frame time out) (λ i. getD (nextHop ∷ place ∷ extent ∷ []) i 0)
-
-    relay-hop : relayOf t frame time out .said .refusal ≡ 0
-        → relayCall (tableBytes t) frame time out nextHop place extent .nextHop ≡ cond (forUs t frame) 0 (getD (relayOf t frame time out .said .values) 0 0)
-    unfolding relayCall
-    relay-hop e = rw (reads-back t z, writes-tables t z, e)
-
--- a relay that answers a next hop has its two values
-passed-on : (t : Table) (frame : List ℕ) (time : ℕ) (out : List ℕ) → relayRefusal t frame time (length out) ≡ 0 → forUs t frame ≡ false
-    → relayOf t frame time out .said ≡ accepted (getD (lookupOf t (dataIn frame .destination) time .values) 0 0 ∷ length (copyOf frame) ∷ [])
-unfolding relayOf
-passed-on t frame time out e other = rw (e, other)
-
--- a table and its log, in bytes: what they answer is what they answer as values
-module _ (p : Past) (z : Sized (p .table)) (answers : AnswersHeard p) where
-  abbrev t : Table
-  t = p .table
-
-  by-lookup : (d time nextHop hops : ℕ) → lookupCall (tableBytes t) d time nextHop hops .status ≡ 0
-      → Heard (p .log) (lookupCall (tableBytes t) d time nextHop hops .nextHop) (nowAt (p .clock) time)
   by-lookup d time nextHop hops q =
-      let n = sym (lookup-status t z time d nextHop hops) ∙ q in
-      let said = found t d time n .said in
-      let same = lookup-hop t z time d nextHop hops n ∙ ap (λ (x : Said). getD (x .values) 0 0) said in
-      rw same (answers time _ _ .0 d said)
+      let n = sym (status-same t z (lookup d time) (λ i. getD (nextHop ∷ hops ∷ []) i 0)) ∙ q in
+      rw (reads-back t z, writes-tables t z, n) (answers time .0 d n)
 
-  by-relay : (frame : List ℕ) (time : ℕ) (out : List ℕ) (nextHop place extent : ℕ) → relayCall (tableBytes t) frame time out nextHop place extent .status ≡ 0
-      → (relayCall (tableBytes t) frame time out nextHop place extent .nextHop ≡ 0 → ⊥)
-      → Heard (p .log) (relayCall (tableBytes t) frame time out nextHop place extent .nextHop) (nowAt (p .clock) time)
+  by-relay : (frame : List ℕ) (time : ℕ) (out : List ℕ) (nextHop place extent : ℕ)
+      → let call = relayCall (tableBytes t) frame time out nextHop place extent in
+      call .status ≡ 0 → (call .nextHop ≡ 0 → ⊥) → Heard (times (call .nextHop)) (nowAt k time)
+  unfolding relayCall
   by-relay frame time out nextHop place extent q some =
-      let n = sym (relay-status t z time frame out nextHop place extent) ∙ q in
-      go (forUs t frame) refl (sym (relay-number t frame time out) ∙ n) (relay-hop t z time frame out nextHop place extent n)
+      let n = sym (status-same t z (relay frame time out) (λ i. getD (nextHop ∷ place ∷ extent ∷ []) i 0)) ∙ q in
+      let hop : relayCall (tableBytes t) frame time out nextHop place extent .nextHop ≡ relayOf t frame time out .answer .«next_hop» = rw (reads-back t z, writes-tables t z, n) in
+      subst (λ (x : ℕ). Heard (times x) (nowAt k time)) (sym hop) (go (relayOf t frame time out .answer .ours) refl n (λ y. some (hop ∙ y)))
     where
-      go : (ours : Bool) → forUs t frame ≡ ours → relayRefusal t frame time (length out) ≡ 0
-          → relayCall (tableBytes t) frame time out nextHop place extent .nextHop ≡ cond ours 0 (getD (relayOf t frame time out .said .values) 0 0)
-          → Heard (p .log) (relayCall (tableBytes t) frame time out nextHop place extent .nextHop) (nowAt (p .clock) time)
-      go true w n hop = absurd (some hop)
-      go false w n hop =
-          let said = passed-on t frame time out n w in
-          let same = hop ∙ ap (λ (x : Said). getD (x .values) 0 0) said in
-          rw same (answers time _ _ .1 frame out said)
+      go : (ours : Bool) → relayOf t frame time out .answer .ours ≡ ours → relayOf t frame time out .answer .refused ≡ 0
+          → (relayOf t frame time out .answer .«next_hop» ≡ 0 → ⊥) → Heard (times (relayOf t frame time out .answer .«next_hop»)) (nowAt k time)
+      go true o n h = absurd (h (relay-no-hop t frame time out o))
+      go false o n h = answers time .1 frame out n o
 
-  answers-in-c : (h : Held) → h ≡ inBytes p → AnswersHeardInC h
-  answers-in-c h e = rw e (by-lookup, by-relay)
+  answers-in-c : AnswersHeardInC (tableBytes t) k times
+  answers-in-c = (by-lookup, by-relay)
+
+-- so it is after calls from C, which leave what the same calls leave on values
+after-in-c : (t : Table) (s : List ℕ) (k : Clock) (earlier : Times) (cs : List InC) → AllMachine cs → Sized t → Stored t s cs
+    → After AnswersHeard t k earlier (callsOf cs) → AfterInC AnswersHeardInC s k earlier cs
+after-in-c t s k earlier cs m z stored a =
+    subst (λ (hs : List Happened). AnswersHeardInC (afterCallsInC s cs) (clockOf k hs) (λ unit. heardFrom unit k (earlier unit) hs)) (sym (stored .happened))
+    (let hs = recorded t (callsOf cs) in
+    subst (λ (b : List ℕ). AnswersHeardInC b (clockOf k hs) (λ unit. heardFrom unit k (earlier unit) hs)) (sym (stored .buffer))
+    (answers-in-c (afterCalls t (callsOf cs)) (sized-after t cs m z) (clockOf k hs) (λ unit. heardFrom unit k (earlier unit) hs) a))
 
 pub fresh-in-c : FreshInC
 fresh-in-c s own began cs a b m e =
-    let z = sized-after (fresh own began) cs m (sized-kept .0 own began a b) in
-    answers-in-c (after (fresh own began) (callsOf cs)) z (freshness own began (callsOf cs) (fresh-accepted s own began e)) _ (stays-stored s own began cs a b m e)
+    after-in-c (freshOf own began .table) _ (started began) (λ unit. []) cs m (sized-kept .0 own began a b) (stays-stored s own began cs a b m e)
+    (freshness own began (callsOf cs) (fresh-accepted s own began e))
 
 pub fresh-from-in-c : FreshFromInC
-fresh-from-in-c s k log cs b e m w account =
-    let start : Past = record { table = tableIn s; clock = k; log = log } in
-    answers-in-c (after start (callsOf cs)) (sized-after start cs m (sized-read s b)) (freshness-from .1 start (callsOf cs) w account) _ (stored-from s k log cs b e m)
+fresh-from-in-c s k earlier cs b e m w account =
+    after-in-c (tableIn s) s k earlier cs m (sized-read s b) (stored-from s cs b e m) (freshness-from .1 (tableIn s) k earlier (callsOf cs) w account)

@@ -1,18 +1,13 @@
 -- A call on a table whose numbers fit their bytes leaves such a table.
 -- Assumes nothing.
-use mathlib.Core.Path.{_≡_, refl}
-use mathlib.Core.Bool.{Bool, true, false, not, cond, and-eq-true-iff}
-use mathlib.Core.List.{List, [], _∷_, map}
-use Prim.Native.Nat.{ℕ, _≤_, _<_}
-use native.Mathlib.Omega.{arith}
-use borrow.Author.Tests.{eq-eqb, lt-ltb}
-use lib.Dec.{eqb, leb, ltb}
-use lib.ListN.{length, length-map}
+use Rattle.octets.proofs.Words.{_≡_, refl, true, false, not, and-eq-true-iff, List, [], _∷_, map, ℕ, _≤_, _<_, arith, eq-eqb, lt-ltb, eqb, leb, ltb, length, length-map}
 use Rattle.octets.specs.Answers.{reason, first}
 use Rattle.octets.specs.Layouts.{Bytes}
 use Rattle.octets.specs.Lists.{every}
 use Rattle.octets.proofs.LayoutLaws.{fields-fit}
-use Rattle.frame_kinds.specs.Rules.{address}
+use Rattle.octets.specs.Addresses.{address}
+use Rattle.octets.proofs.ListLaws.{every-map}
+use Rattle.octets.proofs.TestLaws.{of-choice}
 use Rattle.frame_kinds.specs.Shape.{partIn}
 use Rattle.frame_traffic.specs.Traffic.{update, entriesOf}
 use Rattle.frame_beacons.specs.Beacons.{beacon}
@@ -20,7 +15,7 @@ use Rattle.route_table.specs.declared.row.Row.{Row}
 use Rattle.route_table.specs.declared.table.Table.{Table}
 use Rattle.route_table.specs.Rows.{forgotten, standing}
 use Rattle.route_table.specs.Tables.{rowsOf, emptyTable, freshOf, forgetOf}
-use Rattle.route_table.proofs.KeepLaws.{every-map, by-forgotten, standing-rules, forgotten-rules}
+use Rattle.route_table.proofs.KeepLaws.{by-forgotten, standing-rules, forgotten-rules}
 use Rattle.route_table.proofs.StandingLaws.{standing-every}
 use Rattle.route_table.proofs.TableLaws.{within, few-stand, forgettable}
 use Rattle.route_merges.specs.Candidates.{candidates}
@@ -45,11 +40,8 @@ empty-sized own time a t = record { places = refl; head = (a, (t, (flag-fits fal
 
 fresh-sized : (own began : ℕ) → own < 0x10000 → began < 0x100000000 → Sized (freshOf own began .table)
 unfolding freshOf
-fresh-sized own began a t = go (eqb (first (reason (not (address own)) 4 ∷ [])) 0)
-  where
-    go : (b : Bool) → Sized (cond b (emptyTable own began) (emptyTable 0 0))
-    go true = empty-sized own began a t
-    go false = empty-sized 0 0 (omega arith) (omega arith)
+fresh-sized own began a t =
+    of-choice Sized (eqb (first (reason (not (address own)) 4 ∷ [])) 0) (empty-sized own began a t) (empty-sized 0 0 (omega arith) (omega arith))
 
 modest-forgotten : (unit time : ℕ) → time < 0x100000000 → (r : Row) → modest r ≡ true → modest (forgotten unit time r) ≡ true
 modest-forgotten unit time h r m =

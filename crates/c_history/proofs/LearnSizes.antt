@@ -1,12 +1,6 @@
 -- What an update in bytes teaches has a quality that fits a byte, and the time of the call.
 -- Assumes nothing.
-use mathlib.Core.Path.{_≡_}
-use mathlib.Core.Bool.{Bool, true, and-eq-true-iff}
-use mathlib.Core.List.{List}
-use Prim.Native.Nat.{ℕ, _+_, _*_, _≤_, _<_}
-use native.Mathlib.Omega.{arith}
-use borrow.Author.Tests.{leb-true, le-leb, lt-ltb}
-use lib.Dec.{leb, ltb}
+use Rattle.octets.proofs.Words.{_≡_, Bool, true, and-eq-true-iff, List, ℕ, _+_, _*_, _≤_, _<_, arith, leb-true, le-leb, lt-ltb, leb, ltb}
 use Rattle.octets.specs.Layouts.{Bytes}
 use Rattle.octets.specs.Lists.{every, Each}
 use Rattle.octets.proofs.ListLaws.{every-tab}

@@ -1,18 +1,10 @@
 -- Along calls from C the buffer holds the bytes of the state that the same calls give on values.
 -- Assumes nothing.
-use mathlib.Core.Path.{_≡_, refl, sym, ap, _∙_}
-use mathlib.Core.Bool.{Bool}
-use mathlib.Core.List.{List, [], _∷_}
-use Prim.Native.Nat.{ℕ, _<_, _≤_}
-use native.Mathlib.Decide.{ℕ-discrete}
-use native.Mathlib.Omega.{arith}
-use borrow.Author.Tests.{eqb-true, leb-true}
-use lib.Dec.{eqb}
-use lib.ListN.{length}
+use Rattle.octets.proofs.Words.{_≡_, refl, sym, ap, _∙_, Bool, List, [], _∷_, ℕ, _<_, _≤_, ℕ-discrete, arith, eqb-true, leb-true, eqb, length}
 use Rattle.octets.proofs.CallLaws.{after-accepted, after-refused, left-as, stored-none}
 use Rattle.unit_life.specs.declared.state.State.{State}
 use Rattle.unit_life.specs.declared.state.Lived.{Lived}
-use Rattle.unit_life.specs.Calls.{freshState, gone, onEvent, onTick}
+use Rattle.unit_life.specs.Calls.{freshState, movedOn, onEvent, onTick}
 use Rattle.unit_life.specs.Histories.{Call, event, tick, timeOf, answer, run}
 use Rattle.unit_life.specs.States.{Stopped}
 use Rattle.unit_life.proofs.HistoryLaws.{refused-keeps}
@@ -31,8 +23,8 @@ machine-time (event number time) (n, t) = omega arith
 machine-time (tick ms time) (m, t) = omega arith
 
 -- each time of a state that goes to a kind is one that it had, or the time of going
-gone-sized : (s : State) (to : ℕ) (heard : Bool) (time : ℕ) → to ≤ Stopped → time < 0x100000000 → StateSized s → StateSized (gone s to heard time)
-unfolding gone
+gone-sized : (s : State) (to : ℕ) (heard : Bool) (time : ℕ) → to ≤ Stopped → time < 0x100000000 → StateSized s → StateSized (movedOn s to heard time)
+unfolding movedOn
 gone-sized s to heard time k t (_, (_, (entered, (beacon, _)))) =
     let fits : ℕ → Type 0 = λ n. n < 0x100000000 in
     (omega (arith, k), (t, (entered-by fits s to heard time t (λ same. entered), (beacon-by fits s to heard time t (λ kept. beacon), tt))))

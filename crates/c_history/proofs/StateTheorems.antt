@@ -1,13 +1,6 @@
 -- The laws of lives, of the bytes: those of `unit_life` on states, carried to the buffer.
 -- Assumes nothing.
-use mathlib.Core.Path.{_≡_, refl, sym, ap, ap₂, transport, _∙_}
-use mathlib.Core.Bool.{true, not, _&&_, _||_, cond, and-eq-true-iff}
-use mathlib.Core.List.{List, [], _∷_}
-use Prim.Native.Nat.{ℕ, _+_, _^_, _%_, _<_, _≤_}
-use native.Mathlib.Omega.{arith}
-use borrow.Author.Tests.{leb-true}
-use lib.Dec.{eqb}
-use lib.ListN.{length}
+use Rattle.octets.proofs.Words.{_≡_, refl, sym, ap, ap₂, transport, _∙_, true, not, _&&_, _||_, cond, and-eq-true-iff, List, [], _∷_, ℕ, _+_, _^_, _%_, _<_, _≤_, arith, leb-true, eqb, length}
 use Rattle.octets.specs.Layouts.{Bytes}
 use Rattle.octets.specs.Lists.{every}
 use Rattle.moments.specs.Elapsed.{Clock, started, nowAt, moved}

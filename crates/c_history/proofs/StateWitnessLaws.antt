@@ -1,14 +1,10 @@
 -- The lives that are not empty, computed.
 -- Assumes nothing.
-use mathlib.Core.Path.{_≡_, refl, ap, _∙_}
-use mathlib.Core.Bool.{false}
-use mathlib.Core.List.{List, [], _∷_}
-use Prim.Native.Nat.{ℕ}
-use native.Mathlib.Omega.{arith}
+use Rattle.octets.proofs.Words.{_≡_, refl, ap, _∙_, false, List, [], _∷_, ℕ, arith}
 use Rattle.octets.specs.Numbers.{num, digits}
 use Rattle.moments.specs.Moments.{ageAt, inOrder}
-use Rattle.unit_life.specs.States.{leadsTo, tickTo}
-use Rattle.unit_life.specs.Calls.{withinRule, gone, onEvent, onTick}
+use Rattle.unit_life.specs.States.{kindAfter, tickTo}
+use Rattle.unit_life.specs.Calls.{withinRule, movedOn, onEvent, onTick}
 use Rattle.unit_life.specs.Histories.{Call, event, tick}
 use Rattle.unit_life.specs.StateBytes.{stateIn, stateOver}
 use Rattle.c_unit.specs.StateCalls.{freshCall, eventCall, tickCall}
@@ -17,16 +13,16 @@ use Rattle.c_history.specs.StateWitness.{FindsSilence, FindsSilencePastT
 use Rattle.c_history.proofs.StateStored.{refused-leaves}
 
 pub finds-silence : FindsSilence
-unfolding num digits ageAt inOrder leadsTo tickTo gone onEvent onTick stateIn stateOver freshCall eventCall tickCall
+unfolding num digits ageAt inOrder kindAfter tickTo movedOn onEvent onTick stateIn stateOver freshCall eventCall tickCall
 finds-silence = (refl, refl, refl, refl, refl, refl)
 
 pub finds-silence-past-the-top : FindsSilencePastTheTop
-unfolding num digits ageAt inOrder leadsTo tickTo gone onEvent onTick stateIn stateOver freshCall eventCall tickCall
+unfolding num digits ageAt inOrder kindAfter tickTo movedOn onEvent onTick stateIn stateOver freshCall eventCall tickCall
 finds-silence-past-the-top = (refl, refl, refl, refl, refl, refl)
 
 -- ---- out of rule
 all-refused : (c : Call) → leaves outOfRule c .status ≡ 14
-unfolding num digits ageAt inOrder leadsTo tickTo gone onEvent onTick stateIn stateOver freshCall eventCall tickCall
+unfolding num digits ageAt inOrder kindAfter tickTo movedOn onEvent onTick stateIn stateOver freshCall eventCall tickCall
 all-refused (event number time) = refl
 all-refused (tick ms time) = refl
 
@@ -36,7 +32,7 @@ stays-as-it-was s h [] = refl
 stays-as-it-was s h (c ∷ cs) = ap (λ (b : List ℕ). bufferAfter b cs) (refused-leaves s c (λ z. omega (arith, h c, z))) ∙ stays-as-it-was s h cs
 
 out-of-rule : withinRule (stateIn outOfRule) ≡ false
-unfolding num digits ageAt inOrder leadsTo gone onEvent stateIn stateOver freshCall eventCall
+unfolding num digits ageAt inOrder kindAfter movedOn onEvent stateIn stateOver freshCall eventCall
 out-of-rule = refl
 
 pub leaves-rule-in-c : LeavesRuleInC

@@ -1,17 +1,9 @@
 -- Along calls from C the buffer holds the bytes of the table that the same calls give on values.
 -- Assumes nothing.
-use mathlib.Core.Path.{_≡_, refl, sym, ap, _∙_}
-use mathlib.Core.Bool.{_&&_}
-use mathlib.Core.List.{List, [], _∷_}
-use Prim.Native.Nat.{ℕ, _%_, _^_}
-use borrow.Author.Tests.{eq-eqb, ne-eqb}
-use lib.Dec.{eqb}
-use lib.ListN.{length}
+use Rattle.octets.proofs.Words.{_≡_, refl, sym, ap, subst, _∙_, List, [], _∷_, map, ℕ, _%_, _^_, eq-eqb, ne-eqb, eqb, length}
 use Rattle.octets.specs.Calls as calls
 use Rattle.octets.specs.Calls.{stored}
-use Rattle.octets.proofs.AnswerLaws.{unless-number}
 use Rattle.octets.proofs.CallLaws.{left-as, stored-none}
-use Rattle.moments.specs.Elapsed.{Clock, moved, clockAfter}
 use Rattle.moments.proofs.ElapsedLaws.{true-time}
 use Rattle.route_table.specs.declared.table.Table.{Table}
 use Rattle.route_table.specs.Tables.{freshOf, forgetOf}
@@ -21,7 +13,7 @@ use Rattle.route_bytes.specs.TableBytes.{tableIn, tableBytes}
 use Rattle.route_bytes.specs.TableTrips.{Sized}
 use Rattle.route_bytes.proofs.SizeLaws.{sized-read}
 use Rattle.route_bytes.proofs.TableTripLaws.{reads-back, writes-tables, writes-back}
-use Rattle.route_history.specs.TableCalls.{Call, merge, forget, forward, lookup, relay, page, timeOf, next, answer, changes, stepOf, Update, logged, Past, followed, after, fresh}
+use Rattle.route_history.specs.TableCalls.{Call, merge, forget, forward, lookup, relay, page, next, answer, afterCalls, Happened, stepOf}
 use Rattle.route_history.proofs.StepLaws.{merge-kept, forget-kept, forward-kept}
 use Rattle.route_history.proofs.TableHistoryLaws.{stays-within-rule}
 use Rattle.route_history.proofs.TableRuleLaws.{only-for-pages}
@@ -31,8 +23,8 @@ use Rattle.route_merges.specs.StoredMerges.{mergeCall}
 use Rattle.c_routes.specs.UpdateCalls.{pageCall}
 use Rattle.route_forwards.specs.Forwards.{forwardCall}
 use Rattle.c_routes.specs.RelayCalls.{relayCall}
-use Rattle.c_history.specs.HeldTables.{InC, left, status, stepInC, logs, Held, follows, heldAfter, stepsInC, freshIn, AllMachine, callsOf, inBytes}
-use Rattle.c_history.specs.TableLaws.{StaysStored, StoredFrom, TrueTimeInC, RefusedLeaves, OnlyForPagesInC}
+use Rattle.c_history.specs.HeldTables.{InC, returned, status, afterCallsInC, recordedInC, AllMachine, callsOf}
+use Rattle.c_history.specs.TableLaws.{Stored, StaysStored, StoredFrom, TrueTimeInC, RefusedLeaves, OnlyForPagesInC}
 use Rattle.c_history.proofs.KeptLaws.{sized-kept, sized-next}
 
 -- ---- one call
@@ -41,7 +33,7 @@ module _ (t : Table) (z : Sized t) where
   changed : (n : ℕ) (new : Table) → ((n ≡ 0 → ⊥) → new ≡ t) → calls.after (storedTable (tableBytes t) n) (tableBytes t) (tableBytes new) ≡ tableBytes new
   changed n new kept = rw (writes-tables t z) (left-as tableBytes n t new kept)
 
-  table-same : (c : Call) (filled : ℕ → ℕ) → left (tableBytes t) c filled .memory .table ≡ tableBytes (next t c)
+  table-same : (c : Call) (filled : ℕ → ℕ) → returned (tableBytes t) c filled .memory .table ≡ tableBytes (next t c)
   unfolding mergeCall forgetCall changedBy forwardCall
   table-same (merge s quality time) filled = rw (reads-back t z) (changed (mergeOf t s quality time .refused) (mergeOf t s quality time .table) (merge-kept t s quality time))
   table-same (forget unit time) filled = rw (reads-back t z) (changed (forgetOf t unit time .refused) (forgetOf t unit time .table) (forget-kept t unit time))
@@ -53,71 +45,54 @@ module _ (t : Table) (z : Sized t) where
   table-same (page p time out) filled = refl
 
   -- and its status is what the call on the table says
-  pub status-same : (c : Call) (filled : ℕ → ℕ) → status (tableBytes t) c filled ≡ answer t c .said .refusal
+  pub status-same : (c : Call) (filled : ℕ → ℕ) → status (tableBytes t) c filled ≡ answer t c .refused
   unfolding mergeCall forgetCall changedBy forwardCall lookupCall relayCall pageCall
-  status-same (merge s quality time) filled = rw (reads-back t z, writes-tables t z) (sym (unless-number _ _))
-  status-same (forget unit time) filled = rw (reads-back t z, writes-tables t z) (sym (unless-number _ _))
-  status-same (forward network s delay time out) filled = rw (reads-back t z, writes-tables t z) (sym (unless-number _ _))
+  status-same (merge s quality time) filled = rw (reads-back t z, writes-tables t z)
+  status-same (forget unit time) filled = rw (reads-back t z, writes-tables t z)
+  status-same (forward network s delay time out) filled = rw (reads-back t z, writes-tables t z)
   status-same (lookup d time) filled = rw (reads-back t z, writes-tables t z)
   status-same (relay s time out) filled = rw (reads-back t z, writes-tables t z)
   status-same (page p time out) filled = rw (reads-back t z, writes-tables t z)
 
-  -- so it is the same step of elapsed time
-  step-same : (c : InC) → stepInC (tableBytes t) c ≡ stepOf t (c .call)
-  step-same c = ap (λ (n : ℕ). record { time = timeOf (c .call); changes = eqb n 0 && changes (c .call) }) (status-same (c .call) (c .filled))
-
-  logs-same : (c : Call) (filled : ℕ → ℕ) (k : Clock) (log : List Update) → logs (tableBytes t) c filled k log ≡ logged t c k log
-  unfolding mergeCall
-  logs-same (merge s quality time) filled k log = rw (reads-back t z, writes-tables t z)
-  logs-same (forget unit time) filled k log = refl
-  logs-same (forward network s delay time out) filled k log = refl
-  logs-same (lookup d time) filled k log = refl
-  logs-same (relay s time out) filled k log = refl
-  logs-same (page p time out) filled k log = refl
-
 -- ---- calls one after the other
-pub sized-after : (p : Past) (cs : List InC) → AllMachine cs → Sized (p .table) → Sized (after p (callsOf cs) .table)
-sized-after p [] m z = z
-sized-after p (c ∷ cs) m z =
-    sized-after (followed p (c .call)) cs (m .1) (sized-next (p .table) (c .call) (m .0) z)
+pub sized-after : (t : Table) (cs : List InC) → AllMachine cs → Sized t → Sized (afterCalls t (callsOf cs))
+sized-after t [] m z = z
+sized-after t (c ∷ cs) m z = sized-after (next t (c .call)) cs (m .1) (sized-next t (c .call) (m .0) z)
 
-pub held-same : (p : Past) (cs : List InC) → AllMachine cs → Sized (p .table) → heldAfter (inBytes p) cs ≡ inBytes (after p (callsOf cs))
-held-same p [] m z = refl
-held-same p (c ∷ cs) m z =
-    let buffer = table-same (p .table) z (c .call) (c .filled) in
-    let step = step-same (p .table) z c in
-    let log = logs-same (p .table) z (c .call) (c .filled) (p .clock) (p .log) in
-    ap (λ (h : Held). heldAfter h cs) (λ i. record { buffer = buffer i; clock = moved (p .clock) (step i); log = log i })
-    ∙ held-same (followed p (c .call)) cs (m .1) (sized-next (p .table) (c .call) (m .0) z)
+pub all-stored : (t : Table) (cs : List InC) → AllMachine cs → Sized t → Stored t (tableBytes t) cs
+all-stored t [] m z = record { buffer = refl; happened = refl }
+all-stored t (c ∷ cs) m z =
+    let left = table-same t z (c .call) (c .filled) in
+    let status = status-same t z (c .call) (c .filled) in
+    let later = all-stored (next t (c .call)) cs (m .1) (sized-next t (c .call) (m .0) z) in
+    record {
+      buffer = ap (λ (s : List ℕ). afterCallsInC s cs) left ∙ later .buffer;
+      happened =
+          (λ i. record { call = c .call; refused = status i } ∷ recordedInC (left i) cs)
+          ∙ ap (λ (hs : List Happened). record { call = c .call; refused = answer t (c .call) .refused } ∷ hs) (later .happened);
+    }
 
 -- ---- the start
 pub fresh-accepted : (s : List ℕ) (own began : ℕ) → freshCall s own began .status ≡ 0 → freshOf own began .refused ≡ 0
 unfolding freshCall
 fresh-accepted s own began e = stored-none (eqb (length s) 539) (freshOf own began .refused) e .1
 
-pub fresh-same : (s : List ℕ) (own began : ℕ) → freshCall s own began .status ≡ 0 → freshIn s own began ≡ inBytes (fresh own began)
+pub fresh-same : (s : List ℕ) (own began : ℕ) → freshCall s own began .status ≡ 0 → freshCall s own began .table ≡ tableBytes (freshOf own began .table)
 unfolding freshCall
 fresh-same s own began e = rw (eq-eqb (stored 539 s (freshOf own began .refused)) 0 e)
 
 pub stays-stored : StaysStored
-stays-stored s own began cs a t m e =
-    ap (λ (h : Held). heldAfter h cs) (fresh-same s own began e) ∙ held-same (fresh own began) cs m (sized-kept .0 own began a t)
+stays-stored s own began cs a h m e =
+    let t = freshOf own began .table in
+    subst (λ (b : List ℕ). Stored t b cs) (sym (fresh-same s own began e)) (all-stored t cs m (sized-kept .0 own began a h))
 
 pub stored-from : StoredFrom
-stored-from s k log cs b e m =
-    let same = sym (writes-back s b e) in
-    ap (λ (s : List ℕ). heldAfter (record { buffer = s; clock = k; log = log }) cs) same
-    ∙ held-same (record { table = tableIn s; clock = k; log = log }) cs m (sized-read s b)
+stored-from s cs b e m = subst (λ (x : List ℕ). Stored (tableIn s) x cs) (writes-back s b e) (all-stored (tableIn s) cs m (sized-read s b))
 
 -- ---- true time
-clock-in-c : (h : Held) (cs : List InC) → heldAfter h cs .clock ≡ clockAfter (h .clock) (stepsInC (h .buffer) cs)
-clock-in-c h [] = refl
-clock-in-c h (c ∷ cs) = clock-in-c (follows h c) cs
-
 pub true-time-in-c : TrueTimeInC
 true-time-in-c s own began cs nows timely =
-    let h = freshIn s own (began % 2 ^ 32) in
-    rw (clock-in-c h cs) (true-time began (began % 2 ^ 32) (stepsInC (h .buffer) cs) nows refl timely)
+    true-time began (began % 2 ^ 32) (map stepOf (recordedInC (freshCall s own (began % 2 ^ 32) .table) cs)) nows refl timely
 
 -- ---- refusals
 pub refused-leaves : RefusedLeaves
@@ -131,10 +106,10 @@ refused-leaves s (page p time out) filled z = rw (ne-eqb _ 0 z)
 
 pub only-for-pages-in-c : OnlyForPagesInC
 only-for-pages-in-c s own began cs a b m e =
-    let t = after (fresh own began) (callsOf cs) .table in
-    let z = sized-after (fresh own began) cs m (sized-kept .0 own began a b) in
+    let t = afterCalls (freshOf own began .table) (callsOf cs) in
+    let z = sized-after (freshOf own began .table) cs m (sized-kept .0 own began a b) in
     let right = fresh-accepted s own began e in
-    rw (stays-stored s own began cs a b m e, reads-back t z) (
+    rw (stays-stored s own began cs a b m e .buffer, reads-back t z) (
       writes-tables t z,
       stays-within-rule own began (callsOf cs) right,
       λ c filled q. only-for-pages own began (callsOf cs) c right (sym (status-same t z c filled) ∙ q),

@@ -5,8 +5,7 @@ use mathlib.Core.Path.{_≡_}
 use mathlib.Core.List.{List, [], _∷_}
 use Prim.Native.Nat.{ℕ}
 use lib.ListN.{replicate}
-use Rattle.book_history.specs.Calls.{join, ask, heard}
-use Rattle.book_history.specs.BookEvents.{Event, call, image}
+use Rattle.book_history.specs.Calls.{Call, join, ask, heard, image}
 use Rattle.c_history.specs.HeldBooks.{StartInC, fresh, restored, beginsIn, InC, answerInC, bufferAfter, grantedInC}
 
 -- ---- the first buffer
@@ -18,14 +17,14 @@ abbrev pub bufferAtFirst : List ℕ
 bufferAtFirst = beginsIn (replicate 307 7) small .book
 
 -- unit 2 asks to join, for one slot, 5 ms before that, and for two slots 7 ms after it
-abbrev pub joins : Event
-joins = call (join (0x21 ∷ 2 ∷ 0 ∷ 0 ∷ 1 ∷ 0 ∷ 1 ∷ 0x23 ∷ []) 0xFFFFFFFB (replicate 26 0))
+abbrev pub joins : Call
+joins = join (0x21 ∷ 2 ∷ 0 ∷ 0 ∷ 1 ∷ 0 ∷ 1 ∷ 0x23 ∷ []) 0xFFFFFFFB (replicate 26 0)
 
-abbrev pub asks : Event
-asks = call (ask (0x23 ∷ 2 ∷ 0 ∷ 2 ∷ 0 ∷ 0 ∷ 0x23 ∷ []) 7 (replicate 39 0))
+abbrev pub asks : Call
+asks = ask (0x23 ∷ 2 ∷ 0 ∷ 2 ∷ 0 ∷ 0 ∷ 0x23 ∷ []) 7 (replicate 39 0)
 
-abbrev pub inC : Event → InC
-inC e = record { event = e; filled = 0 }
+abbrev pub inC : Call → InC
+inC c = record { call = c; filled = 0 }
 
 abbrev pub joined : List InC
 joined = inC joins ∷ []
@@ -65,7 +64,7 @@ GrantsAgain =
 
 -- it is heard, and unit 3 asks to join, for four slots
 abbrev pub goesOn : List InC
-goesOn = inC (call (heard 2 30)) ∷ inC (call (join (0x21 ∷ 3 ∷ 0 ∷ 0 ∷ 1 ∷ 0 ∷ 4 ∷ 0x27 ∷ []) 40 (replicate 39 0))) ∷ []
+goesOn = inC (heard 2 30) ∷ inC (join (0x21 ∷ 3 ∷ 0 ∷ 0 ∷ 1 ∷ 0 ∷ 4 ∷ 0x27 ∷ []) 40 (replicate 39 0)) ∷ []
 
 -- what unit 2 has lasts from when it was heard; unit 3 gets control slot 4 and the two data slots that are left; the manager has its own always
 abbrev pub GrantsOn : Type 0

@@ -6,7 +6,7 @@ use mathlib.Core.Bool.{false}
 use mathlib.Core.List.{List, [], _∷_}
 use Prim.Native.Nat.{ℕ, _+_}
 use lib.ListN.{replicate}
-use Rattle.unit_life.specs.States.{Normal, Recovery, ready, beacon, accepted}
+use Rattle.unit_life.specs.States.{Normal, Recovery, ready, beacon, joinAccepted}
 use Rattle.unit_life.specs.Calls.{withinRule}
 use Rattle.unit_life.specs.Histories.{Call, event}
 use Rattle.unit_life.specs.Laws.{beaconsAlone}
@@ -33,11 +33,11 @@ ThenFindsSilence began calls heard =
     × (stateIn (late .state) .kind ≡ Recovery)
 
 abbrev pub FindsSilence : Type 0
-FindsSilence = ThenFindsSilence 0 (event ready 10 ∷ event beacon 20 ∷ event accepted 30 ∷ []) 30
+FindsSilence = ThenFindsSilence 0 (event ready 10 ∷ event beacon 20 ∷ event joinAccepted 30 ∷ []) 30
 
 -- the times pass their top between the beacon and the acceptance
 abbrev pub FindsSilencePastTheTop : Type 0
-FindsSilencePastTheTop = ThenFindsSilence 0xFFFFFFEC (event ready 0xFFFFFFF0 ∷ event beacon 0xFFFFFFF8 ∷ event accepted 4 ∷ []) 4
+FindsSilencePastTheTop = ThenFindsSilence 0xFFFFFFEC (event ready 0xFFFFFFF0 ∷ event beacon 0xFFFFFFF8 ∷ event joinAccepted 4 ∷ []) 4
 
 -- ---- why ticks are asked for
 abbrev pub outOfRule : List ℕ

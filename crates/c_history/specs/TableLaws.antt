@@ -2,23 +2,23 @@
 -- Assumes nothing.
 use mathlib.Core.Path.{_≡_}
 use mathlib.Core.Bool.{true}
-use mathlib.Core.List.{List}
+use mathlib.Core.List.{List, [], map}
 use Prim.Native.Nat.{ℕ, _%_, _^_, _<_}
 use Rattle.octets.specs.Layouts.{Bytes}
-use Rattle.moments.specs.Elapsed.{Clock, nowAt, lastOf, Timely, IsTrue}
-use Rattle.frame_kinds.specs.Rules.{address}
+use Rattle.moments.specs.Elapsed.{Clock, started, nowAt, lastOf, Timely, IsTrue}
+use Rattle.octets.specs.Addresses.{address}
 use Rattle.route_table.specs.declared.table.Table.{Table}
 use Rattle.route_table.specs.Rows.{standing, rowFor}
 use Rattle.route_table.specs.Tables.{rowsOf, withinRule, freshOf}
 use Rattle.route_merges.specs.Laws.{Unnamed}
-use Rattle.route_bytes.specs.TableBytes.{tableIn, isTable}
+use Rattle.route_bytes.specs.TableBytes.{tableIn, tableBytes, isTable}
 use Rattle.route_bytes.specs.TableTrips.{Sized}
-use Rattle.route_history.specs.TableCalls.{Call, merge, next, Update, after, fresh}
-use Rattle.route_history.specs.TableLaws.{Heard, Accounts, wrongPage}
+use Rattle.route_history.specs.TableCalls.{Call, merge, next, afterCalls, recorded, stepOf, clockOf, heardFrom}
+use Rattle.route_history.specs.TableLaws.{Times, Heard, Accounts, wrongPage}
 use Rattle.c_routes.specs.TableCalls.{freshCall, lookupCall}
 use Rattle.route_merges.specs.StoredMerges.{mergeCall}
 use Rattle.c_routes.specs.RelayCalls.{relayCall}
-use Rattle.c_history.specs.HeldTables.{InC, Machine, handedIn, left, status, Held, heldAfter, stepsInC, freshIn, AllMachine, callsOf, inBytes}
+use Rattle.c_history.specs.HeldTables.{InC, Machine, handedIn, returned, status, afterCallsInC, recordedInC, AllMachine, callsOf}
 
 -- ---- what is stored
 -- a fresh table has 48 places and numbers that fit their bytes, and a call that is given such a table leaves such a table, accepted or refused
@@ -27,62 +27,69 @@ SizedKept =
     ((own began : ℕ) → own < 0x10000 → began < 0x100000000 → Sized (freshOf own began .table))
     × ((t : Table) (c : Call) → Machine c → Sized t → Sized (next t c))
 
--- From an accepted `braidlark_table_fresh` on, over any list of calls from C, accepted or refused: the buffer holds exactly the bytes of the table, and clock
--- and log are those, that the same calls give on values
+-- over these calls from C the buffer s holds exactly the bytes of the table, and the record is that, which the same calls on values give from the table t on
+pub record Stored (t : Table) (s : List ℕ) (cs : List InC) : Type 0 where
+  pub buffer : afterCallsInC s cs ≡ tableBytes (afterCalls t (callsOf cs))
+  pub happened : recordedInC s cs ≡ recorded t (callsOf cs)
+
+-- so it is from an accepted `braidlark_table_fresh` on, over any list of calls, accepted or refused
 abbrev pub StaysStored : Type 0
 StaysStored =
     (s : List ℕ) (own began : ℕ) (cs : List InC) → own < 0x10000 → began < 0x100000000 → AllMachine cs → freshCall s own began .status ≡ 0
-    → heldAfter (freshIn s own began) cs ≡ inBytes (after (fresh own began) (callsOf cs))
+    → Stored (freshOf own began .table) (freshCall s own began .table) cs
 
--- the same from any 539 bytes on that are a table, as from flash
+-- and from any 539 bytes on that are a table, as from flash
 abbrev pub StoredFrom : Type 0
-StoredFrom =
-    (s : List ℕ) (k : Clock) (log : List Update) (cs : List InC) → Bytes s → isTable s ≡ true → AllMachine cs
-    → heldAfter (record { buffer = s; clock = k; log = log }) cs ≡ inBytes (after (record { table = tableIn s; clock = k; log = log }) (callsOf cs))
+StoredFrom = (s : List ℕ) (cs : List InC) → Bytes s → isTable s ≡ true → AllMachine cs → Stored (tableIn s) s cs
 
 -- ---- refusals
 -- a call that is refused leaves all that it might have written as it was, whatever the table's buffer holds: that buffer, the buffer for a frame, and every
 -- number
 abbrev pub RefusedLeaves : Type 0
-RefusedLeaves = (s : List ℕ) (c : Call) (filled : ℕ → ℕ) → (status s c filled ≡ 0 → ⊥) → left s c filled .memory ≡ handedIn s c filled
+RefusedLeaves = (s : List ℕ) (c : Call) (filled : ℕ → ℕ) → (status s c filled ≡ 0 → ⊥) → returned s c filled .memory ≡ handedIn s c filled
 
 -- along calls from an accepted `braidlark_table_fresh` on the buffer is a table within rule, and 14 is only for a page that is not there
 abbrev pub OnlyForPagesInC : Type 0
 OnlyForPagesInC =
     (s : List ℕ) (own began : ℕ) (cs : List InC) → own < 0x10000 → began < 0x100000000 → AllMachine cs → freshCall s own began .status ≡ 0
-    → let b = heldAfter (freshIn s own began) cs .buffer in
+    → let b = afterCallsInC (freshCall s own began .table) cs in
     (isTable b ≡ true) × (withinRule (tableIn b) ≡ true) × ((c : Call) (filled : ℕ → ℕ) → status b c filled ≡ 14 → wrongPage (tableIn b) c ≡ true)
 
 -- ---- freshness
 -- where `braidlark_lookup` answers 0, and where `braidlark_relay` answers 0 and a next hop that is not 0, that next hop was heard: updates from it have
 -- been accepted, the last of them at most 300,000 ms before, in elapsed ms
-abbrev pub AnswersHeardInC : Held → Type 0
-AnswersHeardInC h =
+abbrev pub AnswersHeardInC : List ℕ → Clock → Times → Type 0
+AnswersHeardInC s k times =
     ((d time nextHop hops : ℕ)
-    → let call = lookupCall (h .buffer) d time nextHop hops in call .status ≡ 0 → Heard (h .log) (call .nextHop) (nowAt (h .clock) time))
+    → let call = lookupCall s d time nextHop hops in call .status ≡ 0 → Heard (times (call .nextHop)) (nowAt k time))
     × ((frame : List ℕ) (time : ℕ) (out : List ℕ) (nextHop place extent : ℕ)
-    → let call = relayCall (h .buffer) frame time out nextHop place extent in
-    call .status ≡ 0 → (call .nextHop ≡ 0 → ⊥) → Heard (h .log) (call .nextHop) (nowAt (h .clock) time))
+    → let call = relayCall s frame time out nextHop place extent in
+    call .status ≡ 0 → (call .nextHop ≡ 0 → ⊥) → Heard (times (call .nextHop)) (nowAt k time))
 
--- so it is along calls from an accepted `braidlark_table_fresh` on
+-- a statement about a buffer, its clock and when units were heard, said of them after calls, by the record of these
+abbrev pub AfterInC : (List ℕ → Clock → Times → Type 0) → List ℕ → Clock → Times → List InC → Type 0
+AfterInC P s k earlier cs =
+    let happened = recordedInC s cs in P (afterCallsInC s cs) (clockOf k happened) (λ unit. heardFrom unit k (earlier unit) happened)
+
+-- so it is along calls from an accepted `braidlark_table_fresh` on, when nobody was heard yet
 abbrev pub FreshInC : Type 0
 FreshInC =
     (s : List ℕ) (own began : ℕ) (cs : List InC) → own < 0x10000 → began < 0x100000000 → AllMachine cs → freshCall s own began .status ≡ 0
-    → AnswersHeardInC (heldAfter (freshIn s own began) cs)
+    → AfterInC AnswersHeardInC (freshCall s own began .table) (started began) (λ unit. []) cs
 
--- and from any 539 bytes on that are a table within rule, if the log that goes with them accounts for it
+-- and from any 539 bytes on that are a table within rule, if the clock and the times that go with them account for it
 abbrev pub FreshFromInC : Type 0
 FreshFromInC =
-    (s : List ℕ) (k : Clock) (log : List Update) (cs : List InC) → Bytes s → isTable s ≡ true → AllMachine cs → withinRule (tableIn s) ≡ true
-    → Accounts (record { table = tableIn s; clock = k; log = log })
-    → AnswersHeardInC (heldAfter (record { buffer = s; clock = k; log = log }) cs)
+    (s : List ℕ) (k : Clock) (earlier : Times) (cs : List InC) → Bytes s → isTable s ≡ true → AllMachine cs → withinRule (tableIn s) ≡ true
+    → Accounts (tableIn s) k earlier
+    → AfterInC AnswersHeardInC s k earlier cs
 
 -- where calls are made in time, as document 02 asks, that elapsed time is true time
 abbrev pub TrueTimeInC : Type 0
 TrueTimeInC =
     (s : List ℕ) (own began : ℕ) (cs : List InC) (nows : List ℕ)
-    → let h = freshIn s own (began % 2 ^ 32) in
-    let ss = stepsInC (h .buffer) cs in Timely began ss nows → IsTrue began (heldAfter h cs .clock) (lastOf began ss nows)
+    → let happened = recordedInC (freshCall s own (began % 2 ^ 32) .table) cs in
+    let ss = map stepOf happened in Timely began ss nows → IsTrue began (clockOf (started (began % 2 ^ 32)) happened) (lastOf began ss nows)
 
 -- ---- merging
 -- after `braidlark_merge` with status 0, on any bytes, a destination of which the update says nothing has in the table that the buffer then holds the row

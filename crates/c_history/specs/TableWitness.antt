@@ -4,10 +4,10 @@ use mathlib.Core.Path.{_≡_}
 use mathlib.Core.List.{List, [], _∷_}
 use Prim.Native.Nat.{ℕ, _-_, _^_}
 use lib.ListN.{replicate}
-use Rattle.moments.specs.Elapsed.{nowAt}
-use Rattle.route_history.specs.TableCalls.{merge}
+use Rattle.moments.specs.Elapsed.{started, nowAt}
+use Rattle.route_history.specs.TableCalls.{merge, clockOf}
 use Rattle.c_routes.specs.TableCalls.{freshCall, lookupLeft, lookupCall}
-use Rattle.c_history.specs.HeldTables.{InC, Held, heldAfter, freshIn}
+use Rattle.c_history.specs.HeldTables.{InC, afterCallsInC, recordedInC}
 
 -- an update of unit 2 with no entries
 abbrev pub neighbourly : List ℕ
@@ -20,13 +20,16 @@ began = 2 ^ 32 - 10
 abbrev pub heardOnce : List InC
 heardOnce = record { call = merge neighbourly 200 (2 ^ 32 - 5); filled = λ n. 0 } ∷ []
 
-abbrev pub heldThen : Held
-heldThen = heldAfter (freshIn (replicate 539 7) 1 began) heardOnce
+abbrev pub freshly : List ℕ
+freshly = freshCall (replicate 539 7) 1 began .table
+
+abbrev pub bufferThen : List ℕ
+bufferThen = afterCallsInC freshly heardOnce
 
 -- the lookup of unit 2 answers it up to an age of 300,000 ms, and is then refused with 11; by then 300,005 ms have elapsed since the beginning
 abbrev pub AnswersAtLast : Type 0
 AnswersAtLast =
     (freshCall (replicate 539 7) 1 began .status ≡ 0)
-    × (lookupCall (heldThen .buffer) 2 299995 0 0 ≡ lookupLeft 0 2 1)
-    × (lookupCall (heldThen .buffer) 2 299996 0 0 ≡ lookupLeft 11 0 0)
-    × (nowAt (heldThen .clock) 299995 ≡ 300005)
+    × (lookupCall bufferThen 2 299995 0 0 ≡ lookupLeft 0 2 1)
+    × (lookupCall bufferThen 2 299996 0 0 ≡ lookupLeft 11 0 0)
+    × (nowAt (clockOf (started began) (recordedInC freshly heardOnce)) 299995 ≡ 300005)

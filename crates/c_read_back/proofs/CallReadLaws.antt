@@ -1,14 +1,10 @@
 -- What the calls from C that answer requests, forward beacons and write pages leave is read.
 -- Assumes nothing.
-use mathlib.Core.Path.{_≡_, ap, _∙_}
-use mathlib.Core.Bool.{cond}
-use mathlib.Core.List.{List, [], _∷_}
-use Prim.Native.Nat.{ℕ}
-use lib.Dec.{eqb}
-use lib.ListN.{length, getD}
+use Rattle.octets.proofs.Words.{_≡_, ap, _∙_, cond, List, [], _∷_, ℕ, eqb, length, getD}
 use Rattle.octets.specs.Answers.{Said, accepted, refused}
 use Rattle.octets.proofs.CallLaws.{after-accepted, stored-none}
-use Rattle.frame_kinds.proofs.AnsweredLaws.{said-none}
+use Rattle.octets.specs.Told.{writtenIn}
+use Rattle.octets.proofs.AnsweredLaws.{said-none}
 use Rattle.route_table.specs.declared.table.Table.{Table}
 use Rattle.route_forwards.specs.Forwards.{forwardOf}
 use Rattle.route_pages.specs.Pages.{pageFrame, pageRefusal, pageOf}
@@ -75,6 +71,6 @@ pages-are-read-in-c s page time out written b h z =
     let wrote = pageOf t page time out in
     let n = wrote .said .refusal in
     let said = page-said t page time out (stored-none (isTable s) n z .1) in
-    let size : getD (wrote .said .values) 0 0 ≡ length (pageFrame t page time) = ap (λ (x : Said). getD (x .values) 0 0) said in
-    rw (after-accepted (cond (isTable s) n 14) written (getD (wrote .said .values) 0 0) z, after-accepted (cond (isTable s) n 14) out (wrote .held) z, size)
+    let size : writtenIn wrote ≡ length (pageFrame t page time) = ap (λ (x : Said). getD (x .values) 0 0) said in
+    rw (after-accepted (cond (isTable s) n 14) written (writtenIn wrote) z, after-accepted (cond (isTable s) n 14) out (wrote .held) z, size)
     (pages-are-read t page time out (length (pageFrame t page time)) (sized-read s b) h said)

@@ -21,10 +21,10 @@ use Rattle.route_relays.specs.Relays.{relayRefusal, relayOf}
 use Rattle.route_bytes.specs.TableBytes.{rowAt, tableIn, tableBytes, isTable}
 use Rattle.slot_sets.specs.Sets.{has, count, isEmpty, fill, slotwise, noSlots, allSlots, union, meet, minus, lowest, withoutHighest, bits, slotsOf, maskOf, firsts}
 use Rattle.site_plan.specs.Plans.{slotsIn}
-use Rattle.book_members.specs.Members.{current, rowFor, held, vacant}
+use Rattle.book_members.specs.Members.{current, placeFor, heldSlots, vacant}
 use Rattle.book_members.specs.Rules.{rowsRule}
 use Rattle.book.specs.Books as books
-use Rattle.book_joins.specs.Joins.{joinOf, askOf}
+use Rattle.book_joins.specs.Joins.{joinResponses, joinOf, askResponses, askOf}
 use Rattle.book_bytes.specs.BookBytes as ledgers
 use Rattle.book_bytes.specs.BookBytes.{bookIn, bookBytes}
 use Rattle.site_plan.specs.PlanBytes.{planAt, planBytes}
@@ -61,9 +61,9 @@ unfolding tab every num digits xors ageAt inOrder isSealed readRefusal sealed pa
 merged-once = refl
 
 pub joined-once : JoinedOnce
-unfolding tab every num digits xors ageAt inOrder isSealed readRefusal sealed has count isEmpty fill slotwise noSlots allSlots union meet minus lowest withoutHighest bits slotsOf maskOf firsts slotsIn current rowFor held vacant rowsRule books.withinRule joinOf ledgers.rowAt bookIn bookBytes planAt planBytes joinCall
+unfolding tab every num digits xors ageAt inOrder isSealed readRefusal sealed has count isEmpty fill slotwise noSlots allSlots union meet minus lowest withoutHighest bits slotsOf maskOf firsts slotsIn current placeFor heldSlots vacant rowsRule books.withinRule joinResponses joinOf ledgers.rowAt bookIn bookBytes planAt planBytes joinCall
 joined-once = (refl, refl, refl)
 
 pub asked-once : AskedOnce
-unfolding tab every num digits xors ageAt inOrder isSealed readRefusal sealed has count isEmpty fill slotwise noSlots allSlots union meet minus lowest withoutHighest bits slotsOf maskOf firsts slotsIn current rowFor held vacant rowsRule books.withinRule joinOf askOf ledgers.rowAt bookIn bookBytes planAt planBytes joinCall slotRequestCall
+unfolding tab every num digits xors ageAt inOrder isSealed readRefusal sealed has count isEmpty fill slotwise noSlots allSlots union meet minus lowest withoutHighest bits slotsOf maskOf firsts slotsIn current placeFor heldSlots vacant rowsRule books.withinRule joinResponses joinOf askResponses askOf ledgers.rowAt bookIn bookBytes planAt planBytes joinCall slotRequestCall
 asked-once = (refl, refl, refl)

@@ -1,16 +1,11 @@
 -- A forwarded beacon is read as the beacon from this unit, one hop further and so much later.
 -- Assumes nothing.
-use mathlib.Core.Path.{_≡_, refl, ap₂, _∙_}
-use mathlib.Core.List.{List, []}
-use Prim.Native.Nat.{ℕ, _+_, _<_}
-use native.Mathlib.Omega.{arith}
-use borrow.Author.Tests.{ltb-false}
-use lib.ListN.{length, take}
+use Rattle.octets.proofs.Words.{_≡_, refl, ap₂, _∙_, List, [], ℕ, _+_, _<_, arith, ltb-false, length, take}
 use Rattle.octets.specs.Layouts.{Fit, Bytes}
 use Rattle.octets.proofs.CallLaws.{after-accepted}
 use Rattle.octets.proofs.LayoutLaws.{fields-fit}
 use Rattle.octets.proofs.StoreLaws.{take-sets}
-use Rattle.frame_kinds.proofs.RuleLaws.{address-fits}
+use Rattle.octets.proofs.AddressLaws.{address-fits}
 use Rattle.frame_beacons.specs.Beacons.{beacon, beaconValues}
 use Rattle.frames.proofs.KindLaws.{a-beacon}
 use Rattle.frames.proofs.TripLaws.{accepted-read}

@@ -1,8 +1,6 @@
 -- What is read as a page is merged as the page's rows.
 -- Assumes nothing.
-use mathlib.Core.Path.{_≡_, ap, _∙_}
-use mathlib.Core.List.{[], _∷_, map}
-use lib.ListN.{length}
+use Rattle.octets.proofs.Words.{_≡_, ap, _∙_, [], _∷_, map, length}
 use Rattle.frame_kinds.specs.Shape.{partIn}
 use Rattle.frame_traffic.specs.declared.update.UpdateHeader.{UpdateHeader}
 use Rattle.frame_traffic.specs.Traffic.{update, updateFrom, entriesOf}

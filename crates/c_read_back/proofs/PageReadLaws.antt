@@ -1,26 +1,20 @@
 -- A page is read as an update from this unit, with the entries of its rows.
 -- Assumes nothing.
-use mathlib.Core.Path.{_≡_, refl, sym, ap, ap₂, _∙_}
-use mathlib.Core.Bool.{Bool, true, false, _&&_, _||_, cond, and-eq-true-iff}
-use mathlib.Core.List.{List, [], _∷_, map}
-use Prim.Native.Nat.{ℕ, _+_, _*_, _≤_, _<_}
-use native.Mathlib.Omega.{arith}
-use borrow.Author.Tests.{leb-true, lt-ltb, le-ltb, ltb-true, ltb-false, not-false}
-use lib.Dec.{eqb, leb, ltb}
-use lib.ListN.{length, getD, take, drop, length-take, length-map, List·getD-map}
+use Rattle.octets.proofs.Words.{_≡_, refl, sym, ap, ap₂, _∙_, Bool, true, false, _&&_, _||_, cond, and-eq-true-iff, List, [], _∷_, map, ℕ, _+_, _*_, _≤_, _<_, arith, leb-true, lt-ltb, le-ltb, ltb-true, ltb-false, not-false, eqb, leb, ltb, length, getD, take, drop, length-take, length-map, List·getD-map}
 use Rattle.octets.specs.Answers.{Said, accepted}
 use Rattle.octets.specs.Layouts.{Fit}
 use Rattle.octets.specs.Lists.{every}
-use Rattle.octets.proofs.AnswerLaws.{unless-none, unless-number, numbered, none-holds}
+use Rattle.octets.proofs.AnswerLaws.{unless-none, unless-number, none-holds}
 use Rattle.octets.proofs.ListLaws.{getD-tab}
 use Rattle.octets.proofs.StoreLaws.{take-sets}
 use Rattle.octets.proofs.ListLaws.{every-both, every-take, every-drop}
-use Rattle.frame_kinds.proofs.RuleLaws.{address-fits}
-use Rattle.frame_kinds.specs.Rules.{address}
+use Rattle.octets.proofs.AddressLaws.{address-fits}
+use Rattle.octets.specs.Addresses.{address}
 use Rattle.frame_kinds.specs.Shape.{partIn, frameOf}
-use Rattle.frame_kinds.proofs.AnsweredLaws.{said-value}
+use Rattle.octets.proofs.AnsweredLaws.{said-value}
+use Rattle.octets.proofs.TestLaws.{of-choice}
 use Rattle.frame_traffic.specs.declared.entry.Entry.{Entry}
-use Rattle.frame_traffic.specs.Traffic.{entryWidths, entryValues, entryRule, entryAt, entriesOf, update, updateRule, updateFrom}
+use Rattle.frame_traffic.specs.Traffic.{entryWidths, entryValues, entryRule, entryAt, entriesOf, update, updateFrom}
 use Rattle.frame_entries.specs.Walks.{walkOf}
 use Rattle.frames.specs.Frames.{readFrame}
 use Rattle.frames.proofs.KindLaws.{code-fits, an-update}
@@ -56,10 +50,6 @@ module _ (own last time : ℕ) (r : Row) (e : sound own last r ≡ true) where
   hops-within : (leb 1 (r .hops) ≡ true) × (leb (r .hops) 16 ≡ true)
   hops-within = and-eq-true-iff (leb 1 (r .hops)) (leb (r .hops) 16) .0 (ruled own last r rule .hops)
 
-  chosen : (b : Bool) (n m : ℕ) → n < 256 → m < 256 → cond b n m < 256
-  chosen true n m h k = h
-  chosen false n m h k = k
-
   entry-fits : Fit entryWidths (entryValues (entryFor time r))
   unfolding entryFor
   entry-fits =
@@ -68,8 +58,8 @@ module _ (own last time : ℕ) (r : Row) (e : sound own last r ≡ true) where
       let (quality, stored) = small in (
         address-fits (r .destination) (k .destination),
         (
-          chosen (usable time r) (r .hops) 255 (omega (arith, hops)) (omega arith),
-          (chosen (usable time r) (r .quality) 0 (omega (arith, quality)) (omega arith), (address-fits (r .«next_hop») (k .hop), (stored, tt))),
+          of-choice (λ v. v < 256) (usable time r) (omega (arith, hops)) (omega arith),
+          (of-choice (λ v. v < 256) (usable time r) (omega (arith, quality)) (omega arith), (address-fits (r .«next_hop») (k .hop), (stored, tt))),
         ),
       )
 
@@ -119,7 +109,7 @@ module _ (own last time : ℕ) (a : address own ≡ true) (h : time < 0x10000000
   part-size : length (entriesBytes es) ≡ 10 * length rs
   part-size = length-entries es ∙ ap (λ (n : ℕ). 10 * n) (length-map rs (entryFor time))
 
-  good : updateRule (updateFrom values) (entriesBytes es) ≡ true
+  good : update .rule values (entriesBytes es) ≡ true
   good = rw (a, back) (entries-ruled own last time rs e)
 
   short : 9 + 10 * length rs ≤ 255
@@ -165,8 +155,7 @@ module _ (t : Table) (p time : ℕ) (out : List ℕ) (z : Sized t) (h : time < 0
 
   known : Known
   known =
-      let none = none-holds (pageReasons t p time (length out))
-      (numbered _ 14 (λ y. omega arith), (numbered _ 8 (λ y. omega arith), (numbered _ 14 (λ y. omega arith), (numbered _ 5 (λ y. omega arith), tt)))) e in
+      let none = none-holds (pageReasons t p time (length out)) _ e in
       record { right = not-false (withinRule t) (none .0); room = ltb-false (length out) (length (pageFrame t p time)) (none .1 .1 .1 .0) }
 
   rows-sound : every (sound (t .own) (t .time)) rows ≡ true

@@ -1,21 +1,12 @@
 -- The two calls on frames, one after the other.
 -- Assumes nothing.
-use mathlib.Core.Path.{_≡_, refl, sym, ap, ap₂, subst, _∙_}
-use mathlib.Core.Bool.{Bool, true, _&&_, and-eq-true-iff}
-use mathlib.Core.List.{List, [], _∷_, _++_, append-nil, List·Memᴰ}
-use Prim.Native.Nat.{ℕ, _+_, _≤_, _<_, _-_}
-use native.Mathlib.Omega.{arith}
-use borrow.Author.Tests.{eqb-true, le-ltb, lt-ltb, ltb-false, not-false, ne-eqb}
-use native.Mathlib.Decide.{ℕ-discrete}
-use lib.Dec.{ltb}
-use lib.ListN.{length, getD, take, drop, length-append, List·getD-append}
-use lib.Seq.{sets, sets-eq}
+use Rattle.octets.proofs.Words.{_≡_, refl, sym, ap, ap₂, subst, _∙_, Bool, true, _&&_, and-eq-true-iff, List, [], _∷_, _++_, append-nil, List·Memᴰ, ℕ, _+_, _≤_, _<_, _-_, ℕ-discrete, arith, eqb-true, le-ltb, lt-ltb, ltb-false, not-false, ne-eqb, ltb, length, getD, take, drop, length-append, List·getD-append, sets, sets-eq}
 use Rattle.octets.specs.Answers.{Said, accepted, reason, refusing}
 use Rattle.octets.specs.Calls.{after, WriteLeft, writeLeft}
 use Rattle.octets.specs.Layouts.{Fit, Bytes}
 use Rattle.octets.specs.Numbers.{num}
-use Rattle.octets.specs.Told.{Wrote}
-use Rattle.octets.proofs.AnswerLaws.{unless-number, numbered, refusing-numbered, none-holds}
+use Rattle.octets.specs.Told.{Wrote, writtenIn}
+use Rattle.octets.proofs.AnswerLaws.{unless-number, refusing-numbered, none-holds}
 use Rattle.octets.proofs.CallLaws.{after-accepted}
 use Rattle.octets.proofs.LayoutLaws.{length-fields}
 use Rattle.octets.proofs.StoreLaws.{take-sets}
@@ -47,7 +38,7 @@ module _ (s fields : List ℕ) (place extent : ℕ) (z : readCall s fields place
   unfolding showRefusal
   none =
       let n = readFrame s .refusal in
-      let k = none-holds (refusing n ∷ reason (ltb (length fields) (length (readFrame s .values))) 5 ∷ []) (refusing-numbered n, (numbered _ 5 (λ y. omega arith), tt)) accepts in
+      let k = none-holds (refusing n ∷ reason (ltb (length fields) (length (readFrame s .values))) 5 ∷ []) (refusing-numbered n, _) accepts in
       (eqb-true n 0 (not-false _ (k .0)), ltb-false (length fields) (length (readFrame s .values)) (k .1 .0))
 
   numbers-are : readCall s fields place extent .fields ≡ sets fields 0 (readFrame s .values)
@@ -80,7 +71,7 @@ parts-are-told s fields place extent k m c z =
 -- ---- read, then written
 -- what `braidlark_write` leaves, from what writing the numbers says and where it puts them
 abbrev leaves : ℕ → Wrote → WriteLeft
-leaves written w = writeLeft (w .said .refusal) (w .held) (after (w .said .refusal) written (getD (w .said .values) 0 0))
+leaves written w = writeLeft (w .said .refusal) (w .held) (after (w .said .refusal) written (writtenIn w))
 
 module _ (s fields : List ℕ) (place extent : ℕ) (out : List ℕ) (b : Bytes s) (z : readCall s fields place extent .status ≡ 0) where
   again : Rewritten s

@@ -1,19 +1,10 @@
 -- What `braidlark_relay` tells: a next hop, and the copy in the buffer; or none, and the payload in the frame.
 -- Assumes nothing.
-use mathlib.Core.Path.{_≡_, refl, sym, ap, subst, _∙_}
-use mathlib.Core.Bool.{Bool, true, false, cond, and-eq-true-iff}
-use mathlib.Core.List.{List, [], _∷_}
-use mathlib.Core.Logic.{⊎-elim}
-use Prim.Native.Nat.{ℕ}
-use borrow.Author.Tests.{eq-eqb, eqb-true}
-use lib.Dec.{eqb}
-use lib.ListN.{length, getD, take, drop}
-use Rattle.octets.specs.Answers.{accepted}
+use Rattle.octets.proofs.Words.{_≡_, refl, sym, ap, subst, _∙_, Bool, true, false, cond, and-eq-true-iff, List, ⊎-elim, ℕ, eq-eqb, eqb-true, eqb, length, take, drop, sets}
 use Rattle.octets.specs.Calls.{after}
-use Rattle.octets.specs.Told.{Wrote}
 use Rattle.octets.proofs.CallLaws.{stored-none}
 use Rattle.frame_kinds.specs.Shape.{placeOf}
-use Rattle.frame_kinds.proofs.AnsweredLaws.{said-none}
+use Rattle.octets.proofs.AddressLaws.{address-some}
 use Rattle.frame_traffic.specs.Traffic.{dataKind}
 use Rattle.frames.proofs.KindLaws.{a-data}
 use Rattle.frames.proofs.TripLaws.{accepted-read}
@@ -23,15 +14,15 @@ use Rattle.route_table.specs.Rows.{rowFor, rowRule}
 use Rattle.route_table.specs.Tables.{rowsOf, leadsTo}
 use Rattle.route_table.proofs.LookupLaws.{lookup-leads}
 use Rattle.route_table.proofs.RuleLaws.{ruled}
-use Rattle.route_table.proofs.TableLaws.{within, address-some}
+use Rattle.route_table.proofs.TableLaws.{within}
 use Rattle.route_merges.proofs.LearnLaws.{row-for-every}
-use Rattle.route_relays.specs.Relays.{dataIn, forUs, copyOf, relayRefusal, relayOf}
-use Rattle.route_relays.proofs.RelayLaws.{read-destination, relayed-read, onward, onto}
+use Rattle.route_relays.specs.Relays.{dataIn, forUs, copyOf, relayRefusal, Relaying, relayed, unwritten, relayOf}
+use Rattle.route_relays.proofs.RelayLaws.{read-destination, relayed-read, onward, onto, relay-number}
 use Rattle.route_bytes.specs.TableBytes.{tableIn, isTable}
 use Rattle.c_routes.specs.RelayCalls.{RelayLeft, relayLeft, relayCall}
 use Rattle.c_read_back.specs.FramesRead.{Copied}
 use Rattle.c_read_back.specs.CallsRead.{CopiesReadInC, Delivered, PayloadTold}
-use Rattle.c_read_back.proofs.CopyReadLaws.{copies-are-read}
+use Rattle.c_read_back.proofs.CopyReadLaws.{sent}
 
 -- the next hop of a frame that is passed on is never 0
 hop-some : (t : Table) (s : List ℕ) (time room : ℕ) → relayRefusal t s time room ≡ 0 → forUs t s ≡ false → rowFor (dataIn s .destination) (rowsOf t) .«next_hop» ≡ 0 → ⊥
@@ -54,38 +45,29 @@ module _ (s frame : List ℕ) (time : ℕ) (out : List ℕ) (nextHop place exten
   abbrev left : RelayLeft
   left = relayCall s frame time out nextHop place extent
 
-  -- what the call leaves, by whether the bytes are a table, what relaying gives, and whether the frame is for this unit
-  abbrev leaves : Bool → Wrote → Bool → RelayLeft
-  leaves known wrote ours =
-      let status = cond known (wrote .said .refusal) 14 in
-      let vs = wrote .said .values in
-      relayLeft status (after status out (wrote .held)) (after status nextHop (cond ours 0 (getD vs 0 0))) (after status place (cond ours (placeOf dataKind) 0))
-      (after status extent (cond ours (getD vs 0 0) (getD vs 1 0)))
+  -- what the call leaves, by whether the bytes are a table, and what relaying gives
+  abbrev leaves : Bool → Relaying → RelayLeft
+  leaves known relays =
+      let a = relays .answer in
+      let status = cond known (a .refused) 14 in
+      relayLeft status (after status out (relays .held)) (after status nextHop (a .«next_hop»)) (after status place (cond (a .ours) (placeOf dataKind) 0)) (after status extent (a .size))
 
-  known : isTable s ≡ true
+  both : (isTable s ≡ true) × (relayOf t frame time out .answer .refused ≡ 0)
   unfolding relayCall
-  known = stored-none (isTable s) (relayOf t frame time out .said .refusal) z .0
+  both = stored-none (isTable s) (relayOf t frame time out .answer .refused) z
 
   unrefused : relayRefusal t frame time (length out) ≡ 0
-  unfolding relayCall relayOf
-  unrefused = said-none (relayRefusal t frame time (length out)) _ (stored-none (isTable s) (relayOf t frame time out .said .refusal) z .1) .0
+  unrefused = sym (relay-number t frame time out) ∙ both .1
 
-  abbrev hop : ℕ
-  hop = rowFor (dataIn frame .destination) (rowsOf t) .«next_hop»
-
-  passed-on : forUs t frame ≡ false
-      → (relayOf t frame time out .said ≡ accepted (hop ∷ length (copyOf frame) ∷ []))
-      × (left ≡ relayLeft 0 (relayOf t frame time out .held) hop 0 (length (copyOf frame)))
+  passed-on : forUs t frame ≡ false → left ≡ relayLeft 0 (sets out 0 (copyOf frame)) (rowFor (dataIn frame .destination) (rowsOf t) .«next_hop») 0 (length (copyOf frame))
   unfolding relayCall
-  passed-on o =
-      let said = ap (λ (w : Wrote). w .said) (sym (onto t frame time out unrefused o)) in
-      (said, λ i. leaves (known i) (record { said = said i; held = relayOf t frame time out .held }) (o i))
+  passed-on o = λ i. leaves (both .0 i) (sym (onto t frame time out unrefused o) i)
 
   handed-over : forUs t frame ≡ true → left ≡ relayLeft 0 out 0 (placeOf dataKind) (dataIn frame .count)
   unfolding relayCall relayOf
   handed-over o =
-      let gives : relayOf t frame time out ≡ record { said = accepted (dataIn frame .count ∷ []); held = out } = rw (unrefused, o) in
-      λ i. leaves (known i) (gives i) (o i)
+      let gives : relayOf t frame time out ≡ relayed (unwritten 0 (dataIn frame .count)) out = rw (unrefused, o) in
+      λ i. leaves (both .0 i) (gives i)
 
 pub copies-are-read-in-c : CopiesReadInC
 copies-are-read-in-c s frame time out nextHop place extent b z h = go (forUs (tableIn s) frame) refl
@@ -95,9 +77,8 @@ copies-are-read-in-c s frame time out nextHop place extent b z h = go (forUs (ta
         Copied frame (take (r .extent) (drop (r .place) (r .out)))
     go true o = absurd (h (ap (λ (r : RelayLeft). r .nextHop) (handed-over s frame time out nextHop place extent z o)))
     go false o =
-        let (said, left) = passed-on s frame time out nextHop place extent z o in
-        subst (λ (r : RelayLeft). Copied frame (take (r .extent) (drop (r .place) (r .out)))) (sym left)
-        (copies-are-read (tableIn s) frame time out _ (length (copyOf frame)) b said)
+        subst (λ (r : RelayLeft). Copied frame (take (r .extent) (drop (r .place) (r .out)))) (sym (passed-on s frame time out nextHop place extent z o))
+        (sent (tableIn s) frame time out b (unrefused s frame time out nextHop place extent z) o)
 
 pub payload-is-told : PayloadTold
 payload-is-told s frame time out nextHop place extent z h = go (forUs (tableIn s) frame) refl
@@ -120,5 +101,5 @@ payload-is-told s frame time out nextHop place extent z h = go (forUs (tableIn s
           refl,
         )
     go false o =
-        let left = passed-on s frame time out nextHop place extent z o .1 in
+        let left = passed-on s frame time out nextHop place extent z o in
         absurd (hop-some (tableIn s) frame time (length out) (unrefused s frame time out nextHop place extent z) o (sym (ap (λ (r : RelayLeft). r .nextHop) left) ∙ h))

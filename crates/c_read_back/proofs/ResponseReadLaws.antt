@@ -1,34 +1,27 @@
 -- The responses to an accepted request are read as what the unit was granted.
 -- Assumes nothing.
-use mathlib.Core.Path.{_≡_, refl, sym, ap, ap₂, _∙_}
-use mathlib.Core.Bool.{true, cond}
-use mathlib.Core.List.{List, [], _∷_, _++_, map, append-assoc}
-use Prim.Native.Nat.{ℕ, _+_, _/_, _≤_, _<_}
-use native.Mathlib.Omega.{arith}
-use borrow.Author.Tests.{lt-ltb, ltb-false}
-use lib.ListN.{length, take, drop, length-take}
-use lib.Seq.{sets, sets-eq, take-at, drop-at}
+use Rattle.octets.proofs.Words.{_≡_, refl, sym, ap, ap₂, _∙_, true, cond, List, [], _∷_, _++_, map, append-assoc, ℕ, _+_, _/_, _≤_, _<_, arith, lt-ltb, ltb-false, length, take, drop, length-take, sets, sets-eq, take-at, drop-at}
 use Rattle.octets.specs.Answers.{Said, accepted}
 use Rattle.octets.specs.Layouts.{Fit}
 use Rattle.octets.proofs.CallLaws.{after-accepted}
-use Rattle.frame_kinds.proofs.RuleLaws.{address-fits}
-use Rattle.frame_kinds.specs.Rules.{address, network}
-use Rattle.frame_requests.specs.Requests.{joinResponse, joinResponseFrom, joinResponseRule}
+use Rattle.octets.proofs.AddressLaws.{address-fits}
+use Rattle.octets.specs.Addresses.{address, network}
+use Rattle.frame_requests.specs.Requests.{joinResponse}
 use Rattle.frames.specs.Frames.{readFrame}
 use Rattle.frames.proofs.KindLaws.{a-response}
 use Rattle.frames.proofs.WholeLaws.{frame-read}
 use Rattle.slot_sets.specs.Sets.{Slots}
 use Rattle.site_plan.specs.declared.plan.Plan.{Plan}
 use Rattle.site_plan.proofs.PlanLaws.{Kept, kept}
-use Rattle.book_members.specs.Members.{rowFor}
+use Rattle.book_members.specs.Members.{placeFor}
 use Rattle.book_members.proofs.RowLaws.{length-current}
-use Rattle.book.specs.Books.{Stated, rowsIn, rowsAt, liveAt}
+use Rattle.book.specs.Books.{Contents, rowsIn, rowsAt, liveAt}
 use Rattle.book.proofs.WithinLaws.{within}
-use Rattle.book_joins.specs.Joins.{Answered, seat, joinIn, joinOf, askIn, askOf}
+use Rattle.book_joins.specs.Joins.{Answered, seat, joinIn, joinOf, askIn, askOf, askedSlots, joinResponses, askResponses}
 use Rattle.book_joins.specs.Responses.{slotsTold, response, responsesFor}
 use Rattle.book_joins.proofs.ResponseLaws.{Below, length-response, length-for, below-told}
 use Rattle.book_history.specs.Calls.{Call, timeOf, unitOf, next}
-use Rattle.book_history.proofs.CallLaws.{joinedSlots, askedSlots, join-allowed, ask-allowed}
+use Rattle.book_history.proofs.CallLaws.{joinedSlots, join-allowed, ask-allowed}
 use Rattle.book_history.proofs.RuleLaws.{keeps-plan}
 use Rattle.book_history.proofs.TakingLaws.{Taken, join-taken, ask-taken, taken-live, taken-row, taken-holding}
 use Rattle.book_history.specs.BookLaws.{slotsAt}
@@ -45,7 +38,7 @@ module _ (p : Plan) (unit time : ℕ) (a : address unit ≡ true) (n : network (
   response-read slot h =
       let values : List ℕ = unit ∷ 0 ∷ slot ∷ time ∷ p .network ∷ [] in
       let fits : Fit (joinResponse .widths) values = (address-fits unit a, (omega arith, (omega (arith, h), (t, (w, tt))))) in
-      let good : joinResponseRule (joinResponseFrom values) ≡ true = rw (a, n, lt-ltb slot 100 h) in
+      let good : joinResponse .rule values [] ≡ true = rw (a, n, lt-ltb slot 100 h) in
       frame-read joinResponse a-response values [] fits refl (omega arith) good .0
 
   responses-read : (slots rest : List ℕ) → Below 100 slots
@@ -62,10 +55,10 @@ module _ (p : Plan) (unit time : ℕ) (a : address unit ≡ true) (n : network (
 
 -- ---- a request that was granted
 -- the slots that it is told of are those that the book then has for it
-slots-now : {b : Stated} {c : Call} {at : ℕ} {own : Slots 64} (t : Taken b c at own) → slotsTold (b .plan) at own ≡ slotsAt (next b c) (unitOf c) (timeOf c)
+slots-now : {b : Contents} {c : Call} {at : ℕ} {own : Slots 64} (t : Taken b c at own) → slotsTold (b .plan) at own ≡ slotsAt (next b c) (unitOf c) (timeOf c)
 slots-now {b} {c} t = sym (λ i. cond (taken-live t i) (slotsTold (keeps-plan b c .0 i) (taken-row t i) (taken-holding t i)) [])
 
-module _ {b : Stated} {c : Call} {at : ℕ} {own : Slots 64} (t : Taken b c at own) where
+module _ {b : Contents} {c : Call} {at : ℕ} {own : Slots 64} (t : Taken b c at own) where
   abbrev p : Plan
   p = b .plan
 
@@ -87,18 +80,18 @@ module _ {b : Stated} {c : Call} {at : ℕ} {own : Slots 64} (t : Taken b c at o
   responded a slots out net h e small room k w held =
       let whole : sets out 0 (all slots) ≡ all slots ++ drop (0 + length (all slots)) out = sets-eq (all slots) out 0 (omega (arith, room)) in
       record {
-        member = ap (λ (new : Stated). liveAt new (unitOf c) (timeOf c)) k ∙ taken-live t;
+        member = ap (λ (new : Contents). liveAt new (unitOf c) (timeOf c)) k ∙ taken-live t;
         slots = slots;
-        held = e ∙ (slots-now t ∙ ap (λ (new : Stated). slotsAt new (unitOf c) (timeOf c)) (sym k));
+        held = e ∙ (slots-now t ∙ ap (λ (new : Contents). slotsAt new (unitOf c) (timeOf c)) (sym k));
         sized = w ∙ length-for p (unitOf c) (timeOf c) slots;
         read =
             ap (λ (s : List ℕ). map readFrame (framesIn (length slots) s)) (held ∙ whole)
             ∙ (responses-read p (unitOf c) (timeOf c) (t .allowed .of-unit) (rule .named) net h slots (drop (0 + length (all slots)) out) small
-            ∙ ap (λ (plan : Plan). map (saying (unitOf c) (timeOf c) (plan .network)) slots) (sym (ap (λ (new : Stated). new .plan) k ∙ keeps-plan b c .0)));
+            ∙ ap (λ (plan : Plan). map (saying (unitOf c) (timeOf c) (plan .network)) slots) (sym (ap (λ (new : Contents). new .plan) k ∙ keeps-plan b c .0)));
       }
 
 pub responses-are-read : ResponsesRead
-unfolding joinOf askOf
+unfolding joinOf askOf joinResponses askResponses
 responses-are-read b s time out net h = (
   λ z.
       let t = join-taken b s time out z in
@@ -108,7 +101,7 @@ responses-are-read b s time out net h = (
   λ z.
       let t = ask-taken b s time out z in
       let fits = ltb-false _ _ (ask-allowed b s time out z .2) in
-      responded t (askOf b s time out) (slotsTold (b .plan) (rowFor (askIn s .node) (rowsAt b time)) (askedSlots b s time)) out net h refl (below t)
+      responded t (askOf b s time out) (slotsTold (b .plan) (placeFor (askIn s .node) (rowsAt b time)) (askedSlots b s time)) out net h refl (below t)
       fits refl (after-accepted _ 0 _ z) (after-accepted _ out _ z),
 )
 

@@ -11,7 +11,7 @@ use Rattle.frame_beacons.specs.Beacons.{beacon}
 use Rattle.route_table.specs.declared.table.Table.{Table}
 use Rattle.route_table.specs.Tables.{withRows, emptyTable}
 use Rattle.route_bytes.specs.TableBytes.{tableBytes}
-use Rattle.book.specs.Books.{Stated, freshBook}
+use Rattle.book.specs.Books.{Contents, freshBook}
 use Rattle.book_bytes.specs.BookBytes.{bookBytes}
 use Rattle.c_frames.specs.FrameCalls.{readLeft, readCall, writeCall}
 use Rattle.route_forwards.specs.Forwards.{forwardCall}
@@ -77,7 +77,7 @@ MergedOnce =
 
 -- ---- a book
 -- network 1, manager 1, one hop, two rows, three data slots of 100 ms
-abbrev pub book : Stated
+abbrev pub book : Contents
 book = freshBook (record { network = 1; manager = 1; «max_hops» = 1; rows = 2; «data_slots» = 3; «slot_ms» = 100 }) 0
 
 -- unit 2 asks to join, for one slot, and is told of its control slot, 3, and of its data slot, 5

@@ -3,7 +3,7 @@
 -- says the same of the calls from C.
 -- Assumes nothing.
 use mathlib.Core.Path.{_≡_}
-use mathlib.Core.Bool.{true, not}
+use mathlib.Core.Bool.{true, false, not}
 use mathlib.Core.List.{List, [], _∷_, map}
 use Prim.Native.Nat.{ℕ, zero, suc, _+_, _*_, _-_, _/_, _≤_, _<_}
 use lib.Dec.{eqb, ltb}
@@ -13,6 +13,7 @@ use Rattle.octets.specs.Layouts.{Bytes}
 use Rattle.moments.specs.Moments.{inOrder}
 use Rattle.frame_kinds.specs.Reading.{refusalAs}
 use Rattle.frame_kinds.specs.Shape.{partIn}
+use Rattle.frame_requests.specs.Requests.{joinResponseFrom}
 use Rattle.frame_traffic.specs.declared.data_frame.DataHeader.{DataHeader}
 use Rattle.frame_traffic.specs.Traffic.{dataKind, dataValues, update, entriesOf, entryValues}
 use Rattle.frame_beacons.specs.declared.beacon.Beacon.{Beacon}
@@ -30,7 +31,7 @@ use Rattle.route_forwards.specs.Forwards.{forwardOf}
 use Rattle.route_pages.specs.Pages.{entryFor, onPage, pageOf}
 use Rattle.route_relays.specs.Relays.{relayOf}
 use Rattle.route_bytes.specs.TableTrips.{Sized}
-use Rattle.book.specs.Books.{Stated, liveAt}
+use Rattle.book.specs.Books.{Contents, liveAt}
 use Rattle.book_joins.specs.Joins.{joinIn, joinOf, askIn, askOf}
 use Rattle.book_joins.specs.Responses.{toldIn}
 use Rattle.book_history.specs.BookLaws.{slotsAt}
@@ -44,7 +45,7 @@ framesIn (suc n) s = take 13 s ∷ framesIn n (drop 13 s)
 -- the answer to a unit, so many bytes at the start of a buffer: the unit is a live member of the book that the call leaves, and the bytes are one frame
 -- for each slot that this book has for it, its control slot first; each is read as an accepted join response to this unit: 0x22, unit, status 0, slot,
 -- superframe time, network
-pub record Responded (unit time : ℕ) (book : Stated) (written : ℕ) (out : List ℕ) : Type 0 where
+pub record Responded (unit time : ℕ) (book : Contents) (written : ℕ) (out : List ℕ) : Type 0 where
   pub member : liveAt book unit time ≡ true
   pub slots : List ℕ
   pub held : slots ≡ slotsAt book unit time
@@ -55,15 +56,15 @@ pub record Responded (unit time : ℕ) (book : Stated) (written : ℕ) (out : Li
 -- an accepted join, and an accepted slot request
 abbrev pub ResponsesRead : Type 0
 ResponsesRead =
-    (b : Stated) (s : List ℕ) (time : ℕ) (out : List ℕ) → b .plan .network < 0x10000 → time < 0x100000000
+    (b : Contents) (s : List ℕ) (time : ℕ) (out : List ℕ) → b .plan .network < 0x10000 → time < 0x100000000
     → let joined = joinOf b s time out in
     let asked = askOf b s time out in
     (joined .refused ≡ 0 → Responded (joinIn s .node) time (joined .book) (joined .written) (joined .held))
     × (asked .refused ≡ 0 → Responded (askIn s .node) time (asked .book) (asked .written) (asked .held))
 
--- the slot that a response says, behind type, unit and status
+-- the slot that a response says, whose fields stand behind its type
 abbrev pub slotSaid : Said → ℕ
-slotSaid said = getD (said .values) 3 0
+slotSaid said = joinResponseFrom (drop 1 (said .values)) .slot
 
 -- the slots that so many response frames in a buffer tell, as the reader of frames reads each
 abbrev pub slotsRead : ℕ → List ℕ → List ℕ
@@ -72,7 +73,7 @@ slotsRead n out = map slotSaid (map readFrame (framesIn n out))
 -- so what an answer tells its unit, cut out of its bytes (`toldIn`), is what the reader reads in it
 abbrev pub ToldAsRead : Type 0
 ToldAsRead =
-    (b : Stated) (s : List ℕ) (time : ℕ) (out : List ℕ) → b .plan .network < 0x10000 → time < 0x100000000
+    (b : Contents) (s : List ℕ) (time : ℕ) (out : List ℕ) → b .plan .network < 0x10000 → time < 0x100000000
     → let joined = joinOf b s time out in
     let asked = askOf b s time out in
     (joined .refused ≡ 0 → slotsRead (joined .written / 13) (joined .held) ≡ toldIn (joined .written / 13) (joined .held))
@@ -88,11 +89,12 @@ pub record Copied (s copy : List ℕ) : Type 0 where
       readFrame copy ≡ accepted (0x11 ∷ frame .source ∷ frame .destination ∷ (frame .ttl - 1) ∷ frame .sequence ∷ frame .count ∷ [])
   pub payload : partIn dataKind copy ≡ partIn dataKind s
 
--- where relaying answers a next hop and a size, so many bytes at the start of the buffer are the copy
+-- where relaying passes a frame on, as many bytes as it says at the start of the buffer are the copy
 abbrev pub CopiesRead : Type 0
 CopiesRead =
-    (t : Table) (s : List ℕ) (time : ℕ) (out : List ℕ) (nextHop size : ℕ) → Bytes s → relayOf t s time out .said ≡ accepted (nextHop ∷ size ∷ [])
-    → Copied s (take size (relayOf t s time out .held))
+    (t : Table) (s : List ℕ) (time : ℕ) (out : List ℕ) → Bytes s
+    → let relayed = relayOf t s time out in
+    let answer = relayed .answer in answer .refused ≡ 0 → answer .ours ≡ false → Copied s (take (answer .size) (relayed .held))
 
 -- ---- beacons
 -- a beacon as it came in, and the copy of it: both are read, alike but for the source, which is this unit, the hop, one more, and the delay, to which the

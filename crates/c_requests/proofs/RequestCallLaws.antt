@@ -1,21 +1,14 @@
 -- The calls on a request to join and on one for slots, from what the core answers.
 -- Assumes nothing.
-use mathlib.Core.Path.{_≡_, ap, _∙_}
-use mathlib.Core.Bool.{Bool, true, false, cond}
-use mathlib.Core.List.{List}
-use Prim.Native.Nat.{ℕ, _≤_}
-use native.Mathlib.Omega.{arith}
-use borrow.Author.Tests.{eq-eqb, ne-eqb}
-use lib.Dec.{eqb}
-use lib.ListN.{length}
+use Rattle.octets.proofs.Words.{_≡_, ap, _∙_, List, ℕ, _≤_, arith, eq-eqb, ne-eqb, eqb, length}
 use Rattle.octets.specs.Calls.{after}
 use Rattle.octets.proofs.CallLaws.{after-refused, WrittenBack, filled}
+use Rattle.octets.proofs.TestLaws.{of-choice}
 use Rattle.slot_sets.specs.Sets.{Slots}
 use Rattle.slot_sets.proofs.CountLaws.{count-fits}
-use Rattle.book.specs.Books.{Stated, stated}
+use Rattle.book.specs.Books.{Contents, contents}
 use Rattle.book_joins.specs.declared.grants.Granted.{Granted}
 use Rattle.book_joins.specs.Joins.{Answered, answeredBy, grants, joinOf, askOf}
-use Rattle.book_joins.specs.Responses.{responses}
 use Rattle.book_joins.proofs.ResponseLaws.{length-responses}
 use Rattle.book_bytes.specs.BookBytes.{bookSize, bookBytes}
 use Rattle.c_requests.specs.RequestCalls.{requestLeft, answeredTo}
@@ -25,14 +18,14 @@ pub record Short (out : List ℕ) (a : Answered) : Type 0 where
   pub kept : (a .refused ≡ 0 → ⊥) → a .held ≡ out
   pub written : a .written ≤ 845
 
-grants-short : (refused : ℕ) (b : Stated) (unit time at : ℕ) (own : Slots 64) (out : List ℕ) → Short out (grants refused b unit time at own out)
-grants-short refused b unit time at own out = record { kept = λ z. after-refused refused out _ z; written = go (eqb refused 0) }
-  where
-    go : (t : Bool) → cond t (length (responses (b .plan) unit time at own)) 0 ≤ 845
-    go true = omega (arith, length-responses (b .plan) unit time at own, count-fits 64 own)
-    go false = omega arith
+grants-short : (refused : ℕ) (b : Contents) (unit time at : ℕ) (own : Slots 64) (out : List ℕ) → Short out (grants refused b unit time at own out)
+grants-short refused b unit time at own out =
+    record {
+      kept = λ z. after-refused refused out _ z;
+      written = of-choice (λ n. n ≤ 845) (eqb refused 0) (omega (arith, length-responses (b .plan) unit time at own, count-fits 64 own)) (omega arith);
+    }
 
-module _ (b : Stated) (frame : List ℕ) (time : ℕ) (out : List ℕ) where
+module _ (b : Contents) (frame : List ℕ) (time : ℕ) (out : List ℕ) where
   pub join-short : Short out (joinOf b frame time out)
   unfolding joinOf
   join-short = grants-short _ b _ time _ _ out
@@ -51,9 +44,9 @@ module _ (s out : List ℕ) (written : ℕ) (a : Answered) where
 
   -- the last two facts are what `settle` ensures
   pub settled : Short out a → (g : Granted) (held : List ℕ) → answeredBy g held ≡ a → (last : List ℕ) (status said : ℕ) → length s ≡ bookSize
-      → WrittenBack bookSize s last status (g .refused) (bookBytes (stated (g .book))) → said ≡ after (g .refused) written (g .written)
+      → WrittenBack bookSize s last status (g .refused) (bookBytes (contents (g .book))) → said ≡ after (g .refused) written (g .written)
       → requestLeft status last held said ≡ answeredTo s out written a
   settled h g held e last status said l w q =
       let kept : (g .refused ≡ 0 → ⊥) → held ≡ out = λ z. ap (λ (x : Answered). x .held) e ∙ h .kept (λ y. z (ap (λ (x : Answered). x .refused) e ∙ y)) in
-      rw (← e) (filled requestLeft s out written (eqb (length s) bookSize) bookSize last held status (g .refused) (bookBytes (stated (g .book))) (g .written)
+      rw (← e) (filled requestLeft s out written (eqb (length s) bookSize) bookSize last held status (g .refused) (bookBytes (contents (g .book))) (g .written)
       (eq-eqb (length s) bookSize l) l w kept said q)

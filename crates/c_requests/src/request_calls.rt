@@ -5,7 +5,7 @@ ghost use lib.ListN.{length};
 ghost use lib.Seq.{sets};
 ghost use Prim.Native.Nat.{_≤_};
 ghost use Rattle.octets.specs.Calls.{after};
-ghost use Rattle.book.specs.Books.{stated};
+ghost use Rattle.book.specs.Books.{contents};
 ghost use Rattle.book_bytes.specs.BookBytes.{bookSize, bookBytes};
 ghost use Rattle.c_requests.specs.RequestCalls.{requestLeft, joinCall, slotRequestCall};
 use book_bytes::books::BOOK_SIZE;
@@ -14,11 +14,12 @@ use book_bytes::books::write_back;
 use book_joins::asking::ask;
 use book_joins::grants::Granted;
 use book_joins::joining::join;
+use octets::answers::Refusal;
 
 // The end of both calls: unless something refuses it, the book goes to its buffer, and the number of bytes written to the caller.
 fn settle(book: &mut [u8], granted: Granted, written: &mut u32) -> u8
     requires { ⌜ granted .written ≤ 845 ⌝ }
-    ensures { λ r. ⌜ (r ≡ granted .refused) × (now (book .exit) ≡ after (granted .refused) (now (book .entry)) (sets (now (book .entry)) 0 (bookBytes (stated (granted .book))))) × (now (written .exit) ≡ after (granted .refused) (now (written .entry)) (granted .written)) × (granted .refused ≡ 0 → length (bookBytes (stated (granted .book))) ≡ bookSize) ⌝ }
+    ensures { λ r. ⌜ (r ≡ granted .refused) × (now (book .exit) ≡ after (granted .refused) (now (book .entry)) (sets (now (book .entry)) 0 (bookBytes (contents (granted .book))))) × (now (written .exit) ≡ after (granted .refused) (now (written .entry)) (granted .written)) × (granted .refused ≡ 0 → length (bookBytes (contents (granted .book))) ≡ bookSize) ⌝ }
 {
     let next = granted.book;
     let status = write_back(book, granted.refused, next);
@@ -41,7 +42,7 @@ pub extern "C" fn braidlark_join(
     ensures { λ r. ⌜ requestLeft r (now (book .exit)) (now (out .exit)) (now (written .exit)) ≡ joinCall (now (book .entry)) (now (frame .entry)) time (now (out .entry)) (now (written .entry)) ⌝ }
 {
     if book.len() != BOOK_SIZE {
-        return 14;
+        return Refusal::RULE;
     }
     let granted = join(book_of(&book[..]), frame, time, out);
     settle(book, granted, written)
@@ -59,7 +60,7 @@ pub extern "C" fn braidlark_slot_request(
     ensures { λ r. ⌜ requestLeft r (now (book .exit)) (now (out .exit)) (now (written .exit)) ≡ slotRequestCall (now (book .entry)) (now (frame .entry)) time (now (out .entry)) (now (written .entry)) ⌝ }
 {
     if book.len() != BOOK_SIZE {
-        return 14;
+        return Refusal::RULE;
     }
     let brought = ask(book_of(&book[..]), frame, time, out);
     settle(book, brought, written)

@@ -1,74 +1,48 @@
 -- The calls on a stored table, from what the core answers.
 -- Assumes nothing.
-use mathlib.Core.Path.{_≡_, refl, sym, ap, _∙_}
-use mathlib.Core.Bool.{Bool, true, false, not, cond}
-use mathlib.Core.List.{List, [], _∷_}
-use Prim.Native.Nat.{ℕ}
-use native.Mathlib.Omega.{arith}
-use borrow.Author.Tests.{eq-eqb, ne-eqb, eqb-true}
-use lib.Dec.{eqb}
-use lib.ListN.{length}
-use Rattle.octets.specs.Answers.{Said}
-use Rattle.octets.specs.Calls.{stored}
-use Rattle.octets.specs.declared.answers.Refusal.{Refusal}
-use Rattle.octets.proofs.CallLaws.{after-refused, stored-none}
+use Rattle.octets.proofs.Words.{_≡_, sym, ap, _∙_, Bool, true, false, not, cond, List, [], ℕ, arith, eq-eqb, ne-eqb, eqb-true, eqb, length}
+use Rattle.octets.specs.Calls.{stored, after}
+use Rattle.octets.proofs.CallLaws.{stored-none, stored-number}
 use Rattle.route_table.specs.declared.table.Changed.{Changed}
 use Rattle.route_table.specs.declared.table.Found.{Found}
 use Rattle.route_table.specs.declared.table.Head.{Head}
-use Rattle.route_table.specs.declared.table.Hop.{Hop}
-use Rattle.route_table.specs.declared.table.Table.{Table}
-use Rattle.route_table.specs.Rows.{inUse, pad, rowFor}
-use Rattle.route_table.specs.Tables.{rowsOf, headOf, tableOf, lookupRefusal, freshOf, lookupOf}
-use Rattle.route_table.specs.Told.{toldFound}
+use Rattle.route_table.specs.Rows.{pad, none}
+use Rattle.route_table.specs.Tables.{headOf, tableOf, freshOf, lookupOf, foundOr}
 use Rattle.route_bytes.specs.StoredTables.{tableLeft}
 use Rattle.route_bytes.specs.TableBytes.{tableIn, tableBytes, tableOver, isTable}
 use Rattle.route_in_place.specs.Lookups.{lookupIn}
-use Rattle.c_routes.specs.TableCalls.{freshCall, lookupLeft, lookupCall}
-use Rattle.frame_kinds.proofs.AnsweredLaws.{Valued, valued, valued-unless, refused-by-some}
+use Rattle.c_routes.specs.TableCalls.{freshCall, LookupLeft, lookupLeft, lookupCall}
 
--- ---- looking up
-lookup-valued : (t : Table) (destination time : ℕ) → Valued (lookupOf t destination time)
-unfolding lookupOf
-lookup-valued t destination time =
-    let r = rowFor destination (rowsOf t) in
-    valued-unless (lookupRefusal t destination time) _ (valued (r .«next_hop») (r .hops ∷ []))
+-- ---- looking up, in bytes that are a table or in others
+module _ (destination time nextHop hops : ℕ) (s : List ℕ) (found : Found) (e : found ≡ lookupIn s destination time) where
+  abbrev inside : Found
+  inside = lookupOf (tableIn s) destination time
 
-module _ (s : List ℕ) (destination time nextHop hops : ℕ) (found : Found) (e : toldFound found ≡ lookupIn s destination time) where
-  -- the bytes are a table, and the lookup in it answers so
-  told : isTable s ≡ true → toldFound found ≡ lookupOf (tableIn s) destination time
-  unfolding lookupIn
-  told q = rw q at e
+  abbrev left : Bool → LookupLeft
+  left known =
+      let status = cond known (inside .refused) 14 in
+      lookupLeft status (after status nextHop (inside .«next_hop»)) (after status hops (inside .hops))
 
-  untold : isTable s ≡ false → toldFound found .refusal ≡ 14
-  unfolding lookupIn
-  untold q = ap (λ (said : Said). said .refusal) e ∙ rw q
-
-  pub hop-found : (h : Hop) → found ≡ Found.Hop h → lookupLeft 0 (h .«next_hop») (h .hops) ≡ lookupCall s destination time nextHop hops
-  unfolding lookupCall
-  hop-found h q = go (isTable s) refl
+  pub hop-found : found .refused ≡ 0 → lookupLeft 0 (found .«next_hop») (found .hops) ≡ lookupCall s destination time nextHop hops
+  unfolding lookupCall lookupIn
+  hop-found z = go (isTable s) e
     where
-      go : (b : Bool) → isTable s ≡ b → lookupLeft 0 (h .«next_hop») (h .hops) ≡ lookupCall s destination time nextHop hops
-      go true y = rw (y, ← told y, q)
-      go false y = absurd (omega (arith, rw q at (untold y)))
+      go : (b : Bool) → found ≡ cond b inside (foundOr 14 none) → lookupLeft 0 (found .«next_hop») (found .hops) ≡ left b
+      go true q = rw (← q, z)
+      go false q = absurd (omega (arith, z, ap (λ (f : Found). f .refused) q))
 
-  pub none-found : (r : Refusal) → found ≡ Found.Refused r → lookupLeft (r .number) nextHop hops ≡ lookupCall s destination time nextHop hops
-  unfolding lookupCall
-  none-found r q = go (isTable s) refl
+  pub none-found : (found .refused ≡ 0 → ⊥) → lookupLeft (found .refused) nextHop hops ≡ lookupCall s destination time nextHop hops
+  unfolding lookupCall lookupIn
+  none-found z = go (isTable s) e
     where
-      go : (b : Bool) → isTable s ≡ b → lookupLeft (r .number) nextHop hops ≡ lookupCall s destination time nextHop hops
-      go true y =
-          let z = refused-by-some (r .number) _ (lookup-valued (tableIn s) destination time) (sym (ap toldFound q) ∙ told y) in
-          rw (y, ← told y, q, after-refused (r .number) nextHop 0 z, after-refused (r .number) hops 0 z)
-      go false y = rw (y, (rw q at (untold y)))
+      go : (b : Bool) → found ≡ cond b inside (foundOr 14 none) → lookupLeft (found .refused) nextHop hops ≡ left b
+      go true q = rw (← q, ne-eqb (found .refused) 0 z)
+      go false q = ap (λ (f : Found). lookupLeft (f .refused) nextHop hops) q
 
 -- ---- a fresh table
 module _ (s : List ℕ) (own time : ℕ) (fresh : Changed) (e : fresh ≡ freshOf own time) (n : ℕ) (f : n ≡ cond (not (eqb (length s) 539)) 14 (fresh .refused)) where
   status : n ≡ stored 539 s (freshOf own time .refused)
-  status = f ∙ (rw e (go (eqb (length s) 539)))
-    where
-      go : (b : Bool) → cond (not b) 14 (freshOf own time .refused) ≡ cond b (freshOf own time .refused) 14
-      go true = refl
-      go false = refl
+  status = f ∙ rw e (stored-number 539 s (freshOf own time .refused))
 
   pub fresh-refused : (n ≡ 0 → ⊥) → tableLeft n s ≡ freshCall s own time
   unfolding freshCall

@@ -1,12 +1,6 @@
 -- The calls on routing updates, from what the core answers.
 -- Assumes nothing.
-use mathlib.Core.Path.{_≡_, refl, sym, ap, _∙_}
-use mathlib.Core.Bool.{Bool, true, false}
-use mathlib.Core.List.{List, []}
-use Prim.Native.Nat.{ℕ, _≤_}
-use native.Mathlib.Omega.{arith}
-use borrow.Author.Tests.{ne-eqb}
-use lib.ListN.{length}
+use Rattle.octets.proofs.Words.{_≡_, refl, sym, ap, _∙_, Bool, true, false, List, [], ℕ, _≤_, arith, ne-eqb, length}
 use Rattle.octets.specs.Answers.{refused}
 use Rattle.octets.specs.Calls.{writeLeft}
 use Rattle.octets.specs.declared.answers.Refusal.{Refusal}
@@ -19,7 +13,7 @@ use Rattle.route_pages.specs.Pages.{pageFrame, pageRefusal, pageOf, pageIn}
 use Rattle.route_pages.proofs.PageLaws.{page-short}
 use Rattle.route_bytes.specs.TableBytes.{tableIn, isTable}
 use Rattle.c_routes.specs.UpdateCalls.{pageCall}
-use Rattle.frame_kinds.proofs.AnsweredLaws.{Answered, valued, said-value, answered, told-done, told-undone}
+use Rattle.octets.proofs.AnsweredLaws.{Answered, valued, said-value, answered, told-done, told-undone}
 
 -- ---- merging: the call on the bytes says no number where it is refused
 module _ (s frame : List ℕ) (quality time skipped : ℕ) (a : MergedIn) (last : List ℕ) (e : mergeLeft (a .refused) last (a .skipped) ≡ mergeCall s frame quality time 0) where

@@ -3,13 +3,12 @@
 use Prim.Native.Nat.{ℕ}
 use mathlib.Core.Bool.{cond}
 use mathlib.Core.List.{List}
-use lib.ListN.{getD}
 use Rattle.octets.specs.Calls.{after}
 use Rattle.frame_kinds.specs.Shape.{placeOf}
 use Rattle.frame_traffic.specs.Traffic.{dataKind}
 use Rattle.route_bytes.specs.StoredTables.{storedTable}
 use Rattle.route_bytes.specs.TableBytes.{tableIn}
-use Rattle.route_relays.specs.Relays.{forUs, relayOf}
+use Rattle.route_relays.specs.Relays.{relayOf}
 
 -- ---- relaying: the status, the buffer, the next hop, and the place and the number of the bytes that count
 pub record RelayLeft : Type 0 where
@@ -26,9 +25,8 @@ relayLeft status out nextHop place extent =
 -- for this unit: no next hop, the payload's place in the frame and its length; else the next hop, and the bytes written from the buffer's start
 unfoldable pub relayCall : List ℕ → List ℕ → ℕ → List ℕ → ℕ → ℕ → ℕ → RelayLeft
 relayCall s frame time out nextHop place extent =
-    let wrote = relayOf (tableIn s) frame time out in
-    let vs = wrote .said .values in
-    let status = storedTable s (wrote .said .refusal) in
-    let ours = forUs (tableIn s) frame in
-    relayLeft status (after status out (wrote .held)) (after status nextHop (cond ours 0 (getD vs 0 0)))
-    (after status place (cond ours (placeOf dataKind) 0)) (after status extent (cond ours (getD vs 0 0) (getD vs 1 0)))
+    let relayed = relayOf (tableIn s) frame time out in
+    let answer = relayed .answer in
+    let status = storedTable s (answer .refused) in
+    relayLeft status (after status out (relayed .held)) (after status nextHop (answer .«next_hop»))
+    (after status place (cond (answer .ours) (placeOf dataKind) 0)) (after status extent (answer .size))

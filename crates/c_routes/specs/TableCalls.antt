@@ -2,7 +2,6 @@
 -- Assumes nothing.
 use Prim.Native.Nat.{ℕ}
 use mathlib.Core.List.{List}
-use lib.ListN.{getD}
 use Rattle.octets.specs.Calls.{after, stored}
 use Rattle.route_table.specs.Tables.{freshOf, lookupOf, forgetOf}
 use Rattle.route_bytes.specs.StoredTables.{storedTable, TableLeft, changedTo, changedBy}
@@ -28,6 +27,6 @@ lookupLeft status nextHop hops = record { status = status; nextHop = nextHop; ho
 
 unfoldable pub lookupCall : List ℕ → ℕ → ℕ → ℕ → ℕ → LookupLeft
 lookupCall s destination time nextHop hops =
-    let said = lookupOf (tableIn s) destination time in
-    let status = storedTable s (said .refusal) in
-    lookupLeft status (after status nextHop (getD (said .values) 0 0)) (after status hops (getD (said .values) 1 0))
+    let found = lookupOf (tableIn s) destination time in
+    let status = storedTable s (found .refused) in
+    lookupLeft status (after status nextHop (found .«next_hop»)) (after status hops (found .hops))

@@ -2,8 +2,8 @@
 -- Assumes nothing.
 use Prim.Native.Nat.{ℕ}
 use mathlib.Core.List.{List}
-use lib.ListN.{getD}
 use Rattle.octets.specs.Calls.{after, WriteLeft, writeLeft}
+use Rattle.octets.specs.Told.{writtenIn}
 use Rattle.route_bytes.specs.TableBytes.{tableIn}
 use Rattle.route_pages.specs.Pages.{pageOf}
 use Rattle.route_bytes.specs.StoredTables.{storedTable}
@@ -13,4 +13,4 @@ unfoldable pub pageCall : List ℕ → ℕ → ℕ → List ℕ → ℕ → Writ
 pageCall s page time out written =
     let wrote = pageOf (tableIn s) page time out in
     let status = storedTable s (wrote .said .refusal) in
-    writeLeft status (after status out (wrote .held)) (after status written (getD (wrote .said .values) 0 0))
+    writeLeft status (after status out (wrote .held)) (after status written (writtenIn wrote))

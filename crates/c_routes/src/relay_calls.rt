@@ -1,10 +1,19 @@
 // Frames that go on by a table of 539 bytes: data is handed back or relayed, a beacon is forwarded.
 ghost use mathlib.Core.Path.{_≡_};
+ghost use mathlib.Core.Bool.{cond};
+ghost use Rattle.frame_kinds.specs.Shape.{placeOf};
+ghost use Rattle.frame_traffic.specs.Traffic.{dataKind};
 ghost use Rattle.route_forwards.specs.Forwards.{forwardLeft, forwardCall};
 ghost use Rattle.c_routes.specs.RelayCalls.{relayLeft, relayCall};
 use route_forwards::forwarding::forward_in;
-use route_relays::relaying::Relayed;
 use route_relays::relaying::relay_in;
+
+// Where the bytes that count start: a payload for this unit behind the frame's fields, a copy first in the buffer.
+fn start(ours: bool) -> u32
+    ensures { λ r. ⌜ r ≡ cond ours (placeOf dataKind) 0 ⌝ }
+{
+    if ours { 9 } else { 0 }
+}
 
 // Relays a data frame. For this unit: next hop 0, and where the payload starts in the frame and how long it is. Else: the next hop, place 0, and
 // how many bytes were written.
@@ -20,21 +29,14 @@ pub extern "C" fn braidlark_relay(
 ) -> u8
     ensures { λ r. ⌜ relayLeft r (now (out .exit)) (now («next_hop» .exit)) (now (place .exit)) (now (length .exit)) ≡ relayCall (now (table .entry)) (now (frame .entry)) time (now (out .entry)) (now («next_hop» .entry)) (now (place .entry)) (now (length .entry)) ⌝ }
 {
-    match relay_in(table, frame, time, out) {
-        Relayed::ForUs(count) => {
-            *next_hop = 0;
-            *place = 9;
-            *length = count as u32;
-            0
-        }
-        Relayed::Passed(passage) => {
-            *next_hop = passage.next_hop;
-            *place = 0;
-            *length = passage.size as u32;
-            0
-        }
-        Relayed::Refused(refusal) => refusal.number,
+    let relayed = relay_in(table, frame, time, out);
+    if relayed.refused != 0 {
+        return relayed.refused;
     }
+    *next_hop = relayed.next_hop;
+    *place = start(relayed.ours);
+    *length = relayed.size as u32;
+    0
 }
 
 // Forwards a beacon with this delay added, and says how many bytes were written.

@@ -2,11 +2,11 @@
 ghost use mathlib.Core.Path.{_≡_};
 ghost use Rattle.route_bytes.specs.StoredTables.{tableLeft};
 ghost use Rattle.c_routes.specs.TableCalls.{freshCall, forgetCall, lookupLeft, lookupCall};
+use octets::answers::Refusal;
 use octets::answers::refuse_if;
 use route_bytes::tables::put_empty;
 use route_in_place::changing::forget;
 use route_in_place::finding::lookup;
-use route_table::table::Found;
 use route_table::table::Table;
 
 // Makes the empty table of a unit, with this time as last accepted.
@@ -15,7 +15,7 @@ pub extern "C" fn braidlark_table_fresh(table: &mut [u8], own: u16, time: u32) -
     ensures { λ r. ⌜ tableLeft r (now (table .exit)) ≡ freshCall (now (table .entry)) own time ⌝ }
 {
     let fresh = Table::fresh(own, time);
-    let refused = refuse_if(table.len() != 539, 14, fresh.refused);
+    let refused = refuse_if(table.len() != 539, Refusal::RULE, fresh.refused);
     if refused != 0 {
         return refused;
     }
@@ -35,14 +35,13 @@ pub extern "C" fn braidlark_lookup(
 ) -> u8
     ensures { λ r. ⌜ lookupLeft r (now («next_hop» .exit)) (now (hops .exit)) ≡ lookupCall (now (table .entry)) destination time (now («next_hop» .entry)) (now (hops .entry)) ⌝ }
 {
-    match lookup(table, destination, time) {
-        Found::Hop(hop) => {
-            *next_hop = hop.next_hop;
-            *hops = hop.hops;
-            0
-        }
-        Found::Refused(refusal) => refusal.number,
+    let found = lookup(table, destination, time);
+    if found.refused != 0 {
+        return found.refused;
     }
+    *next_hop = found.next_hop;
+    *hops = found.hops;
+    0
 }
 
 // Withdraws all usable rows to a unit or through it.

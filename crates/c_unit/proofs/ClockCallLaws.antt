@@ -1,10 +1,6 @@
 -- The call on the clock, from what the core answers.
 -- Assumes nothing.
-use mathlib.Core.Path.{_≡_, refl, ap}
-use mathlib.Core.Bool.{Bool, true, false, cond}
-use mathlib.Core.List.{List}
-use Prim.Native.Nat.{ℕ}
-use lib.Dec.{eqb}
+use Rattle.octets.proofs.Words.{_≡_, refl, ap, Bool, true, false, cond, List, ℕ, eqb}
 use Rattle.unit_clock.specs.declared.steps.Stepped.{Stepped}
 use Rattle.unit_clock.specs.Clock.{beaconStepOf}
 use Rattle.c_unit.specs.ClockCalls.{ClockLeft, clockLeft, clockCall}

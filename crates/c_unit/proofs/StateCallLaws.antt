@@ -1,9 +1,6 @@
 -- The calls on a state, from what the core answers.
 -- Assumes nothing.
-use mathlib.Core.Path.{_≡_}
-use mathlib.Core.List.{List}
-use Prim.Native.Nat.{ℕ}
-use lib.ListN.{length}
+use Rattle.octets.proofs.Words.{_≡_, List, ℕ, length}
 use Rattle.octets.proofs.CallLaws.{stored-whole, stored-other, after-refused}
 use Rattle.unit_life.specs.declared.state.Lived.{Lived}
 use Rattle.unit_life.specs.StateBytes.{stateSize, stateOver}

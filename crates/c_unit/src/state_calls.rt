@@ -1,6 +1,7 @@
 // A unit's state: 13 bytes that the caller keeps, made fresh, and taken on by an event or a tick.
 ghost use mathlib.Core.Path.{_≡_};
 ghost use Rattle.c_unit.specs.StateCalls.{stateLeft, leaves, freshCall, eventCall, tickCall};
+use octets::answers::Refusal;
 use unit_life::state::Lived;
 use unit_life::state::State;
 use unit_life::state_bytes::put_state;
@@ -13,7 +14,7 @@ fn keep(state: &mut [u8], lived: Lived) -> u8
     ensures { λ r. ⌜ stateLeft r (now (state .exit)) ≡ leaves (now (state .entry)) lived ⌝ }
 {
     if state.len() != STATE_SIZE {
-        return 14;
+        return Refusal::RULE;
     }
     if lived.refused != 0 {
         return lived.refused;

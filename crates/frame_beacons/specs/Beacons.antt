@@ -1,17 +1,17 @@
--- The beacon: document 01's table and field rules, line by line.
--- The values of its record in the paper's order, the record with given values, and its rule. A name of the code that has a `_` stands in « ».
+-- The beacon: document 01's table and field rules, field by field.
+-- The values of its record in the paper's order, the record with given values, and its fields. A name of the code that has a `_` stands in « ».
 -- Assumes nothing.
 use Prim.Native.Nat.{ℕ, _*_}
-use mathlib.Core.Bool.{Bool, _&&_}
+use mathlib.Core.Bool.{Bool}
 use mathlib.Core.List.{List, [], _∷_}
 use lib.Dec.{eqb, leb}
 use lib.ListN.{getD}
-use Rattle.frame_kinds.specs.Rules.{address, network}
-use Rattle.frame_kinds.specs.Shape.{Kind, fixed}
+use Rattle.frame_kinds.specs.Fields.{byte, half, word, unit, net, only, between, some}
+use Rattle.frame_kinds.specs.Shape.{Kind, fixedWith}
 use Rattle.frame_beacons.specs.declared.beacon.Beacon.{Beacon}
 
--- ---- 0x46 beacon: destination 2, source 2, size 1 (27), network 2, superframe number 4, superframe ms 2, total slots 1, slot ms 4,
--- ---- original source 2, hop 1, original time 4, delay 4, max hops 1, sequence 2
+-- ---- 0x46 beacon: destination, source, size, network, superframe number, superframe ms, total slots, slot ms, original source, hop, original time, delay,
+-- ---- max hops, sequence
 abbrev pub beaconValues : Beacon → List ℕ
 beaconValues f =
     f .destination ∷ f .source ∷ f .size ∷ f .network ∷ f .«superframe_number» ∷ f .«superframe_ms» ∷ f .«total_slots» ∷ f .«slot_ms» ∷
@@ -42,16 +42,19 @@ beaconFrom vs =
       sequence = getD vs 13 0;
     }
 
-abbrev pub beaconRule : Beacon → Bool
-beaconRule f =
-    eqb (f .destination) 0xFFFF && address (f .source) && eqb (f .size) 27 && network (f .network)
-    && address (f .«original_source»)
-    && (leb 1 (f .«max_hops») && leb (f .«max_hops») 10)
-    && leb (f .hop) (f .«max_hops»)
-    && (leb 1 (f .«total_slots») && leb (f .«total_slots») 100)
-    && leb 1 (f .«slot_ms»)
-    && eqb (f .«superframe_ms») (f .«total_slots» * f .«slot_ms»)
+-- the hop is at most max hops, and the superframe has the ms of all its slots
+abbrev pub hopsAndSlots : Beacon → List Bool
+hopsAndSlots f = leb (f .hop) (f .«max_hops») ∷ eqb (f .«superframe_ms») (f .«total_slots» * f .«slot_ms») ∷ []
 
 abbrev pub beacon : Kind
 beacon =
-    fixed 0x46 (2 ∷ 2 ∷ 1 ∷ 2 ∷ 4 ∷ 2 ∷ 1 ∷ 4 ∷ 2 ∷ 1 ∷ 4 ∷ 4 ∷ 1 ∷ 2 ∷ []) (λ vs. beaconRule (beaconFrom vs))
+    fixedWith 0x46
+    (only 2 0xFFFF ∷ unit ∷ only 1 27 ∷ net ∷ word ∷ half ∷ between 1 1 100 ∷ some 4 ∷
+    unit ∷
+    byte ∷
+    word ∷
+    word ∷
+    between 1 1 10 ∷
+    half ∷
+    [])
+    (λ vs. hopsAndSlots (beaconFrom vs))

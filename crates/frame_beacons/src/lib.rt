@@ -1,2 +1,2 @@
-// Beacons: the record of a beacon, where its fields stand, and its rules.
+// The beacon: its record, where its fields stand, its rules, what refuses its bytes and what writes it.
 pub mod beacon;

@@ -1,10 +1,6 @@
 -- A walk from 0 meets every entry, and its answers are told apart by what they say.
 -- Assumes nothing.
-use mathlib.Core.Path.{_≡_, refl, ap, _∙_}
-use mathlib.Core.List.{List, [], _∷_, map}
-use Prim.Native.Nat.{ℕ, zero, suc, _+_}
-use native.Mathlib.Omega.{arith}
-use borrow.Author.Tests.{ne-eqb}
+use Rattle.octets.proofs.Words.{_≡_, refl, ap, _∙_, List, [], _∷_, map, ℕ, zero, suc, _+_, arith, ne-eqb}
 use Rattle.octets.specs.Lists.{tab}
 use Rattle.octets.proofs.AnswerLaws.{one-by-return}
 use Rattle.frame_kinds.specs.Shape.{partIn}

@@ -1,18 +1,11 @@
 -- A step of the walk, case by case.
 -- Assumes nothing.
-use mathlib.Core.Path.{_≡_, refl, sym, ap, subst, _∙_}
-use mathlib.Core.Bool.{Bool, true, false}
-use mathlib.Core.List.{List, [], _∷_}
-use Prim.Native.Nat.{ℕ, _+_, _≤_, _<_}
-use native.Mathlib.Omega.{arith}
-use borrow.Author.Tests.{lt-ltb, le-ltb, ltb-true, ltb-false, eqb-true, eqb-false}
-use lib.Dec.{eqb, ltb}
-use lib.ListN.{length, getD}
+use Rattle.octets.proofs.Words.{_≡_, refl, sym, ap, subst, _∙_, Bool, true, false, List, [], _∷_, ℕ, _+_, _≤_, _<_, arith, lt-ltb, le-ltb, ltb-true, ltb-false, eqb-true, eqb-false, eqb, ltb, length, getD}
 use Rattle.octets.specs.Answers.{Said, accepted, refused}
 use Rattle.octets.proofs.AnswerLaws.{unless-none, unless-some}
-use Rattle.frame_kinds.specs.Shape.{lengthOf, valuesIn, partIn}
+use Rattle.frame_kinds.specs.Shape.{partIn}
 use Rattle.frame_kinds.specs.Reading.{refusalAs}
-use Rattle.frame_kinds.proofs.ReadingLaws.{passed}
+use Rattle.frame_traffic.proofs.UpdateLaws.{updating}
 use Rattle.frame_traffic.specs.declared.entry.Entry.{Entry}
 use Rattle.frame_traffic.specs.Traffic.{update, entryAt, entryValues}
 use Rattle.frame_entries.specs.declared.walking.Step.{Step}
@@ -61,19 +54,12 @@ unwalked s position n =
     empty e = let z : _≡_ {A = ℕ} 0 _ = ap (λ (said : Said). length (said .values)) e in omega (arith, z)
 
 -- an update has at most 24 entries, so the position behind one is at most 24
-few : (s : List ℕ) → refusalAs update s ≡ 0 → countIn s ≤ 24
-few s z =
-    let p = passed (update .code) (lengthOf update (update .extent (valuesIn update s))) (update .rule (valuesIn update s) (partIn update s)) s z in
-    let short = p .short in
-    let sized = p .sized in
-    omega (arith, short, sized)
-
 pub next-few : (s : List ℕ) (position : ℕ) (step : Step) → toldWalked (Walked.One step) ≡ walkOf s position → step .next ≤ 24
 next-few s position step =
     by-step s position (λ said. toldWalked (Walked.One step) ≡ said → step .next ≤ 24)
     (λ n z e. let next : step .next ≡ 0 = first e in omega (arith, next))
     (λ z e. let next : step .next ≡ 0 = first e in omega (arith, next))
-    (λ z h e. let next : step .next ≡ position + 1 = first e in omega (arith, next, few s z, h))
+    (λ z h e. let next : step .next ≡ position + 1 = first e in omega (arith, next, updating s z .few, h))
   where
     first : {said : Said} → toldWalked (Walked.One step) ≡ said → step .next ≡ getD (said .values) 0 0
     first e = ap (λ (said : Said). getD (said .values) 0 0) e

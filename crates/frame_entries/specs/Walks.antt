@@ -4,6 +4,7 @@ use Prim.Native.Nat.{ℕ, _+_}
 use mathlib.Core.Bool.{cond}
 use mathlib.Core.List.{List, [], _∷_}
 use lib.Dec.{ltb}
+use lib.ListN.{getD, drop}
 use Rattle.octets.specs.Answers.{Said, accepted, refused, unless}
 use Rattle.frame_kinds.specs.Shape.{valuesIn, partIn}
 use Rattle.frame_kinds.specs.Reading.{refusalAs}
@@ -20,6 +21,13 @@ unfoldable pub walkOf : List ℕ → ℕ → Said
 walkOf s position =
     unless (refusalAs update s)
     (accepted (cond (ltb position (countIn s)) ((position + 1) ∷ entryValues (entryAt (partIn update s) position)) (0 ∷ [])))
+
+-- the next position in what a step says, and the values of the entry behind it
+abbrev pub positionIn : Said → ℕ
+positionIn said = getD (said .values) 0 0
+
+abbrev pub entryIn : Said → List ℕ
+entryIn said = drop 1 (said .values)
 
 -- what each case of an answer says
 abbrev pub toldWalked : Walked → Said

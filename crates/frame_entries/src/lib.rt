@@ -1,3 +1,3 @@
-// Entries: the entries of a routing update, walked one after the other over the caller's bytes.
+// The entries of a routing update, walked one after the other over the caller's bytes.
 pub mod reader;
 pub mod walking;

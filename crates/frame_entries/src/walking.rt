@@ -1,10 +1,9 @@
 // One step of a walk: the entry of an update at a position, and the position behind it.
 ghost use mathlib.Core.Path.{_≡_};
 ghost use Rattle.frame_entries.specs.Walks.{walkOf, toldWalked};
-use frame_reading::parts::entries;
-use frame_reading::refusals::update;
 use frame_traffic::entry::Entry;
 use frame_traffic::update::UpdateHeader;
+use frame_traffic::update::entries;
 use octets::answers::Refusal;
 
 pub struct Step {
@@ -23,7 +22,7 @@ pub enum Walked {
 pub fn entry_at(frame: &[u8], position: usize) -> Walked
     ensures { λ r. ⌜ toldWalked r ≡ walkOf (now (frame .entry)) position ⌝ }
 {
-    let number = update(frame);
+    let number = UpdateHeader::refusal(frame);
     if number != 0 {
         return Walked::Refused(Refusal { number });
     }

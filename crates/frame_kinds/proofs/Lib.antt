@@ -1,6 +1,5 @@
-pub mod AnsweredLaws
 pub mod FourteenLaws
 pub mod ReadingLaws
-pub mod RuleLaws
 pub mod SealLaws
+pub mod StoredLaws
 pub mod WritingLaws

@@ -1,13 +1,6 @@
 -- A reader of one kind from what its parts say, and what is known of bytes that are not refused.
 -- Assumes nothing.
-use mathlib.Core.Path.{_≡_, refl, ap, _∙_}
-use mathlib.Core.Bool.{Bool, true, false, not, _||_, cond}
-use mathlib.Core.List.{List, _∷_}
-use Prim.Native.Nat.{ℕ, _≤_}
-use native.Mathlib.Omega.{arith}
-use borrow.Author.Tests.{eqb-true, ltb-false}
-use lib.Dec.{eqb, ltb}
-use lib.ListN.{length, drop, length-take, length-drop}
+use Rattle.octets.proofs.Words.{_≡_, refl, ap, _∙_, Bool, true, false, not, _||_, cond, List, _∷_, ℕ, _≤_, arith, eqb-true, ltb-false, eqb, ltb, length, drop, length-take, length-drop}
 use Rattle.octets.specs.Answers.{accepted, unless}
 use Rattle.octets.specs.Numbers.{num}
 use Rattle.frame_kinds.specs.Reading.{isSealed, readRefusal, refusalAs, readAs}

@@ -1,14 +1,6 @@
 -- Bytes with their checksum behind them.
 -- Assumes nothing.
-use mathlib.Core.Path.{_≡_, refl, sym, ap, _∙_}
-use mathlib.Core.Bool.{true}
-use mathlib.Core.List.{List, [], _∷_, _++_}
-use Prim.Native.Nat.{ℕ, suc, _+_, _-_, _<_}
-use native.Mathlib.Nat.{add-sub-cancel}
-use native.Mathlib.Omega.{arith}
-use borrow.Author.Tests.{eq-eqb, eqb-true}
-use lib.ListN.{length, getD, take, length-append}
-use lib.Seq.{take-at, getD-at, take-suc, take-all}
+use Rattle.octets.proofs.Words.{_≡_, refl, sym, ap, _∙_, true, List, [], _∷_, _++_, ℕ, suc, _+_, _-_, _<_, add-sub-cancel, arith, eq-eqb, eqb-true, length, getD, take, length-append, take-at, getD-at, take-suc, take-all}
 use Rattle.octets.specs.Layouts.{bytes, Bytes}
 use Rattle.octets.specs.Numbers.{num}
 use Rattle.octets.specs.Sums.{xors}

@@ -1,14 +1,6 @@
 -- What is known of a frame that its writer does not refuse, and that such a frame is written whole.
 -- Assumes nothing.
-use mathlib.Core.Path.{_≡_, refl}
-use mathlib.Core.Bool.{Bool, true, false, not, _||_, cond}
-use mathlib.Core.List.{List, [], _∷_}
-use Prim.Native.Nat.{ℕ, _≤_, _<_}
-use native.Mathlib.Omega.{arith}
-use borrow.Author.Tests.{eq-eqb, le-ltb, lt-ltb, eqb-true, ltb-false}
-use lib.Dec.{eqb, ltb}
-use lib.ListN.{length}
-use lib.Seq.{sets}
+use Rattle.octets.proofs.Words.{_≡_, refl, Bool, true, false, not, _||_, cond, List, [], _∷_, ℕ, _≤_, _<_, arith, eq-eqb, le-ltb, lt-ltb, eqb-true, ltb-false, eqb, ltb, length, sets}
 use Rattle.octets.specs.Answers.{accepted, refused}
 use Rattle.octets.proofs.AnswerLaws.{unless-none}
 use Rattle.octets.proofs.CallLaws.{after-accepted}

@@ -1,4 +1,4 @@
+pub mod Fields
 pub mod Reading
-pub mod Rules
 pub mod Shape
 pub mod Writing

@@ -38,5 +38,8 @@ abbrev pub readAs : Kind → List ℕ → Said
 readAs k s = unless (refusalAs k s) (accepted (k .code ∷ valuesIn k s))
 
 -- bytes whose type is unknown
+abbrev pub unknownRefusal : List ℕ → ℕ
+unknownRefusal s = first (reason (misfit s) 1 ∷ reason true 2 ∷ [])
+
 abbrev pub readUnknown : List ℕ → Said
-readUnknown s = unless (first (reason (misfit s) 1 ∷ reason true 2 ∷ [])) (accepted [])
+readUnknown s = unless (unknownRefusal s) (accepted [])

@@ -2,10 +2,11 @@
 -- Everything that is read or written of a kind follows from these four.
 -- Assumes nothing.
 use Prim.Native.Nat.{ℕ, _+_}
-use mathlib.Core.Bool.{Bool, cond}
+use mathlib.Core.Bool.{Bool, true, _&&_, cond}
 use mathlib.Core.List.{List, [], _∷_, _++_}
 use lib.Dec.{eqb}
 use lib.ListN.{take, drop}
+use Rattle.octets.specs.Lists.{all}
 use Rattle.octets.specs.Layouts.{total, fields, bytes}
 use Rattle.octets.specs.Parts.{Lent, partOf}
 use Rattle.octets.specs.Sums.{xors}
@@ -20,9 +21,36 @@ pub record Kind : Type 0 where
   -- whether the fields' values, and the bytes that follow, keep the rules
   pub rule : List ℕ → List ℕ → Bool
 
--- a kind that has nothing behind its fields
-abbrev pub fixed : ℕ → List ℕ → (List ℕ → Bool) → Kind
-fixed code widths rule = record { code = code; widths = widths; extent = λ vs. 0; rule = λ vs part. rule vs }
+-- a field: how many bytes it has, and what is asked of its number
+pub record Field : Type 0 where
+  pub width : ℕ
+  pub tests : List (ℕ → Bool)
+
+abbrev pub widthsFor : List Field → List ℕ
+widthsFor [] = []
+widthsFor (f ∷ fs) = f .width ∷ widthsFor fs
+
+-- what is asked of a number, of the fields' numbers, and more behind these
+abbrev pub askedOf : List (ℕ → Bool) → ℕ → List Bool → List Bool
+askedOf [] v more = more
+askedOf (t ∷ ts) v more = t v ∷ askedOf ts v more
+
+abbrev pub tested : List Field → List ℕ → List Bool → List Bool
+tested [] vs more = more
+tested (f ∷ fs) [] more = more
+tested (f ∷ fs) (v ∷ vs) more = askedOf (f .tests) v (tested fs vs more)
+
+-- a kind by its fields, how many bytes follow them, and what is asked beside the fields' own tests
+abbrev pub followed : ℕ → List Field → (List ℕ → ℕ) → (List ℕ → List ℕ → List Bool) → Kind
+followed code fs extent more =
+    record { code = code; widths = widthsFor fs; extent = extent; rule = λ vs part. all (tested fs vs (more vs part)) }
+
+-- a kind that has nothing behind its fields, and whose numbers have a rule together or not
+abbrev pub fixedWith : ℕ → List Field → (List ℕ → List Bool) → Kind
+fixedWith code fs more = followed code fs (λ vs. 0) (λ vs part. more vs)
+
+abbrev pub fixed : ℕ → List Field → Kind
+fixed code fs = fixedWith code fs (λ vs. [])
 
 -- the place behind the fields, where the variable part starts
 abbrev pub placeOf : Kind → ℕ

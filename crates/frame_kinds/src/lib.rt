@@ -1,1 +1,3 @@
-// Shapes: what a kind of frame is, and what reading and writing one means. There are definitions and laws here, and no code.
+// What a kind of frame is, what reading and writing one means, the tests of bytes that every kind shares, and the checksum behind them.
+pub mod judging;
+pub mod sealing;

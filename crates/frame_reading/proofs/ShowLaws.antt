@@ -1,14 +1,6 @@
 -- Showing a frame as numbers: each answer from what led to it, and the loop's fields as the layout's.
 -- Assumes nothing.
-use mathlib.Core.Path.{_≡_, refl, ap, ap₂}
-use mathlib.Core.Bool.{Bool, true, false, _&&_, false≢true}
-use mathlib.Core.List.{List, [], _∷_}
-use Prim.Native.Nat.{ℕ, _+_, _≤_, _<_}
-use native.Mathlib.Numerals.{add-one}
-use borrow.Author.Tests.{ne-eqb, lt-ltb, le-ltb, eqb-true}
-use lib.Dec.{eqb}
-use lib.ListN.{length, getD, drop, set}
-use lib.Seq.{sets, drop-cons}
+use Rattle.octets.proofs.Words.{_≡_, refl, ap, ap₂, Bool, true, false, _&&_, false≢true, List, [], _∷_, ℕ, _+_, _≤_, _<_, add-one, ne-eqb, lt-ltb, le-ltb, eqb-true, eqb, length, getD, drop, set, sets, drop-cons}
 use Rattle.octets.specs.Layouts.{fields}
 use Rattle.octets.specs.Lists.{every}
 use Rattle.octets.specs.Numbers.{num}

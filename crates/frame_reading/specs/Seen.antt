@@ -1,4 +1,4 @@
--- What the loop that shows a frame's numbers sees of a layout: fields of one, two and else four bytes.
+-- Needs no belief, laws carry it to the values of a kind: what the loop that shows a frame's numbers sees of a layout, fields of one, two and else four bytes.
 -- Assumes nothing.
 use Prim.Native.Nat.{ℕ, _+_}
 use mathlib.Core.Bool.{cond}

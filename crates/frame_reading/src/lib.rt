@@ -1,5 +1,3 @@
-// Readers: from bytes to a frame, or to the number that refuses them.
+// From bytes to a frame, or to the number that refuses them.
 pub mod numbers;
-pub mod parts;
 pub mod reading;
-pub mod refusals;

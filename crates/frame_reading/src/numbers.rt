@@ -6,8 +6,9 @@ ghost use lib.Seq.{sets};
 ghost use Rattle.octets.specs.Numbers.{num};
 ghost use Rattle.frames.specs.Listed.{showRefusal, shown};
 ghost use Rattle.frame_reading.specs.Seen.{seenWidth, seenFields};
-use crate::reading::read;
+use crate::reading::refusal;
 use frames::layouts::layout_of;
+use octets::answers::Refusal;
 use octets::numbers::number8;
 use octets::numbers::number16;
 use octets::numbers::number32;
@@ -41,7 +42,7 @@ fn put_numbers(s: &[u8], widths: &[u8], out: &mut [u32])
 pub fn show(s: &[u8], out: &mut [u32]) -> u8
     ensures { λ r. ⌜ (r ≡ showRefusal (now (s .entry)) (length (now (out .entry)))) × (now (out .exit) ≡ shown (now (s .entry)) (now (out .entry))) ⌝ }
 {
-    let refused = read(s).number();
+    let refused = refusal(s);
     if refused != 0 {
         return refused;
     }
@@ -49,7 +50,7 @@ pub fn show(s: &[u8], out: &mut [u32]) -> u8
     let widths = layout.widths;
     let count = layout.count as usize;
     if out.len() < count {
-        return 5;
+        return Refusal::ROOM;
     }
     put_numbers(s, &widths[..count], out);
     0

@@ -1,5 +1,5 @@
--- Data and routing updates: document 01's table and field rules, line by line.
--- Of each kind: the values of its record in the paper's order, the record with given values, and its rule. A name of the code that has a `_` stands in « ».
+-- Data and routing updates: document 01's table and field rules, a line each.
+-- Of each kind: the values of its record in the paper's order, the record with given values, and its fields with what follows them. A name of the code that has a `_` stands in « ».
 -- Assumes nothing.
 use Prim.Native.Nat.{ℕ, _*_}
 use mathlib.Core.Bool.{Bool, _&&_, _||_}
@@ -8,26 +8,24 @@ use lib.Dec.{eqb, leb}
 use lib.ListN.{getD}
 use Rattle.octets.specs.Layouts.{fields}
 use Rattle.octets.specs.Lists.{tab, every}
-use Rattle.frame_kinds.specs.Rules.{address}
-use Rattle.frame_kinds.specs.Shape.{Kind}
+use Rattle.octets.specs.Addresses.{address}
+use Rattle.frame_kinds.specs.Fields.{byte, half, word, unit}
+use Rattle.frame_kinds.specs.Shape.{Kind, followed}
 use Rattle.frame_traffic.specs.declared.data_frame.DataHeader.{DataHeader}
 use Rattle.frame_traffic.specs.declared.entry.Entry.{Entry}
 use Rattle.frame_traffic.specs.declared.update.UpdateHeader.{UpdateHeader}
 
--- ---- 0x11 data: source 2, destination 2, ttl 1, sequence 2, n 1, payload n
+-- ---- 0x11 data: source, destination, ttl, sequence, n, payload n
 abbrev pub dataValues : DataHeader → List ℕ
 dataValues f = f .source ∷ f .destination ∷ f .ttl ∷ f .sequence ∷ f .count ∷ []
 
 abbrev pub dataFrom : List ℕ → DataHeader
 dataFrom vs = record { source = getD vs 0 0; destination = getD vs 1 0; ttl = getD vs 2 0; sequence = getD vs 3 0; count = getD vs 4 0 }
 
-abbrev pub dataRule : DataHeader → Bool
-dataRule f = address (f .source) && address (f .destination)
-
 abbrev pub dataKind : Kind
-dataKind = record { code = 0x11; widths = 2 ∷ 2 ∷ 1 ∷ 2 ∷ 1 ∷ []; extent = λ vs. dataFrom vs .count; rule = λ vs part. dataRule (dataFrom vs) }
+dataKind = followed 0x11 (unit ∷ unit ∷ byte ∷ half ∷ byte ∷ []) (λ vs. dataFrom vs .count) (λ vs part. [])
 
--- ---- 0x31 routing update: origin 2, k 1, time 4, then k entries: destination 2, hops 1, quality 1, next hop 2, timestamp 4
+-- ---- 0x31 routing update: origin, k, time, then k entries: destination 2, hops 1, quality 1, next hop 2, timestamp 4
 abbrev pub entryWidths : List ℕ
 entryWidths = 2 ∷ 1 ∷ 1 ∷ 2 ∷ 4 ∷ []
 
@@ -56,8 +54,7 @@ updateValues f = f .origin ∷ f .count ∷ f .time ∷ []
 abbrev pub updateFrom : List ℕ → UpdateHeader
 updateFrom vs = record { origin = getD vs 0 0; count = getD vs 1 0; time = getD vs 2 0 }
 
-abbrev pub updateRule : UpdateHeader → List ℕ → Bool
-updateRule f part = address (f .origin) && every entryRule (entriesOf (f .count) part)
-
 abbrev pub update : Kind
-update = record { code = 0x31; widths = 2 ∷ 1 ∷ 4 ∷ []; extent = λ vs. 10 * updateFrom vs .count; rule = λ vs part. updateRule (updateFrom vs) part }
+update =
+    followed 0x31 (unit ∷ byte ∷ word ∷ []) (λ vs. 10 * updateFrom vs .count)
+    (λ vs part. every entryRule (entriesOf (updateFrom vs .count) part) ∷ [])

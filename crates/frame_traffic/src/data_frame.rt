@@ -1,9 +1,19 @@
 // 0x11, data: an order or a reading on its way to a unit.
 ghost use mathlib.Core.Path.{_≡_};
-ghost use Rattle.frame_traffic.specs.Traffic.{dataKind, dataValues, dataRule};
-ghost use Rattle.frame_kinds.specs.Shape.{valuesIn};
+ghost use mathlib.Core.List.{_∷_, []};
+ghost use lib.Seq.{sets};
+ghost use Rattle.octets.specs.Layouts.{bytes};
+ghost use Rattle.frame_traffic.specs.Traffic.{dataKind, dataValues};
+ghost use Rattle.frame_kinds.specs.Shape.{valuesIn, partLent};
+ghost use Rattle.frame_kinds.specs.Reading.{refusalAs};
+ghost use Rattle.octets.specs.Parts.{lent};
+use frame_kinds::judging::refused;
+use octets::addresses::is_address;
+use octets::fixed::put8;
+use octets::fixed::put16;
 use octets::numbers::number8;
 use octets::numbers::number16;
+use octets::parts::part;
 
 // `count` is how many bytes of payload follow.
 pub struct DataHeader {
@@ -30,9 +40,49 @@ impl DataHeader {
 
     // Whether the fields keep their rules.
     pub fn good(self) -> bool
-        ensures { λ r. ⌜ r ≡ dataRule self ⌝ }
+        ensures { λ r. ⌜ r ≡ dataKind .rule (dataValues self) [] ⌝ }
     {
-        ((1 <= self.source) & (self.source <= 0xFFFE))
-            & ((1 <= self.destination) & (self.destination <= 0xFFFE))
+        is_address(self.source) & is_address(self.destination)
     }
+
+    // Why bytes are no frame of this kind, 0 where they are one.
+    pub fn refusal(s: &[u8]) -> u8
+        ensures { λ r. ⌜ r ≡ refusalAs dataKind (now (s .entry)) ⌝ }
+    {
+        let header = DataHeader::of(s);
+        refused(s, 0x11, 10 + header.count as usize, header.good())
+    }
+
+    // The type, then the fields.
+    pub fn numbers(self) -> [u32; 6]
+        ensures { λ r. ⌜ r ≡ dataKind .code ∷ dataValues self ⌝ }
+    {
+        [
+            0x11,
+            self.source as u32,
+            self.destination as u32,
+            self.ttl as u32,
+            self.sequence as u32,
+            self.count as u32,
+        ]
+    }
+
+    // Writes the type and the fields where they stand, from the buffer's start.
+    pub fn put(self, out: &mut [u8])
+        ensures { λ _. ⌜ now (out .exit) ≡ sets (now (out .entry)) 0 (bytes (1 ∷ dataKind .widths) (dataKind .code ∷ dataValues self)) ⌝ }
+    {
+        put8(out, 0, 0x11);
+        put16(out, 1, self.source);
+        put16(out, 3, self.destination);
+        put8(out, 5, self.ttl);
+        put16(out, 6, self.sequence);
+        put8(out, 8, self.count);
+    }
+}
+
+// The payload of a data frame, as a part of the caller's bytes.
+pub fn payload(s: &[u8]) -> &[u8]
+    ensures { λ r. ⌜ lent r ≡ partLent dataKind (lent (s .entry)) ⌝ }
+{
+    part(s, 9, number8(s, 8) as usize)
 }

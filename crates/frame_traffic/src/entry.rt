@@ -1,7 +1,13 @@
 // One entry of a routing update: a route that the update's origin knows.
 ghost use mathlib.Core.Path.{_≡_};
+ghost use lib.Seq.{sets};
+ghost use Rattle.octets.specs.Layouts.{bytes};
 ghost use Rattle.octets.specs.Lists.{every};
-ghost use Rattle.frame_traffic.specs.Traffic.{entryRule, entryAt, entriesOf};
+ghost use Rattle.frame_traffic.specs.Traffic.{entryWidths, entryValues, entryRule, entryAt, entriesOf};
+use octets::addresses::is_address;
+use octets::fixed::put8;
+use octets::fixed::put16;
+use octets::fixed::put32;
 use octets::numbers::number8;
 use octets::numbers::number16;
 use octets::numbers::number32;
@@ -33,9 +39,20 @@ impl Entry {
     pub fn good(self) -> bool
         ensures { λ r. ⌜ r ≡ entryRule self ⌝ }
     {
-        ((1 <= self.destination) & (self.destination <= 0xFFFE))
-            & ((1 <= self.next_hop) & (self.next_hop <= 0xFFFE))
+        is_address(self.destination)
+            & is_address(self.next_hop)
             & (((1 <= self.hops) & (self.hops <= 16)) | (self.hops == 255))
+    }
+
+    // Writes the fields where they stand, from the buffer's start.
+    pub fn put(self, out: &mut [u8])
+        ensures { λ _. ⌜ now (out .exit) ≡ sets (now (out .entry)) 0 (bytes entryWidths (entryValues self)) ⌝ }
+    {
+        put16(out, 0, self.destination);
+        put8(out, 2, self.hops);
+        put8(out, 3, self.quality);
+        put16(out, 4, self.next_hop);
+        put32(out, 6, self.timestamp);
     }
 }
 

@@ -1,3 +1,2 @@
 pub mod KnownLaws
 pub mod ListedLaws
-pub mod WritingLaws

@@ -1,17 +1,6 @@
 -- A frame from a list of numbers: the loop over its widths, and the reader's word for its rules.
 -- Assumes nothing.
-use mathlib.Core.Path.{_≡_, refl, sym, ap, _∙_}
-use mathlib.Core.Bool.{Bool, true, false, not, _&&_, cond, or-true, false≢true}
-use mathlib.Core.List.{List, [], _∷_, _++_, append-assoc, List·Memᴰ}
-use Prim.Native.Nat.{ℕ, suc, _+_, _^_, _≤_, _<_}
-use native.Mathlib.Decide.{decLe, ℕ-discrete}
-use native.Mathlib.Nat.{lt-of-lt-of-le, pow-le-pow-right}
-use native.Mathlib.Numerals.{add-one}
-use native.Mathlib.Omega.{arith}
-use borrow.Author.Tests.{eq-eqb, ne-eqb, le-ltb, lt-ltb, ltb-true, le-leb}
-use lib.Dec.{eqb, ltb}
-use lib.ListN.{length, getD, take, drop, length-append, length-take}
-use lib.Seq.{sets, drop-cons, getD-at}
+use Rattle.octets.proofs.Words.{_≡_, refl, sym, ap, _∙_, Bool, true, false, not, _&&_, cond, or-true, false≢true, List, [], _∷_, _++_, append-assoc, List·Memᴰ, ℕ, suc, _+_, _^_, _≤_, _<_, decLe, ℕ-discrete, lt-of-lt-of-le, pow-le-pow-right, add-one, arith, eq-eqb, ne-eqb, le-ltb, lt-ltb, ltb-true, le-leb, eqb, ltb, length, getD, take, drop, length-append, length-take, sets, drop-cons, getD-at}
 use Rattle.octets.specs.Answers.{Said, accepted, refused}
 use Rattle.octets.specs.Layouts.{Fit}
 use Rattle.octets.specs.declared.answers.Refusal.{Refusal}

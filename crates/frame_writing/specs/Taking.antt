@@ -1,4 +1,4 @@
--- Whether the reader takes a frame that is not too long.
+-- Needs no belief, laws carry it to the rules of a kind: whether the reader takes a frame that is not too long.
 -- Assumes nothing.
 use Prim.Native.Nat.{ℕ}
 use mathlib.Core.Bool.{Bool, _&&_}

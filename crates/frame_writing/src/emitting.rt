@@ -18,15 +18,15 @@ pub(crate) fn why_unwritten(due: usize, size: usize, good: bool, room: usize) ->
     ensures { λ r. ⌜ r ≡ writeRefusal due size good room ⌝ }
 {
     if size != due {
-        return 1;
+        return Refusal::LENGTH;
     }
     if 255 < size {
-        return 1;
+        return Refusal::LENGTH;
     }
     if !good {
-        return 4;
+        return Refusal::FIELD;
     }
-    if room < size { 5 } else { 0 }
+    if room < size { Refusal::ROOM } else { 0 }
 }
 
 // A frame whose numbers, the type first, take `head` bytes: those, the bytes behind them and the checksum.

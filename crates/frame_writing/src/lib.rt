@@ -1,4 +1,4 @@
-// Writers: from a frame's record to its bytes, all of them or none.
+// From a frame's record to its bytes, all of them or none.
 mod emitting;
 pub mod numbers;
 pub mod writing;

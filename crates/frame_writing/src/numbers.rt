@@ -12,7 +12,7 @@ ghost use Rattle.frame_writing.specs.Taking.{takes};
 ghost use Rattle.frame_kinds.specs.Shape.{sealed};
 use crate::emitting::emit;
 use crate::emitting::why_unwritten;
-use frame_reading::reading::read;
+use frame_reading::reading::refusal;
 use frames::layouts::Layout;
 use frames::layouts::layout_of;
 use octets::answers::Refusal;
@@ -81,7 +81,7 @@ fn taken(head: usize, widths: &[u8], values: &[u32], part: &[u8]) -> bool
     let mut apart = room();
     let size = head + part.len() + 1;
     match emit(size, true, head, widths, values, part, &mut apart) {
-        Written::Done(n) => read(&apart[..n]).number() == 0,
+        Written::Done(n) => refusal(&apart[..n]) == 0,
         Written::Refused(_) => false,
     }
 }
@@ -116,16 +116,22 @@ pub fn write(numbers: &[u32], part: &[u8], out: &mut [u8]) -> Written
     ensures { λ r. ⌜ wrote r (now (out .exit)) ≡ writeNumbers (now (numbers .entry)) (now (part .entry)) (now (out .entry)) ⌝ }
 {
     if numbers.len() == 0 {
-        return Written::Refused(Refusal { number: 1 });
+        return Written::Refused(Refusal {
+            number: Refusal::LENGTH,
+        });
     }
     let first = numbers[0];
     if 255 < first {
-        return Written::Refused(Refusal { number: 2 });
+        return Written::Refused(Refusal {
+            number: Refusal::TYPE,
+        });
     }
     let code = (first % 256) as u8;
     let layout = layout_of(code);
     if layout.count == 0 {
-        return Written::Refused(Refusal { number: 2 });
+        return Written::Refused(Refusal {
+            number: Refusal::TYPE,
+        });
     }
     listed(code, layout, numbers, part, out)
 }

@@ -1,17 +1,11 @@
 -- The layout of a type: at most 15 fields, and where the array has them.
 -- Assumes nothing.
-use mathlib.Core.Path.{_≡_, refl, ap, _∙_}
-use mathlib.Core.Bool.{Bool, true}
-use mathlib.Core.List.{List, [], _∷_}
-use mathlib.Core.Logic.{⊎-elim}
-use Prim.Native.Nat.{ℕ, _-_, _≤_}
-use native.Mathlib.Omega.{arith}
-use borrow.Author.Tests.{leb-true}
-use lib.Dec.{leb}
-use lib.ListN.{length, take, replicate, length-append}
-use lib.Seq.{take-at}
-use Rattle.octets.specs.Layouts.{total}
+use Rattle.octets.proofs.Words.{_≡_, refl, sym, ap, _∙_, Bool, true, List, [], _∷_, _++_, ⊎-elim, ℕ, _+_, _-_, _≤_, arith, leb-true, leb, length, take, replicate, length-append, take-at}
+use Rattle.octets.specs.Layouts.{total, bytes}
 use Rattle.octets.specs.Lists.{every}
+use Rattle.octets.specs.Told.{Wrote}
+use Rattle.frame_kinds.specs.Shape.{sealed}
+use Rattle.frame_kinds.specs.Writing.{writing}
 use Rattle.frames.specs.declared.layouts.Layout.{Layout}
 use Rattle.frames.specs.Frames.{kinds}
 use Rattle.frames.specs.Layout.{widthsOf, layoutOf}
@@ -30,6 +24,11 @@ pub widths-few : (t : ℕ) → length (widthsOf t) ≤ 15
 unfolding every
 widths-few t = leb-true _ _ (of-widths (λ ws. leb (length ws) 15) refl refl t)
 
+-- nor are they longer than 64 bytes
+heads-small : (t : ℕ) → total (widthsOf t) ≤ 64
+unfolding every
+heads-small t = leb-true _ _ (of-widths (λ ws. leb (total ws) 64) refl refl t)
+
 -- a layout that holds these widths: in the first places of its array
 pub record Laid (l : Layout) (ws : List ℕ) : Type 0 where
   pub counted : l .count ≡ length ws
@@ -37,6 +36,7 @@ pub record Laid (l : Layout) (ws : List ℕ) : Type 0 where
   pub firsts : take (l .count) (l .widths) ≡ ws
   pub within : l .count ≤ length (l .widths)
   pub few : l .count ≤ 15
+  pub small : l .head ≤ 64
 
 pub laid-out : (l : Layout) (t : ℕ) → l ≡ layoutOf t → Laid l (widthsOf t)
 unfolding layoutOf
@@ -49,4 +49,15 @@ laid-out l t e =
       firsts = take-at ws rest (length ws) refl;
       within = omega (arith, length-append ws rest);
       few = widths-few t;
+      small = heads-small t;
     })
+
+-- so many of its places are lent
+pub laid-count : {l : Layout} {ws : List ℕ} → Laid l ws → l .count ≡ length (take (l .count) (l .widths))
+laid-count h = h .counted ∙ sym (ap length (h .firsts))
+
+-- what is written by a layout is written by its widths
+pub laid-written : {l : Layout} {ws : List ℕ} → Laid l ws → (extent : ℕ) (good : Bool) (ns part out : List ℕ) (w : Wrote)
+    → w ≡ writing (l .head + 1 + extent) good (sealed (bytes (take (l .count) (l .widths)) ns ++ part)) out
+    → w ≡ writing (total ws + 1 + extent) good (sealed (bytes ws ns ++ part)) out
+laid-written h extent good ns part out w e = e ∙ rw (h .summed, h .firsts)

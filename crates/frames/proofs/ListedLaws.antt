@@ -1,13 +1,6 @@
 -- Numbers written as a frame: none at all, those of a kind, and those of no kind.
 -- Assumes nothing.
-use mathlib.Core.Path.{_≡_, refl, sym, subst}
-use mathlib.Core.List.{List, [], _∷_, List·Memᴰ}
-use mathlib.Core.Logic.{⊎-elim}
-use Prim.Native.Nat.{ℕ, _<_}
-use native.Mathlib.Omega.{arith}
-use borrow.Author.Tests.{ltb-true}
-use lib.Dec.{ltb}
-use lib.ListN.{length, getD}
+use Rattle.octets.proofs.Words.{_≡_, refl, sym, subst, List, [], _∷_, List·Memᴰ, ⊎-elim, ℕ, _<_, arith, ltb-true, ltb, length, getD}
 use Rattle.octets.specs.Answers.{refused}
 use Rattle.octets.specs.Lists.{every}
 use Rattle.octets.specs.Told.{Wrote}

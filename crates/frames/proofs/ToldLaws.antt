@@ -1,15 +1,11 @@
 -- What an answer says is said by no other answer.
 -- Assumes nothing.
-use mathlib.Core.Path.{_≡_, refl}
-use mathlib.Core.Bool.{cond}
-use mathlib.Core.List.{List, [], _∷_}
-use Prim.Native.Nat.{ℕ}
-use lib.Dec.{eqb}
+use Rattle.octets.proofs.Words.{_≡_, refl, cond, List, [], _∷_, ℕ, eqb, getD}
 use Rattle.octets.specs.Answers.{OneToOne}
 use Rattle.octets.proofs.AnswerLaws.{one-by-return}
 use Rattle.frames.specs.declared.answers.Frame.{Frame}
 use Rattle.frame_traffic.specs.Traffic.{dataFrom, updateFrom}
-use Rattle.frame_requests.specs.Requests.{joinRequestFrom, joinResponseFrom, slotRequestFrom, discoveryRequestFrom, discoveryResponseFrom}
+use Rattle.frame_requests.specs.Requests.{joinRequestFrom, joinResponseFrom, slotRequestFrom}
 use Rattle.frame_beacons.specs.Beacons.{beaconFrom}
 use Rattle.frames.specs.Told.{told}
 
@@ -21,8 +17,8 @@ frame-from number (t ∷ vs) =
     (cond (eqb t 0x21) (Frame.JoinRequest (joinRequestFrom vs))
     (cond (eqb t 0x22) (Frame.JoinResponse (joinResponseFrom vs))
     (cond (eqb t 0x23) (Frame.SlotRequest (slotRequestFrom vs))
-    (cond (eqb t 0x24) (Frame.DiscoveryRequest (discoveryRequestFrom vs))
-    (cond (eqb t 0x25) (Frame.DiscoveryResponse (discoveryResponseFrom vs))
+    (cond (eqb t 0x24) (Frame.DiscoveryRequest (record { node = getD vs 0 0; capabilities = getD vs 1 0; role = getD vs 2 0; «max_hops» = getD vs 3 0 }))
+    (cond (eqb t 0x25) (Frame.DiscoveryResponse (record { manager = getD vs 0 0; network = getD vs 1 0; size = getD vs 2 0; free = getD vs 3 0; quality = getD vs 4 0; uptime = getD vs 5 0 }))
     (cond (eqb t 0x31) (Frame.Update (updateFrom vs)) (Frame.Beacon (beaconFrom vs))))))))
 
 frame-back : (f : Frame) → frame-from (told f .refusal) (told f .values) ≡ f

@@ -1,24 +1,15 @@
 -- The round trips, proved once over a kind.
 -- Assumes nothing.
-use mathlib.Core.Path.{_≡_, refl, sym, ap, _∙_}
-use mathlib.Core.Bool.{Bool, true, false, not, _||_, cond}
-use mathlib.Core.List.{List, [], _∷_, _++_, append-assoc, List·Memᴰ}
-use mathlib.Core.Logic.{⊎-elim}
-use Prim.Native.Nat.{ℕ, _+_, _≤_, _<_}
-use native.Mathlib.Omega.{arith}
-use borrow.Author.Tests.{eq-eqb, ne-eqb, le-ltb, eqb-true}
-use lib.Dec.{eqb, ltb}
-use lib.ListN.{length, take, drop, length-append}
-use lib.Seq.{take-at, drop-at, take-add}
+use Rattle.octets.proofs.Words.{_≡_, refl, sym, ap, _∙_, Bool, true, false, not, _||_, cond, List, [], _∷_, _++_, append-assoc, List·Memᴰ, ⊎-elim, ℕ, _+_, _≤_, _<_, arith, eq-eqb, ne-eqb, le-ltb, eqb-true, eqb, ltb, length, take, drop, length-append, take-at, drop-at, take-add}
 use Rattle.octets.specs.Answers.{Said, accepted, unless}
 use Rattle.octets.specs.Layouts.{total, fields, bytes, Fit, Bytes}
 use Rattle.octets.specs.Numbers.{num}
 use Rattle.octets.specs.Sums.{xors}
 use Rattle.octets.proofs.AnswerLaws.{unless-none, unless-number}
 use Rattle.octets.proofs.LayoutLaws.{fit-length, length-bytes, fields-bytes, bytes-fields, fields-fit}
-use Rattle.frames.specs.Frames.{kinds, readFrame}
+use Rattle.frames.specs.Frames.{kinds, refusalTyped, readFrame}
 use Rattle.frames.specs.Layout.{widthsOf}
-use Rattle.frame_kinds.specs.Reading.{isSealed, misfit, readRefusal, refusalAs, readAs, readUnknown}
+use Rattle.frame_kinds.specs.Reading.{isSealed, misfit, readRefusal, refusalAs, unknownRefusal, readAs, readUnknown}
 use Rattle.frame_kinds.specs.Shape.{Kind, placeOf, lengthOf, valuesIn, partIn, sealed, frameOf}
 use Rattle.frames.specs.Trips.{refusalWith, RefusedAlike, ReadsBack, WritesBack}
 use Rattle.frame_kinds.specs.Writing.{writeRefusal}
@@ -99,6 +90,14 @@ module _ (k : Kind) (m : List·Memᴰ k kinds) (s : List ℕ) where
   -- bytes that a kind does not refuse are read as its values
   pub accepted-read : refusalAs k s ≡ 0 → readFrame s ≡ accepted (k .code ∷ valuesIn k s)
   accepted-read z = as-known (passed _ _ _ s z .typed) ∙ unless-none (refusalAs k s) (accepted (k .code ∷ valuesIn k s)) z
+
+-- the number that reading gives is why the bytes are refused as a frame of their type
+pub typed-refusal : (s : List ℕ) → refusalTyped (num 1 s 0) s ≡ readFrame s .refusal
+unfolding refusalTyped readFrame
+typed-refusal s =
+    ⊎-elim (λ r. asked (λ k. refusalAs k s) (unknownRefusal s) (r .1) (num 1 s 0) (r .2) ∙ sym (refused-read (r .0) (r .1) s (r .2)))
+    (λ r. r ℕ (λ k. refusalAs k s) (unknownRefusal s) ∙ sym (ap (λ (x : Said). x .refusal) (r Said (λ k. readAs k s) (readUnknown s)) ∙ unless-number (unknownRefusal s) []))
+    (known-or-not (num 1 s 0))
 
 pub refused-alike : RefusedAlike
 refused-alike k m vs part f =

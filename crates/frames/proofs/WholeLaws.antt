@@ -1,11 +1,6 @@
 -- A frame that is read is taken as what it is read as, its part in its place; and a frame that breaks no rule is read as what was written.
 -- Assumes nothing.
-use mathlib.Core.Path.{_≡_, sym, ap, _∙_}
-use mathlib.Core.Bool.{true}
-use mathlib.Core.List.{List, [], _∷_, List·Memᴰ}
-use Prim.Native.Nat.{ℕ, _≤_}
-use native.Mathlib.Omega.{arith}
-use lib.ListN.{length, getD, drop}
+use Rattle.octets.proofs.Words.{_≡_, sym, ap, _∙_, true, List, [], _∷_, List·Memᴰ, ℕ, _≤_, arith, length, getD, drop}
 use Rattle.octets.specs.Answers.{Said, accepted}
 use Rattle.octets.specs.Layouts.{total, Fit}
 use Rattle.octets.specs.Numbers.{num}

@@ -4,7 +4,7 @@ use Prim.Native.Nat.{ℕ}
 use mathlib.Core.List.{List, [], _∷_}
 use Rattle.octets.specs.Answers.{Said}
 use Rattle.octets.specs.Numbers.{num}
-use Rattle.frame_kinds.specs.Reading.{readAs, readUnknown}
+use Rattle.frame_kinds.specs.Reading.{refusalAs, unknownRefusal, readAs, readUnknown}
 use Rattle.frame_kinds.specs.Shape.{Kind, among}
 use Rattle.frame_requests.specs.Requests.{joinRequest, joinResponse, slotRequest, discoveryRequest, discoveryResponse}
 use Rattle.frame_traffic.specs.Traffic.{dataKind, update}
@@ -13,6 +13,10 @@ use Rattle.frame_beacons.specs.Beacons.{beacon}
 -- every kind, in the paper's order
 abbrev pub kinds : List Kind
 kinds = dataKind ∷ joinRequest ∷ joinResponse ∷ slotRequest ∷ discoveryRequest ∷ discoveryResponse ∷ update ∷ beacon ∷ []
+
+-- why bytes are refused as a frame of type t; 0 where they are not
+unfoldable pub refusalTyped : ℕ → List ℕ → ℕ
+refusalTyped t s = among kinds t (λ k. refusalAs k s) (unknownRefusal s)
 
 -- reading bytes of type t: as the kind that has this type
 abbrev pub readTyped : ℕ → List ℕ → Said

@@ -1,10 +1,7 @@
 -- What is made of bytes: what stands before and behind others, the digits of numbers, and the XOR.
 -- Assumes nothing.
-use mathlib.Core.List.{List, [], _∷_, _++_}
-use Prim.Native.Nat.{ℕ, zero, suc, _/_, _%_, _<_}
-use native.Mathlib.Omega.{arith}
+use Rattle.octets.proofs.Words.{List, [], _∷_, _++_, ℕ, zero, suc, _/_, _%_, _<_, arith, getD}
 use lib.Bits.{xor-lt}
-use lib.ListN.{getD}
 use Rattle.octets.specs.Layouts.{bytes, Bytes}
 use Rattle.octets.specs.Numbers.{digits}
 use Rattle.octets.specs.Sums.{xors}

@@ -1,18 +1,30 @@
--- What holds of each element of a list, or of some, when the list is cut, joined or tested.
+-- What holds of each element of a list, or of some, when the list is built, changed, cut, joined or tested.
 -- Assumes nothing.
-use mathlib.Core.Path.{_≡_, refl}
-use mathlib.Core.Bool.{Bool, true}
-use mathlib.Core.List.{List, [], _∷_, _++_}
-use mathlib.Core.Logic.{inl, inr, ⊎-elim}
-use Prim.Native.Nat.{ℕ, zero, suc, _<_}
-use native.Mathlib.Nat.{not-suc-le-zero, le-of-suc-le-suc}
-use lib.ListN.{length, getD, take, drop}
-use Rattle.octets.specs.Lists.{every, Each, Some}
+use Rattle.octets.proofs.Words.{_≡_, refl, Bool, true, List, [], _∷_, _++_, map, inl, inr, ⊎-elim, ℕ, zero, suc, _<_, not-suc-le-zero, le-of-suc-le-suc, length, getD, set, take, drop, replicate}
+use Rattle.octets.specs.Lists.{tab, every, Each, Some}
 
 module _ {A : Type 0} (P : A → Type 0) where
   pub each-all : ((a : A) → P a) → (l : List A) → Each P l
   each-all h [] = tt
   each-all h (a ∷ l) = (h a, each-all h l)
+
+  pub each-replicate : (n : ℕ) (a : A) → P a → Each P (replicate n a)
+  each-replicate zero a h = tt
+  each-replicate (suc n) a h = (h, each-replicate n a h)
+
+  pub each-tab : (n : ℕ) (f : ℕ → A) → ((i : ℕ) → P (f i)) → Each P (tab n f)
+  unfolding tab
+  each-tab zero f h = tt
+  each-tab (suc n) f h = (h 0, each-tab n (λ k. f (suc k)) (λ k. h (suc k)))
+
+  pub each-set : (l : List A) (at : ℕ) (a : A) → Each P l → P a → Each P (set l at a)
+  each-set [] at a e h = tt
+  each-set (b ∷ l) zero a e h = (h, e .1)
+  each-set (b ∷ l) (suc at) a e h = (e .0, each-set l at a (e .1) h)
+
+  pub each-map : (f : A → A) → ((a : A) → P a → P (f a)) → (l : List A) → Each P l → Each P (map f l)
+  each-map f on [] e = tt
+  each-map f on (a ∷ l) e = (on a (e .0), each-map f on l (e .1))
 
   pub each-take : (n : ℕ) (l : List A) → Each P l → Each P (take n l)
   each-take zero l e = tt

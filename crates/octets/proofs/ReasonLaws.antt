@@ -1,12 +1,6 @@
 -- Reasons in two parts: those in front, and those behind them.
 -- Assumes nothing.
-use mathlib.Core.Path.{_≡_, refl, sym, _∙_}
-use mathlib.Core.Bool.{Bool, true, false, not, cond, false≢true}
-use mathlib.Core.List.{List, [], _∷_, _++_}
-use Prim.Native.Nat.{ℕ}
-use native.Mathlib.Decide.{ℕ-discrete}
-use borrow.Author.Tests.{ne-eqb}
-use lib.Dec.{eqb}
+use Rattle.octets.proofs.Words.{_≡_, refl, sym, _∙_, Bool, true, false, not, cond, false≢true, List, [], _∷_, _++_, ℕ, ℕ-discrete, eq-eqb, ne-eqb, eqb}
 use Rattle.octets.specs.Answers.{Reason, refusing, first}
 use Rattle.octets.proofs.AnswerLaws.{Numbered, NoneHolds}
 
@@ -17,7 +11,7 @@ first-append (r ∷ rs) qs h = go (r .holds) refl (first-append rs qs (h .1))
   where
     go : (b : Bool) → r .holds ≡ b → first (rs ++ qs) ≡ first (refusing (first rs) ∷ qs)
         → cond b (r .number) (first (rs ++ qs)) ≡ cond (not (eqb (cond b (r .number) (first rs)) 0)) (cond b (r .number) (first rs)) (first qs)
-    go true q e = rw (ne-eqb (r .number) 0 (λ z. false≢true (sym (h .0 z) ∙ q)))
+    go true q e = rw (ne-eqb (r .number) 0 (λ z. false≢true (sym (rw (eq-eqb (r .number) 0 z) at (h .0)) ∙ q)))
     go false q e = e
 
 -- reasons behind others matter only where none of those holds

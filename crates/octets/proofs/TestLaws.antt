@@ -1,7 +1,6 @@
 -- Tests joined by "or", and choices: what follows from a test follows from what it was made of.
 -- Assumes nothing.
-use mathlib.Core.Path.{_≡_, refl, sym}
-use mathlib.Core.Bool.{Bool, true, false, _||_, cond, false≢true}
+use Rattle.octets.proofs.Words.{_≡_, refl, sym, Bool, true, false, not, _||_, cond, false≢true}
 
 pub or-elim : (R : Type 0) (a b : Bool) → (a || b) ≡ true → (a ≡ true → R) → (b ≡ true → R) → R
 or-elim R true b e f g = f refl
@@ -17,6 +16,15 @@ or-right false b e = e
 pub neither : (a b : Bool) → (a || b) ≡ false → (a ≡ false) × (b ≡ false)
 neither true b e = absurd (false≢true (sym e))
 neither false b e = (refl, e)
+
+-- "unless a, b"
+pub implied : (a b : Bool) → (not a || b) ≡ true → a ≡ true → b ≡ true
+implied true b e h = e
+implied false b e h = absurd (false≢true h)
+
+pub implies : (a b : Bool) → (a ≡ true → b ≡ true) → (not a || b) ≡ true
+implies true b f = f refl
+implies false b f = refl
 
 pub by-bool : (R : Type 0) (b : Bool) → (b ≡ true → R) → (b ≡ false → R) → R
 by-bool R true f g = f refl

@@ -1,8 +1,6 @@
 -- What is said of writing tells its answers apart.
 -- Assumes nothing.
-use mathlib.Core.Path.{_≡_, refl}
-use mathlib.Core.List.{List, [], _∷_}
-use Prim.Native.Nat.{ℕ}
+use Rattle.octets.proofs.Words.{_≡_, refl, List, [], _∷_, ℕ}
 use Rattle.octets.specs.Answers.{OneToOne}
 use Rattle.octets.specs.declared.answers.Written.{Written}
 use Rattle.octets.specs.Told.{toldWritten}

@@ -1,17 +1,6 @@
 -- Zeros: the numbers of a layout are all 0 exactly if its bytes are; and the loops that look at zeros and store them.
 -- Assumes nothing.
-use mathlib.Core.Path.{_≡_, refl, sym, ap, _∙_}
-use mathlib.Core.Bool.{Bool, _&&_, and-true, and-assoc}
-use mathlib.Core.List.{List, [], _∷_}
-use Prim.Native.Nat.{ℕ, zero, suc, _+_, _*_, _≤_, _<_}
-use native.Mathlib.Nat.{add-zero, add-assoc}
-use native.Mathlib.Numerals.{add-one}
-use native.Mathlib.Decide.{ℕ-discrete}
-use native.Mathlib.Omega.{arith}
-use borrow.Author.Tests.{eq-eqb, ne-eqb}
-use lib.Dec.{eqb}
-use lib.ListN.{length, getD, drop, set, replicate, length-replicate, drop-of-length-le}
-use lib.Seq.{sets, drop-cons}
+use Rattle.octets.proofs.Words.{_≡_, refl, sym, ap, _∙_, Bool, _&&_, and-true, and-assoc, List, [], _∷_, ℕ, zero, suc, _+_, _*_, _≤_, _<_, ℕ-discrete, add-zero, add-assoc, add-one, arith, eq-eqb, ne-eqb, eqb, length, getD, drop, set, replicate, length-replicate, drop-of-length-le, sets, drop-cons}
 use Rattle.octets.specs.Layouts.{total, fields}
 use Rattle.octets.specs.Lists.{every}
 use Rattle.octets.specs.Numbers.{num}

@@ -2,6 +2,7 @@
 -- Assumes nothing.
 use mathlib.Core.List.{List, [], _∷_}
 use Prim.Native.Nat.{ℕ}
+use lib.ListN.{getD}
 use Rattle.octets.specs.Answers.{Said, accepted, refused}
 use Rattle.octets.specs.declared.answers.Written.{Written}
 
@@ -13,6 +14,10 @@ toldWritten (Written.Refused r) = refused (r .number)
 pub record Wrote : Type 0 where
   pub said : Said
   pub held : List ℕ
+
+-- how many bytes an accepted one says that it wrote, the one value of its answer; 0 where it is refused
+abbrev pub writtenIn : Wrote → ℕ
+writtenIn w = getD (w .said .values) 0 0
 
 abbrev pub wrote : Written → List ℕ → Wrote
 wrote answer held = record { said = toldWritten answer; held = held }

@@ -1,4 +1,4 @@
--- Zeros: a number that is 0, and bytes that all are from a place on.
+-- Needs no belief, laws carry it to lists of zeros: a number that is 0, and bytes that all are from a place on.
 -- Assumes nothing.
 use Prim.Native.Nat.{ℕ}
 use mathlib.Core.Bool.{Bool}

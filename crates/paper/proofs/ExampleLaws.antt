@@ -1,8 +1,6 @@
 -- The table of examples, computed; the story by its steps.
 -- Assumes nothing.
-use mathlib.Core.Path.{refl, ap, _∙_}
-use mathlib.Core.List.{List}
-use Prim.Native.Nat.{ℕ}
+use Rattle.octets.proofs.Words.{refl, ap, _∙_, List, ℕ}
 use Rattle.octets.specs.Numbers.{num, digits}
 use Rattle.octets.specs.Sums.{xors}
 use Rattle.frame_kinds.specs.Reading.{isSealed, readRefusal}

@@ -1,26 +1,22 @@
 -- No two answers meet a contract: each view can be undone.
 -- Assumes nothing.
-use mathlib.Core.Path.{_≡_, refl, sym, ap, ap₂, _∙_}
-use mathlib.Core.List.{List, [], _∷_, map}
-use Prim.Native.Nat.{ℕ}
-use Rattle.octets.specs.Answers.{Said, OneToOne}
+use Rattle.octets.proofs.Words.{_≡_, refl, sym, ap, ap₂, _∙_, List, [], _∷_, map, ℕ}
+use Rattle.octets.specs.Answers.{Said, accepted, OneToOne}
 use Rattle.octets.specs.Told.{Wrote, toldWritten}
 use Rattle.slot_sets.specs.Sets.{slotsOf, maskOf}
-use Rattle.slot_sets.proofs.BitLaws.{mask-of-set}
+use Rattle.slot_sets.proofs.MaskLaws.{mask-back}
 use Rattle.frame_traffic.specs.Traffic.{dataFrom, updateFrom}
-use Rattle.frame_requests.specs.Requests.{joinRequestFrom, joinResponseFrom, slotRequestFrom, discoveryRequestFrom, discoveryResponseFrom}
+use Rattle.frame_requests.specs.Requests.{joinRequestFrom, joinResponseFrom, slotRequestFrom}
 use Rattle.frame_beacons.specs.Beacons.{beaconFrom}
 use Rattle.octets.proofs.ToldLaws.{told-written-one}
+use Rattle.frames.specs.declared.answers.Frame.{Frame}
 use Rattle.frames.proofs.ToldLaws.{told-one}
 use Rattle.frame_entries.proofs.MeetLaws.{told-walked-one}
-use Rattle.route_table.proofs.ToldLaws.{told-found-one}
-use Rattle.route_relays.specs.Relays.{toldRelayed}
-use Rattle.route_relays.proofs.ToldLaws.{told-relayed-one}
 use Rattle.site_plan.proofs.ToldLaws.{told-plan-one}
 use Rattle.book_members.specs.declared.member.Member.{Member}
 use Rattle.book_members.specs.Members.{Row, rowOf, rowsOf}
 use Rattle.book.specs.declared.book.Book.{Book}
-use Rattle.book.specs.Books.{Stated, stated}
+use Rattle.book.specs.Books.{Contents, contents}
 use Rattle.paper.specs.Single.{TellsApart, SingleAnswer, PartsTellApart, any, mask, maskRow, maskRows, maskBook, ViewsTellApart}
 
 pub single-answer : SingleAnswer
@@ -43,10 +39,6 @@ with-buffer {A} said one a a′ p p′ e =
     (ap {B = Said × List ℕ} (λ (w : Wrote). (w .said, w .held)) e)
 
 -- ---- masks
-mask-back : (m : ℕ) → mask m → maskOf (slotsOf m) ≡ m
-unfolding slotsOf
-mask-back m p = mask-of-set 64 m p
-
 rowBack : Row → Member
 rowBack r = record { unit = r .unit; slots = maskOf (r .slots); time = r .time }
 
@@ -59,10 +51,10 @@ unfolding rowsOf
 rows-back [] p = refl
 rows-back (m ∷ ms) p = ap₂ _∷_ (row-back m (p .0)) (rows-back ms (p .1))
 
-bookBack : Stated → Book
+bookBack : Contents → Book
 bookBack b = record { plan = b .plan; time = b .time; rows = map rowBack (b .places) }
 
-book-back : (b : Book) → maskBook b → bookBack (stated b) ≡ b
+book-back : (b : Book) → maskBook b → bookBack (contents b) ≡ b
 unfolding bookBack
 book-back b p = ap (λ (rows : List Member). record { plan = b .plan; time = b .time; rows = rows }) (rows-back (b .rows) p)
 
@@ -76,15 +68,14 @@ views-tell-apart =
       joinRequests = undone any _ joinRequestFrom (λ a p. refl);
       joinResponses = undone any _ joinResponseFrom (λ a p. refl);
       slotRequests = undone any _ slotRequestFrom (λ a p. refl);
-      discoveryRequests = undone any _ discoveryRequestFrom (λ a p. refl);
-      discoveryResponses = undone any _ discoveryResponseFrom (λ a p. refl);
+      discoveryRequests = λ a a′ p p′ e. cc (told-one (Frame.DiscoveryRequest a) (Frame.DiscoveryRequest a′) (ap (λ (vs : List ℕ). accepted (0x24 ∷ vs)) e));
+      discoveryResponses = λ a a′ p p′ e. cc (told-one (Frame.DiscoveryResponse a) (Frame.DiscoveryResponse a′) (ap (λ (vs : List ℕ). accepted (0x25 ∷ vs)) e));
       beacons = undone any _ beaconFrom (λ a p. refl);
       frames = λ a a′ p p′ e. told-one a a′ e;
-      findings = λ a a′ p p′ e. told-found-one a a′ e;
       plans = λ a a′ p p′ e. told-plan-one a a′ e;
       steps = λ a a′ p p′ e. told-walked-one a a′ e;
       writingsInto = with-buffer toldWritten told-written-one;
-      relayings = with-buffer toldRelayed told-relayed-one;
+      relayings = undone any _ (λ v. (v .answer, v .held)) (λ a p. refl);
       forwardings = undone any _ (λ v. (v .answer, v .held)) (λ a p. refl);
       parts = λ name a a′ p p′ e i. record { ptr = (e i .block, e i .start); name = (p ∙ sym p′) i; now = e i .bytes };
       readers = undone any _ (λ v. record { frame = v .0; position = v .1 }) (λ e p. refl);
@@ -93,7 +84,7 @@ views-tell-apart =
       census =
           undone _ _ (λ v. record { own = v .0; place = v .1; slots = maskOf (v .2); vacant = v .3 })
           (λ c p. ap (λ (slots : ℕ). record { own = c .own; place = c .place; slots = slots; vacant = c .vacant }) (mask-back (c .slots) p));
-      books = undone maskBook stated bookBack book-back;
+      books = undone maskBook contents bookBack book-back;
       changes = undone _ _ (λ l. record { refused = l .refused; book = bookBack (l .book) }) (λ c p. ap (λ (b : Book). record { refused = c .refused; book = b }) (book-back (c .book) p));
       grants = undone _ _ (λ l. (record { refused = l .refused; written = l .written; book = bookBack (l .book) }, l .held)) (λ a p. ap (λ (b : Book). (record { refused = a .0 .refused; written = a .0 .written; book = b }, a .1)) (book-back (a .0 .book) p));
       reads = undone any _ (λ l. (l .status, l .fields, l .place, l .extent)) (λ a p. refl);

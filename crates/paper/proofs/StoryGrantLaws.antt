@@ -1,9 +1,6 @@
 -- What the answers of the story grant to each unit, call by call.
 -- Assumes nothing.
-use mathlib.Core.Path.{_≡_, refl, ap, _∙_}
-use mathlib.Core.List.{List, [], _∷_, map}
-use Prim.Native.Nat.{ℕ}
-use lib.ListN.{drop}
+use Rattle.octets.proofs.Words.{_≡_, refl, ap, _∙_, List, [], _∷_, map, ℕ, drop}
 use Rattle.octets.specs.Lists.{every}
 use Rattle.octets.specs.Numbers.{num, digits}
 use Rattle.octets.specs.Sums.{xors}
@@ -13,14 +10,13 @@ use Rattle.frame_kinds.specs.Reading.{isSealed, readRefusal}
 use Rattle.frame_kinds.specs.Shape.{sealed}
 use Rattle.slot_sets.specs.Sets.{has, count, isEmpty, fill, slotwise, noSlots, allSlots, union, meet, minus, lowest, withoutHighest, bits, slotsOf, firsts}
 use Rattle.site_plan.specs.Plans.{slotsIn}
-use Rattle.book_members.specs.Members.{current, rowFor, held, vacant}
+use Rattle.book_members.specs.Members.{current, placeFor, heldSlots, vacant}
 use Rattle.book_members.specs.Rules.{rowsRule}
-use Rattle.book.specs.Books.{Stated, withinRule, freshBook, freshOf, leaveOf}
-use Rattle.book_joins.specs.Joins.{joinOf, askOf}
+use Rattle.book.specs.Books.{Contents, withinRule, freshBook, freshOf, leaveOf}
+use Rattle.book_joins.specs.Joins.{joinResponses, joinOf, askResponses, askOf}
 use Rattle.book_joins.specs.Responses.{toldIn}
-use Rattle.book_history.specs.Calls.{Call, leave}
-use Rattle.book_history.specs.Calls as keeping
-use Rattle.book_history.specs.BookEvents.{call, answer, recorded, stepOf, Grant, grant, changedBy, granted, granting, counts}
+use Rattle.book_history.specs.Calls.{Call, leave, next, timeOf}
+use Rattle.book_history.specs.Histories.{answer, recorded, stepOf, Grant, grant, changedBy, granted, granting, counts}
 use Rattle.paper.specs.Story.{sitePlan, joins, asks, calls, GrantsInTheStory}
 use Rattle.paper.proofs.StoryLaws.{member, nobody, site, one, two, full, left, grown, settled}
 
@@ -47,8 +43,8 @@ abbrev none-passed : Clock
 none-passed = started 0
 
 -- after one call on a book
-abbrev once : Stated → Call → Grants → Grants
-once b c = onEach (λ unit g. changedBy toldIn unit (call c) (answer b (call c)) (nowAt none-passed (keeping.timeOf c)) g)
+abbrev once : Contents → Call → Grants → Grants
+once b c = onEach (λ unit g. changedBy toldIn unit c (answer b c) (nowAt none-passed (timeOf c)) g)
 
 -- what counts at time 0
 abbrev counted : Clock → Grants → List (List ℕ)
@@ -61,22 +57,22 @@ counted k g =
     []
 
 -- after several
-abbrev all : Stated → List Call → Clock → Grants → List (List ℕ)
+abbrev all : Contents → List Call → Clock → Grants → List (List ℕ)
 all b cs k g =
-    let hs = recorded b (map call cs) in
+    let hs = recorded b cs in
     counted (clockAfter k (map stepOf hs)) (onEach (λ unit x. granted unit k x hs) g)
 
 -- a call on a book leaves that book, and each unit what it grants
-record Happens (b : Stated) (c : Call) (new : Stated) (g g′ : Grants) : Type 0 where
-  pub leaves : keeping.next b c ≡ new
+record Happens (b : Contents) (c : Call) (new : Contents) (g g′ : Grants) : Type 0 where
+  pub leaves : next b c ≡ new
   pub grants : once b c g ≡ g′
-  pub passes : moved none-passed (stepOf (record { event = call c; answer = answer b (call c) })) ≡ none-passed
+  pub passes : moved none-passed (stepOf (record { call = c; answer = answer b c })) ≡ none-passed
 
-step : {b new : Stated} {c : Call} {g g′ : Grants} (cs : List Call) → Happens b c new g g′ → all b (c ∷ cs) none-passed g ≡ all new cs none-passed g′
+step : {b new : Contents} {c : Call} {g g′ : Grants} (cs : List Call) → Happens b c new g g′ → all b (c ∷ cs) none-passed g ≡ all new cs none-passed g′
 step cs h = λ i. all (h .leaves i) cs (h .passes i) (h .grants i)
 
 begun : ofEach (granting (freshBook sitePlan 0)) ≡ told (4 ∷ 8 ∷ []) [] [] [] []
-unfolding rowFor has noSlots allSlots fill lowest firsts
+unfolding placeFor has noSlots allSlots fill lowest firsts
 begun = refl
 
 -- each call, computed
@@ -88,7 +84,7 @@ happened :
     × Happens full (leave 0x0201 0) left (told (4 ∷ 8 ∷ []) (5 ∷ 9 ∷ 10 ∷ 11 ∷ []) (6 ∷ 12 ∷ []) (7 ∷ 13 ∷ []) []) (told (4 ∷ 8 ∷ []) [] (6 ∷ 12 ∷ []) (7 ∷ 13 ∷ []) [])
     × Happens left (asks 0x0202 3) grown (told (4 ∷ 8 ∷ []) [] (6 ∷ 12 ∷ []) (7 ∷ 13 ∷ []) []) (told (4 ∷ 8 ∷ []) [] (6 ∷ 9 ∷ 10 ∷ 12 ∷ []) (7 ∷ 13 ∷ []) [])
     × Happens grown (joins 0x0204 4) settled (told (4 ∷ 8 ∷ []) [] (6 ∷ 9 ∷ 10 ∷ 12 ∷ []) (7 ∷ 13 ∷ []) []) (told (4 ∷ 8 ∷ []) [] (6 ∷ 9 ∷ 10 ∷ 12 ∷ []) (7 ∷ 13 ∷ []) (5 ∷ 11 ∷ []))
-unfolding member site nobody one two full left grown settled joinOf askOf leaveOf withinRule rowsRule every rowFor current held vacant count isEmpty has fill slotwise noSlots allSlots union meet minus lowest withoutHighest bits slotsOf firsts slotsIn num digits xors isSealed readRefusal sealed ageAt inOrder
+unfolding member site nobody one two full left grown settled joinResponses joinOf askResponses askOf leaveOf withinRule rowsRule every placeFor current heldSlots vacant count isEmpty has fill slotwise noSlots allSlots union meet minus lowest withoutHighest bits slotsOf firsts slotsIn num digits xors isSealed readRefusal sealed ageAt inOrder
 happened = (record { leaves = refl; grants = refl; passes = refl }, record { leaves = refl; grants = refl; passes = refl }, record { leaves = refl; grants = refl; passes = refl }, record { leaves = refl; grants = refl; passes = refl }, record { leaves = refl; grants = refl; passes = refl }, record { leaves = refl; grants = refl; passes = refl }, record { leaves = refl; grants = refl; passes = refl })
 
 -- all of them, one after the other

@@ -18,7 +18,6 @@ use Rattle.frame_beacons.specs.Beacons.{beaconValues}
 use Rattle.frames.specs.Told.{told}
 use Rattle.frame_entries.specs.declared.reader.Entries.{Entries}
 use Rattle.frame_entries.specs.Walks.{toldWalked}
-use Rattle.route_table.specs.Told.{toldFound}
 use Rattle.route_forwards.specs.declared.forwarding.Forwarded.{Forwarded}
 use Rattle.route_forwards.specs.declared.forwarding.ForwardedIn.{ForwardedIn}
 use Rattle.route_relays.specs.declared.relaying.Relayed.{Relayed}
@@ -30,7 +29,7 @@ use Rattle.book_members.specs.declared.member.Member.{Member}
 use Rattle.book_members.specs.Members.{rowsOf}
 use Rattle.book.specs.declared.book.Book.{Book}
 use Rattle.book.specs.declared.book.Changed.{Changed}
-use Rattle.book.specs.Books.{stated, leftBy}
+use Rattle.book.specs.Books.{contents, changeOf}
 use Rattle.book_joins.specs.declared.grants.Granted.{Granted}
 use Rattle.book_joins.specs.Joins.{answeredBy}
 use Rattle.c_unit.specs.ClockCalls.{clockLeft}
@@ -96,7 +95,6 @@ pub record ViewsTellApart : Type 1 where
   pub beacons : TellsApart any beaconValues
   -- what an enum says, alone and with a buffer
   pub frames : TellsApart any told
-  pub findings : TellsApart any toldFound
   pub plans : TellsApart any toldPlan
   pub steps : TellsApart any toldWalked
   pub writingsInto : TellsApart any (λ (a : Written × List ℕ). wrote (a .0) (a .1))
@@ -110,8 +108,8 @@ pub record ViewsTellApart : Type 1 where
   pub masks : TellsApart mask slotsOf
   pub rows : TellsApart maskRows rowsOf
   pub census : TellsApart {B = ℕ × ℕ × Slots 64 × ℕ} (λ c. mask (c .slots)) (λ (c : Census). (c .own, c .place, slotsOf (c .slots), c .vacant))
-  pub books : TellsApart maskBook stated
-  pub changes : TellsApart (λ c. maskBook (c .book)) leftBy
+  pub books : TellsApart maskBook contents
+  pub changes : TellsApart (λ c. maskBook (c .book)) changeOf
   pub grants : TellsApart (λ (a : Granted × List ℕ). maskBook (a .0 .book)) (λ a. answeredBy (a .0) (a .1))
   -- what a call leaves to C: its status, and each buffer and out parameter
   pub reads : TellsApart any (λ (a : ℕ × List ℕ × ℕ × ℕ). readLeft (a .0) (a .1) (a .2) (a .3))

@@ -7,27 +7,18 @@ use lib.ListN.{replicate}
 use Rattle.frame_kinds.specs.Shape.{frameOf}
 use Rattle.frame_requests.specs.Requests.{joinRequest, joinRequestValues, slotRequest, slotRequestValues}
 use Rattle.site_plan.specs.declared.plan.Plan.{Plan}
-use Rattle.book.specs.Books.{Stated, heardOf, leaveOf, freshBook}
-use Rattle.book.specs.Schedules.{scheduleOf}
-use Rattle.book_joins.specs.Joins.{Answered, joinOf, askOf}
+use Rattle.book.specs.Books.{Contents, freshBook}
 use Rattle.book_joins.specs.Responses.{toldIn}
-use Rattle.book_history.specs.Calls.{Call, join, ask, heard, leave, schedule, next}
-use Rattle.book_history.specs.BookEvents.{fresh, call, grantedAt}
+use Rattle.book_history.specs.Calls.{Call, join, ask, leave, outcome, next}
+use Rattle.book_history.specs.Histories.{fresh, grantedAt}
 
 -- ---- what a call says
 -- the number, and the slots that a unit is told: its control slot, then its data slots
-abbrev pub grantTold : Answered → List ℕ
-grantTold a = a .refused ∷ toldIn (a .written / 13) (a .held)
-
-abbrev pub told : Stated → Call → List ℕ
-told b (join s time out) = grantTold (joinOf b s time out)
-told b (ask s time out) = grantTold (askOf b s time out)
-told b (heard unit time) = heardOf b unit time .refused ∷ []
-told b (leave unit time) = leaveOf b unit time .refused ∷ []
-told b (schedule unit hop time out) = scheduleOf b unit hop time out .said .refusal ∷ []
+abbrev pub told : Contents → Call → List ℕ
+told b c = let o = outcome b c in o .refused ∷ toldIn (o .written / 13) (o .held)
 
 -- what calls say, one after the other
-abbrev pub run : Stated → List Call → List (List ℕ)
+abbrev pub run : Contents → List Call → List (List ℕ)
 run b [] = []
 run b (c ∷ cs) = told b c ∷ run (next b c) cs
 
@@ -66,7 +57,7 @@ abbrev pub units : List ℕ
 units = 0x0100 ∷ 0x0201 ∷ 0x0202 ∷ 0x0203 ∷ 0x0204 ∷ []
 
 abbrev pub storyGrants : List (List ℕ)
-storyGrants = map (λ unit. grantedAt (fresh sitePlan 0) (map call calls) unit 0) units
+storyGrants = map (λ unit. grantedAt (fresh sitePlan 0) calls unit 0) units
 
 abbrev pub GrantsInTheStory : Type 0
 GrantsInTheStory = storyGrants ≡ (4 ∷ 8 ∷ []) ∷ [] ∷ (6 ∷ 9 ∷ 10 ∷ 12 ∷ []) ∷ (7 ∷ 13 ∷ []) ∷ (5 ∷ 11 ∷ []) ∷ []

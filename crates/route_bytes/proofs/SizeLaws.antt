@@ -1,24 +1,18 @@
 -- Tables whose numbers fit their bytes: those that bytes hold, and those that are made of rows within rule, if the numbers fit of which the rule says nothing.
 -- Assumes nothing.
-use mathlib.Core.Path.{_≡_, refl}
-use mathlib.Core.Bool.{Bool, true, false, _&&_, cond, and-eq-true-iff}
-use mathlib.Core.List.{List, [], _∷_, _++_}
-use Prim.Native.Nat.{ℕ, zero, suc, _+_, _*_, _-_, _≤_, _<_}
-use native.Mathlib.Omega.{arith}
-use borrow.Author.Tests.{leb-true, le-leb, ltb-true, lt-ltb}
-use lib.Dec.{eqb, leb, ltb}
-use lib.ListN.{length, replicate}
-use Rattle.octets.specs.Layouts.{Fit, Bytes}
-use Rattle.octets.specs.Lists.{tab, every}
+use Rattle.octets.proofs.Words.{_≡_, refl, Bool, true, false, _&&_, cond, and-eq-true-iff, List, [], _∷_, _++_, ℕ, _+_, _*_, _-_, _≤_, _<_, arith, leb-true, le-leb, ltb-true, lt-ltb, eqb, leb, ltb, length, replicate}
+use Rattle.octets.specs.Layouts.{Bytes}
+use Rattle.octets.specs.Lists.{every, Each}
 use Rattle.octets.proofs.LayoutLaws.{fields-fit}
 use Rattle.octets.proofs.ListLaws.{length-tab}
-use Rattle.frame_kinds.proofs.RuleLaws.{address-fits}
+use Rattle.octets.proofs.AddressLaws.{address-fits}
+use Rattle.octets.proofs.EachLaws.{each-replicate, each-tab}
 use Rattle.route_table.specs.declared.row.Row.{Row}
 use Rattle.route_table.specs.Rows.{none, rowRule, inUse, pad}
 use Rattle.route_table.proofs.RuleLaws.{ruled}
 use Rattle.route_table.proofs.StandingLaws.{pad-length}
-use Rattle.route_bytes.specs.TableBytes.{flag, rowWidths, rowValues, rowAt, headWidths, tableIn}
-use Rattle.route_bytes.specs.TableTrips.{RowsFit, Sized}
+use Rattle.route_bytes.specs.TableBytes.{flag, rowWidths, rowAt, headWidths, tableIn}
+use Rattle.route_bytes.specs.TableTrips.{RowFits, Sized}
 
 pub flag-fits : (b : Bool) → flag b < 256
 flag-fits true = omega arith
@@ -29,7 +23,7 @@ flag-fits false = omega arith
 abbrev pub modest : Row → Bool
 modest r = leb (r .quality) 255 && ltb (r .time) 0x100000000
 
-row-fits : (own last : ℕ) (r : Row) → rowRule own last r ≡ true → modest r ≡ true → Fit rowWidths (rowValues r)
+row-fits : (own last : ℕ) (r : Row) → rowRule own last r ≡ true → modest r ≡ true → RowFits r
 row-fits own last r e m =
     let k = ruled own last r e in
     let hops = leb-true (r .hops) 16 (and-eq-true-iff (leb 1 (r .hops)) (leb (r .hops) 16) .0 (k .hops) .1) in
@@ -41,11 +35,10 @@ row-fits own last r e m =
       ),
     )
 
-pub none-fit : (k : ℕ) → RowsFit (replicate k none)
-none-fit zero = tt
-none-fit (suc k) = (omega arith, none-fit k)
+pub none-fit : (k : ℕ) → Each RowFits (replicate k none)
+none-fit k = each-replicate RowFits k none (omega arith)
 
-rows-fit : (own last k : ℕ) (rs : List Row) → every (rowRule own last) rs ≡ true → every modest rs ≡ true → RowsFit (rs ++ replicate k none)
+rows-fit : (own last k : ℕ) (rs : List Row) → every (rowRule own last) rs ≡ true → every modest rs ≡ true → Each RowFits (rs ++ replicate k none)
 unfolding every
 rows-fit own last k [] e m = none-fit k
 rows-fit own last k (r ∷ rs) e m =
@@ -54,7 +47,7 @@ rows-fit own last k (r ∷ rs) e m =
     (row-fits own last r e₀ m₀, rows-fit own last k rs e₁ m₁)
 
 -- rows that fit their bytes are modest
-pub rows-modest : (rs : List Row) → RowsFit rs → every modest (inUse rs) ≡ true
+pub rows-modest : (rs : List Row) → Each RowFits rs → every modest (inUse rs) ≡ true
 unfolding every
 rows-modest [] f = refl
 rows-modest (r ∷ rs) f = go (eqb (r .destination) 0) (rows-modest rs (f .1))
@@ -78,11 +71,6 @@ sized-pad own time forwarded origin sequence rs a t o s l e m =
     }
 
 -- ---- what was read fits
-rows-read : (n : ℕ) (f : ℕ → Row) → ((i : ℕ) → Fit rowWidths (rowValues (f i))) → RowsFit (tab n f)
-unfolding tab
-rows-read zero f h = tt
-rows-read (suc n) f h = (h 0, rows-read n (λ k. f (suc k)) (λ k. h (suc k)))
-
 pub sized-read : (s : List ℕ) → Bytes s → Sized (tableIn s)
 unfolding tableIn rowAt
 sized-read s b =
@@ -91,7 +79,7 @@ sized-read s b =
       places = length-tab 48 (rowAt s);
       head = (head .0, (head .1 .0, (flag-fits (tableIn s .forwarded), (head .1 .1 .1 .0, (head .1 .1 .1 .1 .0, tt)))));
       fit =
-          rows-read 48 (rowAt s)
+          each-tab RowFits 48 (rowAt s)
           (λ i.
           let row = fields-fit s b rowWidths (11 + 11 * i) in
           (row .0, (row .1 .0, (row .1 .1 .0, (row .1 .1 .1 .0, (row .1 .1 .1 .1 .0, (flag-fits (rowAt s i .withdrawn), tt)))))));

@@ -1,14 +1,6 @@
 -- The bytes of a table: its rows one behind the other, with zeros behind them, how many they all are, the rows behind the head, and all of it stored.
 -- Assumes nothing.
-use mathlib.Core.Path.{_≡_, refl, sym, ap, _∙_}
-use mathlib.Core.Bool.{true, _&&_, and-false, and-eq-true-iff}
-use mathlib.Core.List.{List, [], _∷_, _++_, append-assoc}
-use Prim.Native.Nat.{ℕ, zero, suc, _+_, _*_, _-_, _≤_, _<_}
-use native.Mathlib.Omega.{arith}
-use borrow.Author.Tests.{eq-eqb, ne-eqb, eqb-true, lt-ltb, le-ltb}
-use lib.Dec.{eqb, leb}
-use lib.ListN.{length, getD, take, drop, replicate, length-append, drop-of-length-le}
-use lib.Seq.{sets}
+use Rattle.octets.proofs.Words.{_≡_, refl, sym, ap, _∙_, true, _&&_, and-false, and-eq-true-iff, List, [], _∷_, _++_, append-assoc, ℕ, zero, suc, _+_, _*_, _-_, _≤_, _<_, arith, eq-eqb, ne-eqb, eqb-true, lt-ltb, le-ltb, eqb, leb, length, getD, take, drop, replicate, length-append, drop-of-length-le, sets}
 use Rattle.octets.specs.Layouts.{fields, bytes}
 use Rattle.octets.specs.Numbers.{num, digits}
 use Rattle.octets.proofs.StoreLaws.{sets-append, sets-whole}

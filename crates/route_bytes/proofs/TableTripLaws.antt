@@ -1,26 +1,17 @@
 -- The round trips of a table and its bytes.
 -- Assumes nothing.
-use mathlib.Core.Path.{_≡_, refl, sym, ap, ap₂, _∙_}
-use mathlib.Core.Bool.{Bool, true, false, _&&_, and-eq-true-iff}
-use mathlib.Core.List.{List, [], _∷_, map}
-use Prim.Native.Nat.{ℕ, _+_, _*_, _≤_, _<_}
-use native.Mathlib.Decide.{ℕ-discrete}
-use native.Mathlib.Omega.{arith}
-use borrow.Author.Tests.{eq-eqb, ne-eqb, eqb-true, leb-true}
-use lib.Dec.{eqb, leb}
-use lib.ListN.{length, getD, take, drop}
-use lib.Seq.{take-all, take-add}
+use Rattle.octets.proofs.Words.{_≡_, refl, sym, ap, ap₂, _∙_, Bool, true, false, _&&_, and-eq-true-iff, List, [], _∷_, map, ℕ, _+_, _*_, _≤_, _<_, ℕ-discrete, arith, eq-eqb, ne-eqb, eqb-true, leb-true, eqb, leb, length, getD, take, drop, take-all, take-add}
 use Rattle.octets.specs.Layouts.{fields, bytes, Bytes}
-use Rattle.octets.specs.Lists.{tab, every}
+use Rattle.octets.specs.Lists.{tab, every, Each}
 use Rattle.octets.specs.Numbers.{num}
 use Rattle.octets.proofs.LayoutLaws.{fields-bytes, bytes-fields}
-use Rattle.octets.proofs.ListLaws.{length-tab, getD-tab, every-at}
+use Rattle.octets.proofs.ListLaws.{length-tab, getD-tab, every-at, map-same}
 use Rattle.octets.proofs.RunLaws.{run-read, run-kept}
 use Rattle.route_table.specs.declared.row.Row.{Row}
 use Rattle.route_table.specs.declared.table.Table.{Table}
 use Rattle.route_table.specs.Tables.{headOf}
 use Rattle.route_bytes.specs.TableBytes.{flag, rowWidths, rowValues, rowFrom, rowAt, rowsBytes, headWidths, headValues, tableFrom, tableIn, tableBytes, flagsOk, isTable}
-use Rattle.route_bytes.specs.TableTrips.{RowsFit, Sized, ReadsBack, WritesTables, WritesBack}
+use Rattle.route_bytes.specs.TableTrips.{RowFits, Sized, ReadsBack, WritesTables, WritesBack}
 use Rattle.route_bytes.proofs.TableByteLaws.{rows-run, length-head, length-table}
 
 -- ---- flags
@@ -46,9 +37,8 @@ flag-place s i =
     rw q
 
 -- ---- what was written, read
-rows-back : (rs : List Row) → map (λ r. rowFrom (rowValues r)) rs ≡ rs
-rows-back [] = refl
-rows-back (r ∷ rs) = rw (flag-back (r .withdrawn), rows-back rs)
+row-back : (r : Row) → rowFrom (rowValues r) ≡ r
+row-back r = rw (flag-back (r .withdrawn))
 
 flags-small : (rs : List Row) → every (λ v. leb v 1) (map (λ r. flag (r .withdrawn)) rs) ≡ true
 unfolding every
@@ -64,12 +54,12 @@ module _ (t : Table) (z : Sized t) where
       → tab 48 f ≡ map (λ r. say (rowValues r)) (t .rows)
   unfolding tableBytes
   all-read say f e =
-      rw (z .places) at (run-read rows-run RowsFit (λ r rs h. h) say f (t .rows) (bytes headWidths (headValues (headOf t))) 11 (length-head (headOf t)) (z .fit) e)
+      rw (z .places) at (run-read rows-run (Each RowFits) (λ r rs h. h) say f (t .rows) (bytes headWidths (headValues (headOf t))) 11 (length-head (headOf t)) (z .fit) e)
 
 pub reads-back : ReadsBack
 unfolding tableIn rowAt
 reads-back t z =
-    ap₂ tableFrom (head-read t z) (all-read t z rowFrom (rowAt (tableBytes t)) (λ i. refl) ∙ rows-back (t .rows)) ∙ rw (flag-back (t .forwarded))
+    ap₂ tableFrom (head-read t z) (all-read t z rowFrom (rowAt (tableBytes t)) (λ i. refl) ∙ map-same (λ r. rowFrom (rowValues r)) row-back (t .rows)) ∙ rw (flag-back (t .forwarded))
 
 pub writes-tables : WritesTables
 unfolding isTable

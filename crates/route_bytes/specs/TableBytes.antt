@@ -6,7 +6,7 @@ use mathlib.Core.Bool.{Bool, _&&_, cond}
 use mathlib.Core.List.{List, [], _∷_, _++_}
 use lib.Dec.{eqb, leb, ltb}
 use lib.ListN.{length, getD}
-use Rattle.octets.specs.Layouts.{fields, bytes}
+use Rattle.octets.specs.Layouts.{fields, bytes, inTurn}
 use Rattle.octets.specs.Lists.{tab, every}
 use Rattle.octets.specs.Numbers.{num}
 use Rattle.route_table.specs.declared.row.Row.{Row}
@@ -43,8 +43,7 @@ rowAt s i = rowFrom (fields rowWidths s (11 + 11 * i))
 
 -- the bytes of rows, one behind the other
 abbrev pub rowsBytes : List Row → List ℕ
-rowsBytes [] = []
-rowsBytes (r ∷ rs) = bytes rowWidths (rowValues r) ++ rowsBytes rs
+rowsBytes rs = inTurn rowWidths rowValues rs
 
 -- ---- a table
 abbrev pub headWidths : List ℕ

@@ -1,2 +1,2 @@
-// Stores: what a C caller keeps for us between two calls, as bytes of a fixed length.
+// A table as the bytes that a C caller keeps for us between two calls.
 pub mod tables;

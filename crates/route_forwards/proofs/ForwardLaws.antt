@@ -1,24 +1,16 @@
 -- Forwarding a beacon, from what its parts say.
 -- Assumes nothing.
-use mathlib.Core.Path.{_≡_, refl, sym, ap, _∙_}
-use mathlib.Core.Bool.{Bool, true, false, not, _&&_, cond, and-eq-true-iff, false≢true}
-use mathlib.Core.List.{List, [], _∷_, _++_}
-use Prim.Native.Nat.{ℕ, _+_, _*_, _≤_, _<_}
-use native.Mathlib.Omega.{arith}
-use borrow.Author.Tests.{ne-eqb, eqb-true, ltb-true, ltb-false, leb-true, le-leb, not-false}
-use lib.Dec.{eqb, leb, ltb}
-use lib.ListN.{length}
-use lib.Seq.{sets}
+use Rattle.octets.proofs.Words.{_≡_, refl, sym, ap, _∙_, Bool, true, false, not, _&&_, cond, and-eq-true-iff, false≢true, List, [], _∷_, _++_, ℕ, _+_, _*_, _≤_, _<_, arith, ne-eqb, eqb-true, ltb-true, ltb-false, leb-true, le-leb, not-false, eqb, leb, ltb, length, sets}
 use Rattle.octets.specs.Answers.{Reason, reason, refusing, first}
-use Rattle.octets.proofs.AnswerLaws.{Numbered, numbered, refusing-numbered, none-holds}
+use Rattle.octets.proofs.AnswerLaws.{Numbered, refusing-numbered, none-holds}
 use Rattle.moments.specs.Moments.{inOrder}
 use Rattle.frame_kinds.specs.Reading.{refusalAs}
-use Rattle.frame_kinds.specs.Rules as rules
+use Rattle.octets.specs.Addresses as rules
 use Rattle.frame_kinds.specs.Shape.{valuesIn}
 use Rattle.frame_kinds.proofs.ReadingLaws.{passed}
 use Rattle.frame_beacons.specs.declared.beacon.Beacon.{Beacon}
-use Rattle.frame_beacons.specs.Beacons.{beacon, beaconValues, beaconFrom, beaconRule}
-use Rattle.frame_writing.proofs.WritingLaws.{frame-length}
+use Rattle.frame_beacons.specs.Beacons.{beacon, beaconValues, beaconFrom}
+use Rattle.frame_kinds.proofs.StoredLaws.{frame-length}
 use Rattle.route_table.specs.declared.table.Changed.{Changed}
 use Rattle.route_table.specs.declared.table.Table.{Table}
 use Rattle.route_table.specs.Rows.{standing}
@@ -28,7 +20,7 @@ use Rattle.route_table.proofs.RuleLaws.{within-pad}
 use Rattle.route_table.proofs.StandingLaws.{standing-ascending}
 use Rattle.route_table.proofs.TableLaws.{within, few-stand}
 use Rattle.route_passing.specs.declared.Passing.{Passing}
-use Rattle.route_passing.specs.Passes.{again, ownHop, toForward, tableReasons, recorded, passReasons, passOf}
+use Rattle.route_passing.specs.Passes.{again, toForward, tableReasons, recorded, passReasons, passOf}
 use Rattle.route_bytes.specs.StoredTables.{TableLeft, tableLeft, storedTable, changedBy}
 use Rattle.route_bytes.specs.TableBytes.{tableIn, tableBytes, isTable}
 use Rattle.route_forwards.specs.Forwards as forwards
@@ -70,11 +62,11 @@ module _ (t : Table) (network : ℕ) (s : List ℕ) (delay time room : ℕ) wher
   onward e =
       let n = refusalAs beacon s in
       let none = none-holds reasons
-      (numbered _ 14 (λ z. omega arith), (refusing-numbered n, (numbered _ 4 (λ z. omega arith), (numbered _ 6 (λ z. omega arith), (numbered _ 15 (λ z. omega arith), (numbered _ 8 (λ z. omega arith), (numbered _ 11 (λ z. omega arith), (numbered _ 16 (λ z. omega arith), (numbered _ 4 (λ z. omega arith), (numbered _ 5 (λ z. omega arith), tt)))))))))) e in
+      (_, (refusing-numbered n, _)) e in
       let found = lookupOf t (p .«original_source») time in
       let ours = not-false (toForward (headOf t) found p) (none .1 .1 .1 .1 .1 .1 .1 .0) in
-      let (near, fresh) = and-eq-true-iff (eqb (ownHop found) (p .hop + 1) && ltb (p .hop) (p .«max_hops»)) (not (again (headOf t) p)) .0 ours in
-      let (next, below) = and-eq-true-iff (eqb (ownHop found) (p .hop + 1)) (ltb (p .hop) (p .«max_hops»)) .0 near in
+      let (near, fresh) = and-eq-true-iff (eqb (found .hops) (p .hop + 1) && ltb (p .hop) (p .«max_hops»)) (not (again (headOf t) p)) .0 ours in
+      let (next, below) = and-eq-true-iff (eqb (found .hops) (p .hop + 1)) (ltb (p .hop) (p .«max_hops»)) .0 near in
       record {
         right = not-false (withinRule t) (none .0);
         unread = eqb-true n 0 (not-false (eqb n 0) (none .1 .0));
@@ -88,27 +80,27 @@ module _ (t : Table) (network : ℕ) (s : List ℕ) (delay time room : ℕ) wher
 pub record Ruled (b : Beacon) : Type 0 where
   pub origin : rules.address (b .«original_source») ≡ true
   pub few : b .«max_hops» ≤ 10
-  pub passes : (own delay : ℕ) → rules.address own ≡ true → b .hop < b .«max_hops» → beaconRule (passedBy own delay b) ≡ true
+  pub passes : (own delay : ℕ) → rules.address own ≡ true → b .hop < b .«max_hops» → beacon .rule (beaconValues (passedBy own delay b)) [] ≡ true
 
-ten : (d a z n o l m h s i p : Bool) → (d && a && z && n && o && (l && m) && h && s && i && p) ≡ true
-    → (o ≡ true) × (m ≡ true) × ((a′ h′ : Bool) → a′ ≡ true → h′ ≡ true → (d && a′ && z && n && o && (l && m) && h′ && s && i && p) ≡ true)
+ten : (d a z n s i o l m h p : Bool) → (d && a && z && n && s && i && o && (l && m) && h && p) ≡ true
+    → (o ≡ true) × (m ≡ true) × ((a′ h′ : Bool) → a′ ≡ true → h′ ≡ true → (d && a′ && z && n && s && i && o && (l && m) && h′ && p) ≡ true)
 ten true true true true true true true true true true true e = (refl, refl, λ a′ h′ x y. rw (x, y))
 ten true true true true true true true true true true false e = absurd (false≢true e)
 ten true true true true true true true true true false p e = absurd (false≢true e)
-ten true true true true true true true true false i p e = absurd (false≢true e)
-ten true true true true true true true false s i p e = absurd (false≢true e)
-ten true true true true true true false h s i p e = absurd (false≢true e)
-ten true true true true true false m h s i p e = absurd (false≢true e)
-ten true true true true false l m h s i p e = absurd (false≢true e)
-ten true true true false o l m h s i p e = absurd (false≢true e)
-ten true true false n o l m h s i p e = absurd (false≢true e)
-ten true false z n o l m h s i p e = absurd (false≢true e)
-ten false a z n o l m h s i p e = absurd (false≢true e)
+ten true true true true true true true true false h p e = absurd (false≢true e)
+ten true true true true true true true false m h p e = absurd (false≢true e)
+ten true true true true true true false l m h p e = absurd (false≢true e)
+ten true true true true true false o l m h p e = absurd (false≢true e)
+ten true true true true false i o l m h p e = absurd (false≢true e)
+ten true true true false s i o l m h p e = absurd (false≢true e)
+ten true true false n s i o l m h p e = absurd (false≢true e)
+ten true false z n s i o l m h p e = absurd (false≢true e)
+ten false a z n s i o l m h p e = absurd (false≢true e)
 
-pub ruled : (b : Beacon) → beaconRule b ≡ true → Ruled b
+pub ruled : (b : Beacon) → beacon .rule (beaconValues b) [] ≡ true → Ruled b
 unfolding passedBy
 ruled b e =
-    let r = ten (eqb (b .destination) 0xFFFF) (rules.address (b .source)) (eqb (b .size) 27) (rules.network (b .network)) (rules.address (b .«original_source»)) (leb 1 (b .«max_hops»)) (leb (b .«max_hops») 10) (leb (b .hop) (b .«max_hops»)) (leb 1 (b .«total_slots») && leb (b .«total_slots») 100) (leb 1 (b .«slot_ms»)) (eqb (b .«superframe_ms») (b .«total_slots» * b .«slot_ms»)) e in
+    let r = ten (eqb (b .destination) 0xFFFF) (rules.address (b .source)) (eqb (b .size) 27) (rules.network (b .network)) (leb 1 (b .«total_slots») && leb (b .«total_slots») 100) (leb 1 (b .«slot_ms»)) (rules.address (b .«original_source»)) (leb 1 (b .«max_hops»)) (leb (b .«max_hops») 10) (leb (b .hop) (b .«max_hops»)) (eqb (b .«superframe_ms») (b .«total_slots» * b .«slot_ms»)) e in
     record {
       origin = r .0;
       few = leb-true (b .«max_hops») 10 (r .1);
@@ -131,7 +123,7 @@ module _ (t : Table) (network : ℕ) (s : List ℕ) (delay time room before behi
   last-reason = first-behind own (refusing behind ∷ []) (reason (ltb room 34) 5 ∷ []) (λ n. first-refusing behind ∙ r)
 
   front-numbered : Numbered front
-  front-numbered = (refusing-numbered (refusalAs beacon s), (numbered _ 4 (λ z. omega arith), tt))
+  front-numbered = (refusing-numbered (refusalAs beacon s), _)
 
   forward-number : first (passReasons t before network p delay time behind) ≡ forwardRefusal t network s delay time room
   unfolding forwardRefusal
@@ -151,11 +143,10 @@ module _ (t : Table) (network : ℕ) (s : List ℕ) (delay time : ℕ) (out : Li
   known = onward t network s delay time (length out) z
 
   -- the sums that it needs fit their fields, and it fits the buffer
-  pub sums-fit : (b : Beacon) → beaconValues b ≡ valuesIn beacon s → (b .hop + 1 ≤ 255) × (b .delay + delay ≤ 0xFFFFFFFF)
-  sums-fit b v = rw (beacon-in b s v) (omega (arith, known .below, read-ruled s (known .unread) .few), known .sum)
-
-  pub room-fits : 34 ≤ length out
-  room-fits = omega (arith, ltb-false (length out) (length (copyOf t delay s)) (known .fits), copy-length t delay s)
+  pub copy-fits : (b : Beacon) → beaconValues b ≡ valuesIn beacon s → (b .hop + 1 ≤ 255) × (b .delay + delay ≤ 0xFFFFFFFF) × (34 ≤ length out)
+  copy-fits b v =
+      rw (beacon-in b s v)
+      (omega (arith, known .below, read-ruled s (known .unread) .few), known .sum, omega (arith, ltb-false (length out) (length (copyOf t delay s)) (known .fits), copy-length t delay s))
 
 -- ---- the answers
 module _ (t : Table) (network : ℕ) (s : List ℕ) (delay time : ℕ) (out : List ℕ) (c : Changed)

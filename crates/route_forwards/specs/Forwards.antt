@@ -9,7 +9,7 @@ use lib.Seq.{sets}
 use Rattle.octets.specs.Answers.{Reason, reason, refusing, first}
 use Rattle.octets.specs.Calls.{after}
 use Rattle.frame_kinds.specs.Reading.{refusalAs}
-use Rattle.frame_kinds.specs.Rules as rules
+use Rattle.octets.specs.Addresses as rules
 use Rattle.frame_kinds.specs.Shape.{valuesIn, frameOf}
 use Rattle.frame_beacons.specs.declared.beacon.Beacon.{Beacon}
 use Rattle.frame_beacons.specs.Beacons.{beacon, beaconValues, beaconFrom}

@@ -3,14 +3,18 @@ ghost use mathlib.Core.Path.{_≡_};
 ghost use mathlib.Core.Bool.{not};
 ghost use mathlib.Core.List.{[], _∷_};
 ghost use Prim.Native.Nat.{_+_, _≤_};
+ghost use lib.ListN.{length};
+ghost use lib.Seq.{sets};
 ghost use Rattle.octets.specs.Answers.{reason, refusing, first};
 ghost use Rattle.frame_kinds.specs.Reading.{refusalAs};
-ghost use Rattle.frame_kinds.specs.Rules as rules;
+ghost use Rattle.frame_kinds.specs.Shape.{frameOf};
+ghost use Rattle.octets.specs.Addresses as rules;
 ghost use Rattle.frame_beacons.specs.Beacons as beacons;
+ghost use Rattle.frame_beacons.specs.Beacons.{beaconValues};
 ghost use Rattle.route_forwards.specs.Forwards.{passingOf, passedBy, passed, forwardOf, forwardedIn, forwardCall};
-use crate::writing::put_beacon;
 use frame_beacons::beacon::Beacon;
-use frame_reading::refusals;
+use frame_kinds::sealing::seal;
+use octets::answers::Refusal;
 use octets::answers::refuse_if;
 use octets::numbers::number16;
 use route_in_place::changing;
@@ -45,12 +49,12 @@ fn passing_of(beacon: Beacon) -> Passing
     }
 }
 
-// The copy that this unit sends.
-fn passed_by(own: u16, delay: u32, beacon: Beacon) -> Beacon
-    requires { ⌜ (beacon .hop + 1 ≤ 255) × (beacon .delay + delay ≤ 0xFFFFFFFF) ⌝ }
-    ensures { λ r. ⌜ r ≡ passedBy own delay beacon ⌝ }
+// Writes the copy that this unit sends. A beacon that was read keeps its rules, and so does its copy.
+fn put_copy(out: &mut [u8], own: u16, delay: u32, beacon: Beacon)
+    requires { ⌜ (beacon .hop + 1 ≤ 255) × (beacon .delay + delay ≤ 0xFFFFFFFF) × (34 ≤ length (now out)) ⌝ }
+    ensures { λ _. ⌜ now (out .exit) ≡ sets (now (out .entry)) 0 (frameOf beacons.beacon (beaconValues (passedBy own delay beacon)) []) ⌝ }
 {
-    Beacon {
+    let copy = Beacon {
         destination: beacon.destination,
         source: own,
         size: beacon.size,
@@ -65,15 +69,21 @@ fn passed_by(own: u16, delay: u32, beacon: Beacon) -> Beacon
         delay: beacon.delay + delay,
         max_hops: beacon.max_hops,
         sequence: beacon.sequence,
-    }
+    };
+    copy.put(out);
+    seal(out, 33);
 }
 
 // What refuses a frame before a table is asked: it is no beacon, or the caller has no network.
 fn unread(network: u16, frame: &[u8]) -> u8
     ensures { λ r. ⌜ r ≡ first (refusing (refusalAs beacons.beacon (now (frame .entry))) ∷ reason (not (rules.network network)) 4 ∷ []) ⌝ }
 {
-    let refused = refusals::beacon(frame);
-    refuse_if(!(refused == 0), refused, refuse_if(!(1 <= network), 4, 0))
+    let refused = Beacon::refusal(frame);
+    refuse_if(
+        !(refused == 0),
+        refused,
+        refuse_if(!(1 <= network), Refusal::FIELD, 0),
+    )
 }
 
 // Writes the copy, and records its pair and the time; the rows that are gone are dropped.
@@ -90,7 +100,7 @@ pub fn forward(
     let beacon = Beacon::of(frame);
     let passing = passing_of(beacon);
     let before = unread(network, frame);
-    let behind = refuse_if(out.len() < 34, 5, 0);
+    let behind = refuse_if(out.len() < 34, Refusal::ROOM, 0);
     let changed = pass(table, before, network, passing, delay, time, behind);
     let next = changed.table;
     if changed.refused != 0 {
@@ -100,7 +110,7 @@ pub fn forward(
             table: next,
         };
     }
-    put_beacon(out, passed_by(table.own, delay, beacon));
+    put_copy(out, table.own, delay, beacon);
     Forwarded {
         refused: 0,
         written: 34,
@@ -123,7 +133,7 @@ pub fn forward_in(
     let beacon = Beacon::of(frame);
     let passing = passing_of(beacon);
     let before = unread(network, frame);
-    let behind = refuse_if(out.len() < 34, 5, 0);
+    let behind = refuse_if(out.len() < 34, Refusal::ROOM, 0);
     let refused = changing::pass(table, before, network, passing, delay, time, behind);
     if refused != 0 {
         return ForwardedIn {
@@ -131,7 +141,7 @@ pub fn forward_in(
             written: 0,
         };
     }
-    put_beacon(out, passed_by(own, delay, beacon));
+    put_copy(out, own, delay, beacon);
     ForwardedIn {
         refused: 0,
         written: 34,

@@ -1,3 +1,2 @@
-// Forwards: beacons that a unit passes on, by a table by value or in bytes.
+// Beacons that a unit passes on, by a table by value or in bytes.
 pub mod forwarding;
-mod writing;

@@ -1,5 +1,4 @@
 pub mod FreshLaws
-pub mod LookupLaws
 pub mod StepLaws
 pub mod TableHistoryLaws
 pub mod TableRuleLaws

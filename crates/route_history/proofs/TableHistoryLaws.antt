@@ -1,98 +1,49 @@
--- The theorems on tables: freshness, the rule, refusals, gone rows.
+-- The theorems on tables: freshness, the rule, gone rows.
 -- Assumes nothing.
-use mathlib.Core.Path.{_≡_, refl, sym, ap, _∙_}
-use mathlib.Core.Bool.{Bool, true, false, not, _&&_, cond}
-use mathlib.Core.List.{List, [], _∷_}
-use Prim.Native.Nat.{ℕ}
-use native.Mathlib.Decide.{ℕ-discrete}
-use native.Mathlib.Omega.{arith}
-use borrow.Author.Tests.{ne-eqb, eqb-true, not-false}
-use lib.Dec.{eqb}
-use lib.ListN.{length, getD}
-use Rattle.octets.specs.Answers.{Said, accepted, first, unless}
-use Rattle.octets.specs.Told.{Wrote}
-use Rattle.octets.proofs.AnswerLaws.{unless-number, numbered, refusing-numbered, none-holds}
-use Rattle.frame_kinds.specs.Reading.{refusalAs}
-use Rattle.frame_traffic.specs.Traffic.{dataKind}
+use Rattle.octets.proofs.Words.{_≡_, sym, ap, subst, _∙_, true, false, false≢true, List, [], _∷_, ℕ, not-false, length}
+use Rattle.octets.specs.Answers.{first}
+use Rattle.octets.proofs.AnswerLaws.{unless-number, none-holds}
+use Rattle.moments.specs.Elapsed.{Clock, nowAt}
 use Rattle.route_table.specs.declared.table.Table.{Table}
-use Rattle.route_table.specs.Tables.{withinRule, freshOf, lookupOf}
+use Rattle.route_table.specs.Tables.{withinRule}
 use Rattle.route_table.proofs.DroppedLaws.{dropped-lookup, dropped-forget, dropped-forgets}
 use Rattle.route_table.proofs.KeepLaws.{fresh-within, forget-within}
+use Rattle.route_table.proofs.LookupLaws.{lookup-told, led}
 use Rattle.route_merges.proofs.KeepLaws.{merge-within, dropped-merge, dropped-merges}
 use Rattle.route_pages.specs.Pages.{pageFrame, pageOf, pageReasons}
-use Rattle.route_relays.specs.Relays.{dataIn, forUs, copyOf, relayRefusal, relayOf, relayReasons}
+use Rattle.route_relays.specs.Relays.{dataIn, Relaying}
 use Rattle.route_pages.proofs.AlikeLaws.{page-alike}
 use Rattle.route_relays.proofs.AlikeLaws.{relay-alike}
+use Rattle.route_relays.proofs.RelayLaws.{unrefused, onward, onto, relay-number, relay-ours}
 use Rattle.route_forwards.proofs.AlikeLaws.{forward-refused, forward-written, forward-held, forward-table}
 use Rattle.route_forwards.proofs.ForwardLaws.{forward-within}
-use Rattle.route_history.specs.TableCalls.{Call, merge, forget, forward, lookup, relay, page, next, answers, newTable, answer, Past, after, fresh}
-use Rattle.route_history.specs.TableLaws.{AnswersHeard, Freshness, Accounts, FreshnessFrom, KeepsRule, RefusedKeeps, StaysWithinRule, GoneRowsDoNotMatter}
+use Rattle.route_history.specs.TableCalls.{Call, merge, forget, forward, lookup, relay, page, Answer, answer, next}
+use Rattle.route_history.specs.TableLaws.{Times, Heard, AnswersHeard, FromFresh, Freshness, Accounts, FreshnessFrom, KeepsRule, StaysWithinRule, GoneRowsDoNotMatter}
 use Rattle.route_history.proofs.FreshLaws.{heard}
-use Rattle.route_history.proofs.LookupLaws.{answering, Found, found, with-values}
-use Rattle.route_history.proofs.StepLaws.{good-after, good-fresh, merge-kept, forget-kept, forward-kept}
-
--- ---- a relay that is not refused
-pub record Relayable (t : Table) (s : List ℕ) (time room : ℕ) : Type 0 where
-  pub within : withinRule t ≡ true
-  pub way : (not (forUs t s) && not (eqb (lookupOf t (dataIn s .destination) time .refusal) 0)) ≡ false
-
-relayable : (t : Table) (s : List ℕ) (time room : ℕ) → relayRefusal t s time room ≡ 0 → Relayable t s time room
-unfolding relayRefusal
-relayable t s time room e =
-    let n =
-    none-holds (relayReasons t s time room) (
-      numbered _ 14 (λ q. omega arith),
-      (
-        refusing-numbered (refusalAs dataKind s),
-        (numbered _ 6 (λ q. omega arith), (numbered _ 8 (λ q. omega arith), (numbered _ 10 (λ q. omega arith), (numbered _ 11 (λ q. omega arith), (numbered _ 5 (λ q. omega arith), tt))))),
-      ),
-    ) e in
-    record { within = not-false (withinRule t) (n .0); way = n .1 .1 .1 .1 .1 .0 }
-
--- a relay that answers a next hop looked it up
-module _ (t : Table) (s : List ℕ) (time : ℕ) (out : List ℕ) (hop more : ℕ) (e : relayOf t s time out .said ≡ accepted (hop ∷ more ∷ [])) where
-  abbrev d : ℕ
-  d = dataIn s .destination
-
-  unrefused : relayRefusal t s time (length out) ≡ 0
-  unfolding relayOf
-  unrefused = with-values _ hop (more ∷ []) _ e
-
-  onward : (us : Bool) → forUs t s ≡ us → Found t d time × (answering t d .«next_hop» ≡ hop)
-  unfolding relayOf
-  onward true q =
-      let said : accepted (dataIn s .count ∷ []) ≡ accepted (hop ∷ more ∷ []) = rw (unrefused, q) at e in
-      let l : _≡_ {A = ℕ} 1 2 = ap (λ (x : Said). length (x .values)) said in
-      absurd (omega arith)
-  onward false q =
-      let way = rw q at (relayable t s time (length out) unrefused .way) in
-      let f = found t d time (eqb-true _ 0 (not-false _ way)) in
-      let said : accepted (getD (lookupOf t d time .values) 0 0 ∷ length (copyOf s) ∷ []) ≡ accepted (hop ∷ more ∷ []) = rw (unrefused, q) at e in
-      (f, sym (ap (λ (x : Said). getD (x .values) 0 0) (f .said)) ∙ ap (λ (x : Said). getD (x .values) 0 0) said)
+use Rattle.route_history.proofs.StepLaws.{good-after, good-fresh}
 
 -- ---- freshness
-answers-heard : (p : Past) → Accounts p → AnswersHeard p
-answers-heard p a time hop more = (
-  λ d e.
-      let f = found (p .table) d time (ap (λ (x : Said). x .refusal) e) in
-      let same : answering (p .table) d .«next_hop» ≡ hop = sym (ap (λ (x : Said). getD (x .values) 0 0) (f .said)) ∙ ap (λ (x : Said). getD (x .values) 0 0) e in
-      rw (← same) (heard p d time a f),
-  λ s out e.
-      let (f, same) = onward (p .table) s time out hop more e (forUs (p .table) s) refl in
-      rw (← same) (heard p (dataIn s .destination) time a f),
+answers-heard : (t : Table) (k : Clock) (times : Times) → Accounts t k times → AnswersHeard t k times
+answers-heard t k times a time = (
+  λ d z. rw (lookup-told t d time z) (heard t k times a d time z),
+  λ s out z o.
+      let n = sym (relay-number t s time out) ∙ z in
+      let other = sym (relay-ours t s time out z) ∙ o in
+      subst (λ (w : Relaying). Heard (times (w .answer .«next_hop»)) (nowAt k time)) (onto t s time out n other)
+      (heard t k times a (dataIn s .destination) time (onward t s time (length out) n other .found)),
 )
 
-accounts-after : (own began : ℕ) (cs : List Call) → freshOf own began .refused ≡ 0 → Accounts (after (fresh own began) cs)
-accounts-after own began cs z = good-after (fresh own began) cs (good-fresh own began z) .accounts
+accounts-after : FromFresh Accounts
+accounts-after own began cs z = good-fresh own began cs z .accounts
 
 pub freshness : Freshness
-freshness own began cs z = answers-heard (after (fresh own began) cs) (accounts-after own began cs z)
+freshness own began cs z = answers-heard _ _ _ (accounts-after own began cs z)
 
 pub freshness-from : FreshnessFrom
-freshness-from = (accounts-after, λ p cs w a. answers-heard (after p cs) (good-after p cs (record { rule = w; accounts = a }) .accounts))
+freshness-from = (accounts-after, λ t k earlier cs w a. answers-heard _ _ _ (good-after t k earlier cs (record { rule = w; accounts = a }) .accounts))
 
 pub stays-within-rule : StaysWithinRule
-stays-within-rule own began cs z = good-after (fresh own began) cs (good-fresh own began z) .rule
+stays-within-rule own began cs z = good-fresh own began cs z .rule
 
 -- ---- the rule
 paged : (t : Table) (p time : ℕ) (out : List ℕ) → pageOf t p time out .said .refusal ≡ 0 → withinRule t ≡ true
@@ -100,67 +51,34 @@ unfolding pageOf
 paged t p time out e =
     let reasons = pageReasons t p time (length out) in
     let z : first reasons ≡ 0 = sym (unless-number (first reasons) (length (pageFrame t p time) ∷ [])) ∙ e in
-    not-false (withinRule t) (none-holds reasons (numbered _ 14 (λ q. omega arith), (numbered _ 8 (λ q. omega arith), (numbered _ 14 (λ q. omega arith), (numbered _ 5 (λ q. omega arith), tt)))) z .0)
-
--- the number of a relay
-pub relay-number : (t : Table) (s : List ℕ) (time : ℕ) (out : List ℕ) → relayOf t s time out .said .refusal ≡ relayRefusal t s time (length out)
-unfolding relayOf
-relay-number t s time out = number (forUs t s)
-  where
-    told : Bool → Said
-    told us = cond us (accepted (dataIn s .count ∷ [])) (accepted (getD (lookupOf t (dataIn s .destination) time .values) 0 0 ∷ length (copyOf s) ∷ []))
-
-    number : (us : Bool) → unless (relayRefusal t s time (length out)) (told us) .refusal ≡ relayRefusal t s time (length out)
-    number true = unless-number _ _
-    number false = unless-number _ _
-
-relayed : (t : Table) (s : List ℕ) (time : ℕ) (out : List ℕ) → relayOf t s time out .said .refusal ≡ 0 → withinRule t ≡ true
-relayed t s time out e = relayable t s time (length out) (sym (relay-number t s time out) ∙ e) .within
+    not-false (withinRule t) (none-holds reasons _ z .0)
 
 pub keeps-rule : KeepsRule
 keeps-rule = (fresh-within, every-call)
   where
-    every-call : (t : Table) (c : Call) → answer t c .said .refusal ≡ 0 → withinRule (next t c) ≡ true
-    every-call t (merge s quality time) e = merge-within t s quality time (sym (unless-number _ _) ∙ e)
-    every-call t (forget unit time) e = forget-within t unit time (sym (unless-number _ _) ∙ e)
-    every-call t (forward network s delay time out) e = forward-within t network s delay time out (sym (unless-number _ _) ∙ e)
-    every-call t (lookup d time) e = found t d time e .within
-    every-call t (relay s time out) e = relayed t s time out e
+    every-call : (t : Table) (c : Call) → answer t c .refused ≡ 0 → withinRule (next t c) ≡ true
+    every-call t (merge s quality time) e = merge-within t s quality time e
+    every-call t (forget unit time) e = forget-within t unit time e
+    every-call t (forward network s delay time out) e = forward-within t network s delay time out e
+    every-call t (lookup d time) e = led t d time e .within
+    every-call t (relay s time out) e = unrefused t s time (length out) (sym (relay-number t s time out) ∙ e) .0
     every-call t (page p time out) e = paged t p time out e
 
--- ---- refusals
-pub refused-keeps : RefusedKeeps
-refused-keeps t (merge s quality time) z = merge-kept t s quality time (λ e. z (unless-number _ _ ∙ e))
-refused-keeps t (forget unit time) z = forget-kept t unit time (λ e. z (unless-number _ _ ∙ e))
-refused-keeps t (forward network s delay time out) z = forward-kept t network s delay time out (λ e. z (unless-number _ _ ∙ e))
-refused-keeps t (lookup d time) z = refl
-refused-keeps t (relay s time out) z = refl
-refused-keeps t (page p time out) z = refl
-
 -- ---- gone rows
--- two calls that are refused alike, and give one table where they are not
-same-table : (m n : ℕ) (a b : Table) → m ≡ n → (n ≡ 0 → a ≡ b) → newTable m a ≡ newTable n b
-same-table m n a b e h = go (ℕ-discrete n 0)
-  where
-    go : Dec (n ≡ 0) → newTable m a ≡ newTable n b
-    go (yes z) = rw (e, h z)
-    go (no z) = rw (e, ne-eqb n 0 z)
+-- the answer to a call that is not about a next hop
+abbrev plain : ℕ → ℕ → ℕ → List ℕ → Answer
+plain refused skipped size held = record { refused = refused; ours = false; nextHop = 0; hops = 0; skipped = skipped; size = size; held = held }
 
 pub gone-rows-do-not-matter : GoneRowsDoNotMatter
 gone-rows-do-not-matter t (merge s quality time) e =
     let (refusal, skipped) = dropped-merge t s quality time e in
-    let tables = same-table _ _ _ _ refusal (dropped-merges t s quality time e) in
-    λ i. answers (unless (refusal i) (accepted (skipped i ∷ []))) [] (tables i)
-gone-rows-do-not-matter t (forget unit time) e =
-    let refusal = dropped-forget time t e unit in
-    let tables = same-table _ _ _ _ refusal (dropped-forgets time t e unit) in
-    λ i. answers (unless (refusal i) (accepted [])) [] (tables i)
+    (λ i. plain (refusal i) (skipped i) 0 [], λ z c. dropped-merges t s quality time e z)
+gone-rows-do-not-matter t (forget unit time) e = (ap (λ (n : ℕ). plain n 0 0 []) (dropped-forget time t e unit), λ z c. dropped-forgets time t e unit z)
 gone-rows-do-not-matter t (forward network s delay time out) e =
     let refusal = forward-refused time t e network s delay out in
     let written = forward-written time t e network s delay out in
     let held = forward-held time t e network s delay out in
-    let tables = same-table _ _ _ _ refusal (forward-table time t e network s delay out) in
-    λ i. answers (unless (refusal i) (accepted (written i ∷ []))) (held i) (tables i)
-gone-rows-do-not-matter t (lookup d time) e = ap (λ (said : Said). answers said [] []) (dropped-lookup time t e d)
-gone-rows-do-not-matter t (relay s time out) e = ap (λ (w : Wrote). answers (w .said) (w .held) []) (relay-alike time t e s out)
-gone-rows-do-not-matter t (page p time out) e = ap (λ (w : Wrote). answers (w .said) (w .held) []) (page-alike time t e p out)
+    (λ i. plain (refusal i) 0 (written i) (held i), λ z c. forward-table time t e network s delay out z)
+gone-rows-do-not-matter t (lookup d time) e = (rw (dropped-lookup time t e d), λ z c. absurd (false≢true c))
+gone-rows-do-not-matter t (relay s time out) e = (rw (relay-alike time t e s out), λ z c. absurd (false≢true c))
+gone-rows-do-not-matter t (page p time out) e = (rw (page-alike time t e p out), λ z c. absurd (false≢true c))

@@ -1,19 +1,11 @@
 -- Elapsed time of a table is true time.
 -- Assumes nothing.
-use mathlib.Core.Path.{_≡_, refl, sym}
-use mathlib.Core.List.{List, [], _∷_}
-use Prim.Native.Nat.{_%_, _^_}
-use Rattle.moments.specs.Elapsed.{clockAfter}
+use Rattle.octets.proofs.Words.{refl, map, _%_, _^_}
 use Rattle.moments.proofs.ElapsedLaws.{true-time}
-use Rattle.route_history.specs.TableCalls.{Call, stepsOf, Past, followed, after, fresh}
+use Rattle.route_table.specs.Tables.{freshOf}
+use Rattle.route_history.specs.TableCalls.{recorded, stepOf}
 use Rattle.route_history.specs.TableLaws.{TrueTime}
-
--- the clock of a history goes over its calls as steps
-pub clock-after : (p : Past) (cs : List Call) → after p cs .clock ≡ clockAfter (p .clock) (stepsOf (p .table) cs)
-clock-after p [] = refl
-clock-after p (c ∷ cs) = clock-after (followed p c) cs
 
 pub table-time : TrueTime
 table-time own began cs nows timely =
-    let p = fresh own (began % 2 ^ 32) in
-    rw (clock-after p cs) (true-time began (began % 2 ^ 32) (stepsOf (p .table) cs) nows refl timely)
+    true-time began (began % 2 ^ 32) (map stepOf (recorded (freshOf own (began % 2 ^ 32) .table) cs)) nows refl timely

@@ -1,14 +1,14 @@
--- Calls on a unit's table of routes, one after the other, from a fresh table on; the time that elapses over them, and the log of the updates that were accepted
--- on the way.
+-- Calls on a unit's table of routes, one after the other; what each of them gives; and what the record of calls and answers alone says: the time that
+-- elapses, and when updates from a unit were accepted.
 -- Assumes nothing.
 use Prim.Native.Nat.{ℕ}
 use mathlib.Core.Bool.{Bool, true, false, _&&_, cond}
-use mathlib.Core.List.{List, [], _∷_}
+use mathlib.Core.List.{List, [], _∷_, map}
 use lib.Dec.{eqb}
-use Rattle.octets.specs.Answers.{Said, accepted, unless}
-use Rattle.moments.specs.Elapsed.{Clock, started, nowAt, Step, moved}
+use Rattle.octets.specs.Told.{writtenIn}
+use Rattle.moments.specs.Elapsed.{Clock, nowAt, Step, moved, clockAfter}
 use Rattle.route_table.specs.declared.table.Table.{Table}
-use Rattle.route_table.specs.Tables.{freshOf, lookupOf, forgetOf}
+use Rattle.route_table.specs.Tables.{lookupOf, forgetOf}
 use Rattle.route_merges.specs.Merges.{updateIn, mergeOf}
 use Rattle.route_forwards.specs.Forwards.{forwardOf}
 use Rattle.route_pages.specs.Pages.{pageOf}
@@ -29,103 +29,103 @@ pub data Call : Type 0 where
   -- a page's number, the time, the buffer
   page : ℕ → ℕ → List ℕ → Call
 
--- when a call is made
+-- ---- what a call is about
+-- its time; whether it changes the table, if it is accepted; and whether it brings an update from a unit
+pub record About : Type 0 where
+  pub time : ℕ
+  pub changes : Bool
+  pub brings : ℕ → Bool
+
+-- of a call that brings none
+abbrev changing : ℕ → Bool → About
+changing time changes = record { time = time; changes = changes; brings = λ unit. false }
+
+abbrev pub about : Call → About
+about (merge s quality time) = record { time = time; changes = true; brings = λ unit. eqb (updateIn s .origin) unit }
+about (forget unit time) = changing time true
+about (forward network s delay time out) = changing time true
+about (lookup d time) = changing time false
+about (relay s time out) = changing time false
+about (page p time out) = changing time false
+
 abbrev pub timeOf : Call → ℕ
-timeOf (merge s quality time) = time
-timeOf (forget unit time) = time
-timeOf (forward network s delay time out) = time
-timeOf (lookup d time) = time
-timeOf (relay s time out) = time
-timeOf (page p time out) = time
+timeOf c = about c .time
 
--- the table after a call: merge, forget and forward hand one back, also where they are refused; the others only read
-abbrev pub next : Table → Call → Table
-next t (merge s quality time) = mergeOf t s quality time .table
-next t (forget unit time) = forgetOf t unit time .table
-next t (forward network s delay time out) = forwardOf t network s delay time out .answer .table
-next t (lookup d time) = t
-next t (relay s time out) = t
-next t (page p time out) = t
-
--- what a call answers: its number and values, what its buffer then holds, and, of an accepted call that changes a table, the new one
+-- ---- what a call gives
+-- what its caller sees: the number, and by name what the call gives, 0 where it gives no such thing: whether a frame is for this unit, a next hop and its
+-- hops, how many candidates found no room, how many bytes were written or are a payload's; and what its buffer then holds
 pub record Answer : Type 0 where
-  pub said : Said
+  pub refused : ℕ
+  pub ours : Bool
+  pub nextHop : ℕ
+  pub hops : ℕ
+  pub skipped : ℕ
+  pub size : ℕ
   pub held : List ℕ
-  pub changed : List Table
 
-abbrev pub answers : Said → List ℕ → List Table → Answer
-answers said held changed = record { said = said; held = held; changed = changed }
+-- and the table after it
+pub record Outcome : Type 0 where
+  pub answer : Answer
+  pub table : Table
 
-abbrev pub newTable : ℕ → Table → List Table
-newTable refused t = cond (eqb refused 0) (t ∷ []) []
+-- of a call that gives a number, and may fill a buffer
+abbrev gives : ℕ → ℕ → List ℕ → Table → Outcome
+gives refused size held table =
+    record { answer = record { refused = refused; ours = false; nextHop = 0; hops = 0; skipped = 0; size = size; held = held }; table = table }
+
+-- merge, forget and forward hand a table back, also where they are refused; the others only read
+abbrev pub outcome : Table → Call → Outcome
+outcome t (merge s quality time) =
+    let m = mergeOf t s quality time in
+    record { answer = record { refused = m .refused; ours = false; nextHop = 0; hops = 0; skipped = m .skipped; size = 0; held = [] }; table = m .table }
+outcome t (forget unit time) = let f = forgetOf t unit time in gives (f .refused) 0 [] (f .table)
+outcome t (forward network s delay time out) =
+    let f = forwardOf t network s delay time out in
+    gives (f .answer .refused) (f .answer .written) (f .held) (f .answer .table)
+outcome t (lookup d time) =
+    let f = lookupOf t d time in
+    record { answer = record { refused = f .refused; ours = false; nextHop = f .«next_hop»; hops = f .hops; skipped = 0; size = 0; held = [] }; table = t }
+outcome t (relay s time out) =
+    let r = relayOf t s time out in
+    let a = r .answer in
+    record { answer = record { refused = a .refused; ours = a .ours; nextHop = a .«next_hop»; hops = 0; skipped = 0; size = a .size; held = r .held }; table = t }
+outcome t (page p time out) = let w = pageOf t p time out in gives (w .said .refusal) (writtenIn w) (w .held) t
 
 abbrev pub answer : Table → Call → Answer
-answer t (merge s quality time) =
-    let m = mergeOf t s quality time in
-    answers (unless (m .refused) (accepted (m .skipped ∷ []))) [] (newTable (m .refused) (m .table))
-answer t (forget unit time) =
-    let f = forgetOf t unit time in
-    answers (unless (f .refused) (accepted [])) [] (newTable (f .refused) (f .table))
-answer t (forward network s delay time out) =
-    let f = forwardOf t network s delay time out in
-    answers (unless (f .answer .refused) (accepted (f .answer .written ∷ []))) (f .held) (newTable (f .answer .refused) (f .answer .table))
-answer t (lookup d time) = answers (lookupOf t d time) [] []
-answer t (relay s time out) = answers (relayOf t s time out .said) (relayOf t s time out .held) []
-answer t (page p time out) = answers (pageOf t p time out .said) (pageOf t p time out .held) []
+answer t c = outcome t c .answer
 
--- ---- elapsed time, from the calls alone
--- which calls change the table, if they are accepted
-abbrev pub changes : Call → Bool
-changes (merge s quality time) = true
-changes (forget unit time) = true
-changes (forward network s delay time out) = true
-changes (lookup d time) = false
-changes (relay s time out) = false
-changes (page p time out) = false
+abbrev pub next : Table → Call → Table
+next t c = outcome t c .table
 
--- a call as a step of elapsed time, and calls one after the other
-abbrev pub stepOf : Table → Call → Step
-stepOf t c = record { time = timeOf c; changes = eqb (answer t c .said .refusal) 0 && changes c }
+-- ---- calls one after the other
+abbrev pub afterCalls : Table → List Call → Table
+afterCalls t [] = t
+afterCalls t (c ∷ cs) = afterCalls (next t c) cs
 
-abbrev pub stepsOf : Table → List Call → List Step
-stepsOf t [] = []
-stepsOf t (c ∷ cs) = stepOf t c ∷ stepsOf (next t c) cs
+-- a call with the number that it was answered with, and those of a history in their order
+pub record Happened : Type 0 where
+  pub call : Call
+  pub refused : ℕ
 
--- ---- what is known of a table
--- an update that was accepted: from which unit, and the ms that had elapsed
-pub record Update : Type 0 where
-  pub from : ℕ
-  pub at : ℕ
+abbrev pub recorded : Table → List Call → List Happened
+recorded t [] = []
+recorded t (c ∷ cs) = record { call = c; refused = answer t c .refused } ∷ recorded (next t c) cs
 
--- the log after a call: a merge that answers 0 adds its update, its frame's origin, by the clock before it; nothing else does
-abbrev pub logged : Table → Call → Clock → List Update → List Update
-logged t (merge s quality time) k log =
-    cond (eqb (mergeOf t s quality time .refused) 0) (record { from = updateIn s .origin; at = nowAt k time } ∷ log) log
-logged t (forget unit time) k log = log
-logged t (forward network s delay time out) k log = log
-logged t (lookup d time) k log = log
-logged t (relay s time out) k log = log
-logged t (page p time out) k log = log
+-- ---- from the record alone
+-- what happened, as a step of elapsed time
+abbrev pub stepOf : Happened → Step
+stepOf h = record { time = timeOf (h .call); changes = eqb (h .refused) 0 && about (h .call) .changes }
 
--- a table, the clock of the calls on the way to it, and the updates that were accepted, the last first
-pub record Past : Type 0 where
-  pub table : Table
-  pub clock : Clock
-  pub log : List Update
+-- the clock after what happened
+abbrev pub clockOf : Clock → List Happened → Clock
+clockOf k hs = clockAfter k (map stepOf hs)
 
-abbrev pub followed : Past → Call → Past
-followed p c =
-    record { table = next (p .table) c; clock = moved (p .clock) (stepOf (p .table) c); log = logged (p .table) c (p .clock) (p .log) }
+-- an update from a unit was accepted
+abbrev pub heardOf : ℕ → Happened → Bool
+heardOf unit h = eqb (h .refused) 0 && about (h .call) .brings unit
 
-abbrev pub after : Past → List Call → Past
-after p [] = p
-after p (c ∷ cs) = after (followed p c) cs
-
--- a fresh table, with no update yet
-abbrev pub fresh : ℕ → ℕ → Past
-fresh own time = record { table = freshOf own time .table; clock = started time; log = [] }
-
--- at which elapsed ms updates from a unit were accepted, the last first
-abbrev pub timesFrom : ℕ → List Update → List ℕ
-timesFrom unit [] = []
-timesFrom unit (u ∷ us) = cond (eqb (u .from) unit) (u .at ∷ timesFrom unit us) (timesFrom unit us)
+-- at which elapsed ms updates from a unit were accepted, the last first: those before what happened, by the clock then, and those that it adds
+abbrev pub heardFrom : ℕ → Clock → List ℕ → List Happened → List ℕ
+heardFrom unit k earlier [] = earlier
+heardFrom unit k earlier (h ∷ hs) =
+    heardFrom unit (moved k (stepOf h)) (cond (heardOf unit h) (nowAt k (timeOf (h .call)) ∷ earlier) earlier) hs

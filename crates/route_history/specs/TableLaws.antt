@@ -1,13 +1,12 @@
 -- What holds of every table that comes from a fresh one or a stored one, as statements.
 -- Assumes nothing.
 use mathlib.Core.Path.{_≡_}
-use mathlib.Core.Bool.{Bool, true, false, not, _||_}
-use mathlib.Core.List.{List, [], _∷_}
+use mathlib.Core.Bool.{Bool, true, false, not, _&&_, _||_}
+use mathlib.Core.List.{List, [], _∷_, map}
 use Prim.Native.Nat.{ℕ, _+_, _%_, _^_, _≤_}
 use lib.Dec.{leb}
-use Rattle.octets.specs.Answers.{accepted}
 use Rattle.octets.specs.Lists.{every}
-use Rattle.moments.specs.Elapsed.{nowAt, lastOf, Timely, IsTrue}
+use Rattle.moments.specs.Elapsed.{Clock, started, nowAt, lastOf, Timely, IsTrue}
 use Rattle.moments.specs.Moments.{ageAt}
 use Rattle.route_table.specs.declared.row.Row.{Row}
 use Rattle.route_table.specs.declared.table.Table.{Table}
@@ -15,76 +14,91 @@ use Rattle.route_table.specs.Rows.{standing}
 use Rattle.route_table.specs.Tables.{rowsOf, withinRule, dropped, freshOf, lookupOf}
 use Rattle.route_pages.specs.Pages.{pageThere}
 use Rattle.route_relays.specs.Relays.{relayOf}
-use Rattle.route_history.specs.TableCalls.{Call, merge, forget, forward, lookup, relay, page, timeOf, next, answer, stepsOf, Update, Past, after, fresh, timesFrom}
+use Rattle.route_history.specs.TableCalls.{Call, merge, forget, forward, lookup, relay, page, about, timeOf, answer, next, afterCalls, recorded, stepOf, clockOf, heardFrom}
 
 -- ---- freshness
--- updates from this unit have been accepted, and the last of them no later than now and at most 300,000 ms before, in elapsed ms
-pub record Heard (log : List Update) (unit now : ℕ) : Type 0 where
+-- when updates from each unit were accepted, in elapsed ms, the last first
+abbrev pub Times : Type 0
+Times = ℕ → List ℕ
+
+-- some were, and the last of them no later than now and at most 300,000 ms before
+pub record Heard (times : List ℕ) (now : ℕ) : Type 0 where
   pub last : ℕ
   pub earlier : List ℕ
-  pub were : timesFrom unit log ≡ last ∷ earlier
+  pub were : times ≡ last ∷ earlier
   pub past : last ≤ now
   pub recent : now ≤ last + 300000
 
 -- where a lookup or a relay answers a next hop, that unit was heard
-abbrev pub AnswersHeard : Past → Type 0
-AnswersHeard p =
-    (time hop more : ℕ)
-    → let now = nowAt (p .clock) time in
-    ((d : ℕ) → lookupOf (p .table) d time ≡ accepted (hop ∷ more ∷ []) → Heard (p .log) hop now)
-    × ((s out : List ℕ) → relayOf (p .table) s time out .said ≡ accepted (hop ∷ more ∷ []) → Heard (p .log) hop now)
+abbrev pub AnswersHeard : Table → Clock → Times → Type 0
+AnswersHeard t k times =
+    (time : ℕ)
+    → ((d : ℕ) → let found = lookupOf t d time in found .refused ≡ 0 → Heard (times (found .«next_hop»)) (nowAt k time))
+    × ((s out : List ℕ)
+    → let relayed = relayOf t s time out .answer in relayed .refused ≡ 0 → relayed .ours ≡ false → Heard (times (relayed .«next_hop»)) (nowAt k time))
 
--- so it is from a fresh table on, over any list of calls, accepted or refused
+-- a statement about a table, its clock and when units were heard, said of them after a list of calls, accepted or refused, by the record of these
+abbrev pub After : (Table → Clock → Times → Type 0) → Table → Clock → Times → List Call → Type 0
+After P t k earlier cs =
+    let happened = recorded t cs in P (afterCalls t cs) (clockOf k happened) (λ unit. heardFrom unit k (earlier unit) happened)
+
+-- from a fresh table on, when nobody was heard yet
+abbrev pub FromFresh : (Table → Clock → Times → Type 0) → Type 0
+FromFresh P =
+    (own began : ℕ) (cs : List Call) → freshOf own began .refused ≡ 0 → After P (freshOf own began .table) (started began) (λ unit. []) cs
+
 abbrev pub Freshness : Type 0
-Freshness = (own began : ℕ) (cs : List Call) → freshOf own began .refused ≡ 0 → AnswersHeard (after (fresh own began) cs)
+Freshness = FromFresh AnswersHeard
 
 -- the first of some elapsed times is at most this age before now
 abbrev pub since : ℕ → ℕ → List ℕ → Bool
 since now age [] = false
 since now age (last ∷ earlier) = leb now (last + age)
 
--- a log bears a row, now and at this time: the row is withdrawn, or updates from its next hop are logged, the last of them no older than the row
-abbrev pub borne : ℕ → ℕ → List Update → Row → Bool
-borne now time log r = r .withdrawn || since now (ageAt time (r .time)) (timesFrom (r .«next_hop») log)
+-- a row is borne, now and at this time, by when units were heard: it is withdrawn, or its next hop was heard, the last time no longer ago than the row is old
+abbrev pub borne : ℕ → ℕ → Times → Row → Bool
+borne now time times r = r .withdrawn || since now (ageAt time (r .time)) (times (r .«next_hop»))
 
--- an update was logged no later than now
-abbrev pub before : ℕ → Update → Bool
-before now u = leb (u .at) now
+-- some elapsed times are no later than now
+abbrev pub before : ℕ → List ℕ → Bool
+before now [] = true
+before now (last ∷ earlier) = leb last now && before now earlier
 
--- a log accounts for a table: its clock shows the table's last accepted time, and by then the log bears every row and has no later update
-pub record Accounts (p : Past) : Type 0 where
-  pub shown : p .clock .last ≡ p .table .time
-  pub rows : every (borne (p .clock .elapsed) (p .table .time) (p .log)) (rowsOf (p .table)) ≡ true
-  pub past : every (before (p .clock .elapsed)) (p .log) ≡ true
+-- a clock, and when units were heard, account for a table: the clock shows the table's last accepted time, and by then every row is borne and nobody was
+-- heard later
+pub record Accounts (t : Table) (k : Clock) (times : Times) : Type 0 where
+  pub shown : k .last ≡ t .time
+  pub rows : every (borne (k .elapsed) (t .time) times) (rowsOf t) ≡ true
+  pub past : (unit : ℕ) → before (k .elapsed) (times unit) ≡ true
 
--- a log along a history accounts for its table; and from any table within rule on whose log accounts for it, as one that was stored with its log, every
--- next hop that is answered was heard
+-- along a history they account for its table; and from any table within rule on for which they do, as one that was stored with them, every next hop that
+-- is answered was heard
 abbrev pub FreshnessFrom : Type 0
 FreshnessFrom =
-    ((own began : ℕ) (cs : List Call) → freshOf own began .refused ≡ 0 → Accounts (after (fresh own began) cs))
-    × ((p : Past) (cs : List Call) → withinRule (p .table) ≡ true → Accounts p → AnswersHeard (after p cs))
+    FromFresh Accounts
+    × ((t : Table) (k : Clock) (earlier : Times) (cs : List Call) → withinRule t ≡ true → Accounts t k earlier → After AnswersHeard t k earlier cs)
 
 -- where calls are made in time, as document 02 asks, elapsed time is true time: the next hop's last update is at most 300,000 true ms old
 abbrev pub TrueTime : Type 0
 TrueTime =
     (own began : ℕ) (cs : List Call) (nows : List ℕ)
-    → let p = fresh own (began % 2 ^ 32) in
-    let ss = stepsOf (p .table) cs in Timely began ss nows → IsTrue began (after p cs .clock) (lastOf began ss nows)
+    → let happened = recorded (freshOf own (began % 2 ^ 32) .table) cs in
+    let ss = map stepOf happened in Timely began ss nows → IsTrue began (clockOf (started (began % 2 ^ 32)) happened) (lastOf began ss nows)
 
 -- ---- the rule
 -- a fresh table is within rule, and so is the table after every accepted call
 abbrev pub KeepsRule : Type 0
 KeepsRule =
     ((own time : ℕ) → freshOf own time .refused ≡ 0 → withinRule (freshOf own time .table) ≡ true)
-    × ((t : Table) (c : Call) → answer t c .said .refusal ≡ 0 → withinRule (next t c) ≡ true)
+    × ((t : Table) (c : Call) → answer t c .refused ≡ 0 → withinRule (next t c) ≡ true)
 
 -- a call that is refused leaves the table as it was
 abbrev pub RefusedKeeps : Type 0
-RefusedKeeps = (t : Table) (c : Call) → (answer t c .said .refusal ≡ 0 → ⊥) → next t c ≡ t
+RefusedKeeps = (t : Table) (c : Call) → (answer t c .refused ≡ 0 → ⊥) → next t c ≡ t
 
 -- every table that comes from a fresh one is within rule, so that along a history no call is refused for its table
 abbrev pub StaysWithinRule : Type 0
-StaysWithinRule = (own began : ℕ) (cs : List Call) → freshOf own began .refused ≡ 0 → withinRule (after (fresh own began) cs .table) ≡ true
+StaysWithinRule = (own began : ℕ) (cs : List Call) → freshOf own began .refused ≡ 0 → withinRule (afterCalls (freshOf own began .table) cs) ≡ true
 
 -- 14 is only for a page that is not there
 abbrev pub wrongPage : Table → Call → Bool
@@ -98,9 +112,12 @@ wrongPage t (page p time out) = not (pageThere (standing time (rowsOf t)) p)
 abbrev pub OnlyForPages : Type 0
 OnlyForPages =
     (own began : ℕ) (cs : List Call) (c : Call) → freshOf own began .refused ≡ 0
-    → let t = after (fresh own began) cs .table in answer t c .said .refusal ≡ 14 → wrongPage t c ≡ true
+    → let t = afterCalls (freshOf own began .table) cs in answer t c .refused ≡ 14 → wrongPage t c ≡ true
 
 -- ---- gone rows
--- a table and the same table without the rows that are gone answer every call alike
+-- a table and the same table without the rows that are gone answer every call alike, and an accepted call that changes them makes one table of both
 abbrev pub GoneRowsDoNotMatter : Type 0
-GoneRowsDoNotMatter = (t : Table) (c : Call) → withinRule t ≡ true → answer (dropped (timeOf c) t) c ≡ answer t c
+GoneRowsDoNotMatter =
+    (t : Table) (c : Call) → withinRule t ≡ true
+    → let without = dropped (timeOf c) t in
+    (answer without c ≡ answer t c) × (answer t c .refused ≡ 0 → about c .changes ≡ true → next without c ≡ next t c)

@@ -1,21 +1,14 @@
 -- The calls that change a table where it lies, from what its parts say.
 -- Assumes nothing.
-use mathlib.Core.Path.{_≡_, refl, sym, _∙_}
-use mathlib.Core.Bool.{Bool, true, false, not, cond, and-false, and-eq-true-iff}
-use mathlib.Core.List.{List, [], _∷_, _++_, map, append-nil}
-use Prim.Native.Nat.{ℕ, _+_, _*_, _-_, _≤_}
-use native.Mathlib.Omega.{arith}
-use borrow.Author.Tests.{ne-eqb}
-use lib.Dec.{eqb}
-use lib.ListN.{length, take, drop, replicate}
-use lib.Seq.{sets, sets-eq, length-sets, drop-at, length-take-le, drop-length}
-use Rattle.octets.specs.Answers.{Said, first}
+use Rattle.octets.proofs.Words.{_≡_, refl, sym, _∙_, Bool, true, false, not, cond, and-false, and-eq-true-iff, List, [], _∷_, _++_, map, append-nil, ℕ, _+_, _*_, _-_, _≤_, arith, ne-eqb, eqb, length, take, drop, replicate, sets, sets-eq, length-sets, drop-at, length-take-le, drop-length}
+use Rattle.octets.specs.Answers.{first}
 use Rattle.octets.specs.Layouts.{bytes}
 use Rattle.octets.specs.Lists.{every}
 use Rattle.octets.proofs.RunLaws.{run-length}
-use Rattle.frame_kinds.proofs.RuleLaws.{address-least}
+use Rattle.octets.proofs.AddressLaws.{address-least}
 use Rattle.route_table.specs.declared.row.Row.{Row}
 use Rattle.route_table.specs.declared.table.Changed.{Changed}
+use Rattle.route_table.specs.declared.table.Found.{Found}
 use Rattle.route_table.specs.declared.table.Head.{Head}
 use Rattle.route_table.specs.declared.table.Table.{Table}
 use Rattle.route_table.specs.Rows.{usable, rowRule, forgotten, pad, standing, rowFor}
@@ -106,7 +99,7 @@ pub record Asked (s : List ℕ) (before network : ℕ) (p : Passing) (delay time
   pub holds : holdsTable s ≡ true
   pub head : Head
   pub row : Row
-  pub found : Said
+  pub found : Found
   pub why : ℕ
   pub headed : head ≡ headOf (tableIn s)
   pub looked : row ≡ rowFor (p .«original_source») (rowsIn s)

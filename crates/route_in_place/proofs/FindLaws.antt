@@ -1,17 +1,11 @@
 -- The rows of a table that lies in bytes, place by place: one looked up, the standing ones gathered; and a lookup.
 -- Assumes nothing.
-use mathlib.Core.Path.{_≡_, refl, sym, _∙_}
-use mathlib.Core.Bool.{true, false, cond}
-use mathlib.Core.List.{List, []}
-use Prim.Native.Nat.{ℕ, _+_, _≤_, _<_}
-use native.Mathlib.Omega.{arith}
-use lib.ListN.{length, getD, drop, set}
-use Rattle.octets.specs.Answers.{refused}
+use Rattle.octets.proofs.Words.{_≡_, refl, sym, _∙_, true, false, cond, List, [], ℕ, _+_, _≤_, _<_, arith, length, getD, drop, set}
 use Rattle.octets.specs.Lists.{tab}
 use Rattle.octets.proofs.ListLaws.{length-tab, getD-tab}
 use Rattle.route_table.specs.declared.row.Row.{Row}
 use Rattle.route_table.specs.Rows.{none, stands, inUse, pad, standing, rowFor}
-use Rattle.route_table.specs.Tables.{rowsOf, foundBy, lookupOf}
+use Rattle.route_table.specs.Tables.{foundOr, foundBy, lookupOf}
 use Rattle.route_table.proofs.LookupLaws.{looked-up, not-looked-up}
 use Rattle.route_table.proofs.RowLaws.{row-none, row-here, row-on, Gathered, gathered-end, gathered-last, gathered-skip, gathered-push}
 use Rattle.route_bytes.specs.TableBytes.{placeOf, rowsIn, tableIn, isTable, holdsTable}
@@ -71,11 +65,11 @@ gather-first s time = record { within = omega arith; few = omega arith; counted 
 
 -- ---- a lookup
 module _ (s : List ℕ) (d time : ℕ) where
-  pub lookup-none : holdsTable s ≡ false → lookupIn s d time ≡ refused 14
+  pub lookup-none : holdsTable s ≡ false → lookupIn s d time ≡ foundOr 14 none
   unfolding lookupIn holdsTable
   lookup-none e = go (isTable s) refl
     where
-      go : (b : _) → isTable s ≡ b → cond b (lookupOf (tableIn s) d time) (refused 14) ≡ refused 14
+      go : (b : _) → isTable s ≡ b → cond b (lookupOf (tableIn s) d time) (foundOr 14 none) ≡ foundOr 14 none
       go true q = not-looked-up (tableIn s) d time (rw q at e)
       go false q = refl
 

@@ -1,16 +1,6 @@
 -- One loop over the rows in use, each against the one before, and one over the zeros behind, judge what the definition does.
 -- Assumes nothing.
-use mathlib.Core.Path.{_≡_, refl, sym, ap, ap₂, _∙_}
-use mathlib.Core.Bool.{Bool, true, false, not, _&&_, _||_, and-true, and-false, and-eq-true-iff}
-use mathlib.Core.List.{List, [], _∷_}
-use Prim.Native.Nat.{ℕ, zero, suc, _+_, _*_, _-_, _≤_, _<_}
-use native.Mathlib.Numerals.{add-one}
-use native.Mathlib.Decide.{ℕ-discrete}
-use native.Mathlib.Omega.{arith}
-use borrow.Author.Tests.{eq-eqb, ne-eqb, lt-ltb, le-leb, lt-leb, not-true, not-false}
-use lib.Dec.{eqb, leb, ltb}
-use lib.ListN.{length, take, drop, drop-of-length-le}
-use lib.Seq.{drop-cons}
+use Rattle.octets.proofs.Words.{_≡_, refl, sym, ap, ap₂, _∙_, Bool, true, false, not, _&&_, _||_, and-true, and-false, and-eq-true-iff, List, [], _∷_, ℕ, zero, suc, _+_, _*_, _-_, _≤_, _<_, ℕ-discrete, add-one, arith, eq-eqb, ne-eqb, lt-ltb, le-leb, lt-leb, not-true, not-false, eqb, leb, ltb, length, take, drop, drop-of-length-le, drop-cons}
 use Rattle.octets.specs.Layouts.{fields}
 use Rattle.octets.specs.Lists.{tab, every}
 use Rattle.octets.specs.Numbers.{num}
@@ -22,7 +12,7 @@ use Rattle.route_table.specs.Places.{firstDestination, okPlaces}
 use Rattle.route_table.specs.Rows.{rowRule, isNone}
 use Rattle.route_table.specs.declared.table.Head.{Head}
 use Rattle.route_table.specs.Tables.{headOf, pairOk, withinRule}
-use Rattle.frame_kinds.specs.Rules.{address}
+use Rattle.octets.specs.Addresses.{address}
 use Rattle.route_table.proofs.PlaceLaws.{ok-right, none-first}
 use Rattle.route_table.proofs.TableLaws.{table-right}
 use Rattle.route_bytes.specs.TableBytes.{rowWidths, rowFrom, rowAt, tableIn, flagsOk, isTable, holdsTable}

@@ -1,14 +1,6 @@
 -- The loop that keeps the rows that stand where they lie, and the calls that use it.
 -- Assumes nothing.
-use mathlib.Core.Path.{_≡_, refl, sym, ap, _∙_}
-use mathlib.Core.Bool.{true, false, not, _&&_, and-eq-true-iff}
-use mathlib.Core.List.{List, [], _∷_, _++_}
-use Prim.Native.Nat.{ℕ, _+_, _*_, _-_, _≤_, _<_}
-use native.Mathlib.Omega.{arith}
-use borrow.Author.Tests.{eqb-true, not-true}
-use lib.Dec.{eqb}
-use lib.ListN.{length, take, drop}
-use lib.Seq.{sets, drop-drop}
+use Rattle.octets.proofs.Words.{_≡_, refl, sym, ap, _∙_, true, false, not, _&&_, and-eq-true-iff, List, [], _∷_, _++_, ℕ, _+_, _*_, _-_, _≤_, _<_, arith, eqb-true, not-true, eqb, length, take, drop, sets, drop-drop}
 use Rattle.octets.specs.Layouts.{fields, bytes, Bytes}
 use Rattle.octets.specs.Lists.{tab}
 use Rattle.octets.proofs.LayoutLaws.{fields-part, length-bytes}

@@ -1,4 +1,4 @@
--- What a changing call keeps of the rows of a table: those that stand, those to a unit or through it withdrawn. The laws carry it to the calls.
+-- Needs no belief, laws carry it to the calls: what a changing call keeps of the rows of a table, those that stand, those to a unit or through it withdrawn.
 -- Assumes nothing.
 use Prim.Native.Nat.{ℕ}
 use mathlib.Core.List.{List, map}

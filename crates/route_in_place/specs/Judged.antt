@@ -1,4 +1,4 @@
--- What the code sees of a table's bytes while it judges them: rows in front, and zeros behind them. The laws carry it to the table that they hold.
+-- Needs no belief, laws carry it to the table that the bytes hold: what the code sees of them while it judges them, rows in front and zeros behind them.
 -- Assumes nothing.
 use Prim.Native.Nat.{ℕ, _+_, _*_}
 use mathlib.Core.Bool.{Bool, _&&_}

@@ -11,6 +11,7 @@ ghost use Rattle.route_bytes.specs.TableBytes.{rowsBytes, tableIn, tableBytes, 
 ghost use Rattle.route_in_place.specs.Changes.{kept};
 use crate::finding::row_for;
 use crate::judging::holds_table;
+use octets::answers::Refusal;
 use octets::answers::refuse_if;
 use octets::numbers::look_over;
 use octets::zeros::put_zeros;
@@ -71,7 +72,7 @@ pub fn forget(table: &mut [u8], unit: u16, time: u32) -> u8
     ensures { λ r. ⌜ tableLeft r (now (table .exit)) ≡ changedBy (now (table .entry)) (λ t. forgetOf t unit time) ⌝ }
 {
     if !holds_table(&table[..]) {
-        return 14;
+        return Refusal::RULE;
     }
     let head = head_of(&table[..]);
     let refused = why_unforgotten(head.own, head.time, unit, time);
@@ -102,7 +103,7 @@ pub fn pass(
     ensures { λ r. ⌜ tableLeft r (now (table .exit)) ≡ changedBy (now (table .entry)) (λ t. passOf t before network passing delay time behind) ⌝ }
 {
     if !holds_table(&table[..]) {
-        return 14;
+        return Refusal::RULE;
     }
     let head = head_of(&table[..]);
     let row = row_for(&table[..], passing.original_source);

@@ -1,7 +1,6 @@
 // The row for a destination in a table that lies in bytes, and what a lookup answers.
 ghost use mathlib.Core.Path.{_≡_};
 ghost use Rattle.route_table.specs.Rows.{rowFor};
-ghost use Rattle.route_table.specs.Told.{toldFound};
 ghost use Rattle.route_bytes.specs.TableBytes.{rowsIn};
 ghost use Rattle.route_in_place.specs.Lookups.{lookupIn};
 use crate::judging::holds_table;
@@ -11,6 +10,7 @@ use route_bytes::tables::row_at;
 use route_table::row::Row;
 use route_table::table::Found;
 use route_table::table::found_by;
+use route_table::table::found_or;
 
 // The row for a destination, or none.
 pub fn row_for(s: &[u8], destination: u16) -> Row
@@ -32,10 +32,10 @@ pub fn row_for(s: &[u8], destination: u16) -> Row
 
 // The next hop to a destination, by a row that is usable at this time.
 pub fn lookup(s: &[u8], destination: u16, time: u32) -> Found
-    ensures { λ r. ⌜ toldFound r ≡ lookupIn (now (s .entry)) destination time ⌝ }
+    ensures { λ r. ⌜ r ≡ lookupIn (now (s .entry)) destination time ⌝ }
 {
     if !holds_table(s) {
-        return Found::Refused(Refusal { number: 14 });
+        return found_or(Refusal::RULE, Row::none());
     }
     found_by(number32(s, 2), row_for(s, destination), destination, time)
 }

@@ -4,6 +4,7 @@ ghost use Prim.Native.Nat.{_≤_};
 ghost use lib.ListN.{length};
 ghost use Rattle.route_bytes.specs.TableBytes.{holdsTable};
 ghost use Rattle.route_in_place.specs.Judged.{rowsOk, zerosBehind};
+use octets::addresses::is_address;
 use octets::numbers::number8;
 use octets::zeros::zeros_from;
 use route_bytes::tables::head_of;
@@ -49,8 +50,5 @@ pub fn holds_table(s: &[u8]) -> bool
         return false;
     }
     let pair = pair_ok(head.forwarded, head.origin, head.sequence);
-    ((1 <= head.own) & (head.own <= 0xFFFE))
-        & (number8(s, 6) <= 1)
-        & pair
-        & zeros_from(s, 11 + 11 * (used as usize))
+    is_address(head.own) & (number8(s, 6) <= 1) & pair & zeros_from(s, 11 + 11 * (used as usize))
 }

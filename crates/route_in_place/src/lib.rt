@@ -1,4 +1,4 @@
-// In place: a table judged, asked and changed where its bytes lie, with no copy of it.
+// A table judged, asked and changed where its bytes lie, with no copy of it.
 pub mod changing;
 pub mod finding;
 pub mod judging;

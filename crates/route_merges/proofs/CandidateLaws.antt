@@ -1,17 +1,11 @@
 -- Candidates, good and bad, and those of an update's entries.
 -- Assumes nothing.
-use mathlib.Core.Path.{_≡_, refl, ap}
-use mathlib.Core.Bool.{Bool, true, false, _&&_, _||_, cond, and-eq-true-iff}
-use mathlib.Core.List.{List, [], _∷_}
-use Prim.Native.Nat.{ℕ, _*_, _≤_, _<_}
-use borrow.Author.Tests.{ltb-false}
-use lib.Dec.{eqb, leb, ltb}
-use lib.ListN.{take, drop}
+use Rattle.octets.proofs.Words.{_≡_, refl, ap, Bool, true, false, _&&_, _||_, cond, and-eq-true-iff, List, [], _∷_, ℕ, _*_, _≤_, _<_, ltb-false, eqb, leb, ltb, take, drop}
 use Rattle.octets.specs.Lists.{every, Each}
 use Rattle.octets.proofs.LayoutLaws.{fields-part}
 use Rattle.octets.proofs.TestLaws.{neither}
-use Rattle.frame_kinds.specs.Rules.{address}
-use Rattle.frame_kinds.proofs.RuleLaws.{address-least}
+use Rattle.octets.specs.Addresses.{address}
+use Rattle.octets.proofs.AddressLaws.{address-least}
 use Rattle.frame_traffic.specs.declared.entry.Entry.{Entry}
 use Rattle.frame_traffic.specs.Traffic.{entryWidths, entryFrom, entryRule, entryAt}
 use Rattle.route_merges.specs.declared.candidate.Candidate.{Candidate}

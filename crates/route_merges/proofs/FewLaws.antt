@@ -1,31 +1,23 @@
 -- No update makes more than 48 rows of at most 48: a row in place of another adds none, and a new one is learned only where there is room.
 -- Assumes nothing.
-use mathlib.Core.Path.{_≡_, refl, ap}
-use mathlib.Core.Bool.{true}
-use mathlib.Core.List.{List, [], _∷_}
-use mathlib.Core.Logic.{⊎-elim}
-use Prim.Native.Nat.{ℕ, suc, _≤_, _<_}
-use native.Mathlib.Omega.{arith}
-use borrow.Author.Tests.{ne-eqb}
-use lib.ListN.{length}
+use Rattle.octets.proofs.Words.{_≡_, refl, ap, true, List, [], _∷_, ⊎-elim, ℕ, suc, _≤_, _<_, arith, ne-eqb, length}
 use Rattle.octets.specs.Lists.{Each}
+use Rattle.octets.proofs.OrderLaws.{by-place, put-length, put-ascending, ascending-rest}
 use Rattle.route_table.specs.declared.row.Row.{Row}
-use Rattle.route_table.specs.Rows.{withdrawnAt, ascending, rowFor}
-use Rattle.route_table.proofs.StandingLaws.{ascending-rest}
+use Rattle.route_table.specs.Rows.{leadingTo, withdrawnAt, ascending, rowFor}
 use Rattle.route_merges.specs.declared.candidate.Candidate.{Candidate}
 use Rattle.route_merges.specs.Learning.{put, rowBy, Learned, learn, learnAll}
 use Rattle.route_merges.proofs.LearnLaws.{by-learn, by-learn-all}
-use Rattle.route_merges.proofs.PutLaws.{by-place, put-length, put-ascending}
 use Rattle.route_merges.proofs.SearchLaws.{none-above}
 
 -- a row that is put where its destination has one adds none
 put-there : (w : Row) (d : ℕ) → w .destination ≡ d → 0 < d → (rs : List Row) → ascending rs ≡ true → rowFor d rs .destination ≡ d → length (put w rs) ≡ length rs
 put-there w d e p [] a h = absurd (omega arith)
 put-there w d e p (r ∷ rs) a h =
-    by-place (λ l. length l ≡ suc (length rs)) w r rs
+    by-place leadingTo (λ l. length l ≡ suc (length rs)) w r rs
     (λ low.
     let behind : rowFor d rs .destination ≡ d = rw (ne-eqb (r .destination) d (omega arith)) at h in
-    ap suc (put-there w d e p rs (ascending-rest r rs a) behind))
+    ap suc (put-there w d e p rs (ascending-rest leadingTo r rs a) behind))
     (λ same. refl)
     (λ high. absurd (omega (arith, ap (λ (x : Row). x .destination) (none-above d r rs a (omega arith)))))
 
@@ -35,11 +27,11 @@ Few rs = (ascending rs ≡ true) × (length rs ≤ 48)
 
 learn-few : (via time : ℕ) (c : Candidate) → 0 < c .destination → (l : Learned) → Few (l .rows) → Few (learn via time c l .rows)
 learn-few via time c p l (a, h) = (
-  by-learn (λ rs. ascending rs ≡ true) via time c l a (λ b room. put-ascending _ (l .rows) a) (λ there t. put-ascending _ (l .rows) a),
+  by-learn (λ rs. ascending rs ≡ true) via time c l a (λ b room. put-ascending leadingTo _ (l .rows) a) (λ there t. put-ascending leadingTo _ (l .rows) a),
   by-learn (λ rs. length rs ≤ 48) via time c l h
       (λ b room.
       ⊎-elim (λ there. omega (arith, put-there (rowBy via time c) (c .destination) refl p (l .rows) a there, h))
-      (λ k. omega (arith, put-length (rowBy via time c) (l .rows), k)) room)
+      (λ k. omega (arith, put-length leadingTo (rowBy via time c) (l .rows), k)) room)
       (λ there t. omega (arith, put-there (withdrawnAt time (rowFor (c .destination) (l .rows))) (c .destination) there p (l .rows) a there, h)),
 )
 

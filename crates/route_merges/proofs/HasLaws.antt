@@ -1,25 +1,21 @@
 -- The row for a destination when a row is put among others, or candidates are learned: none is taken away.
 -- Assumes nothing.
-use mathlib.Core.Path.{_≡_, refl, sym, _∙_}
-use mathlib.Core.List.{List, [], _∷_}
-use Prim.Native.Nat.{ℕ}
-use native.Mathlib.Decide.{ℕ-discrete}
-use native.Mathlib.Omega.{arith}
+use Rattle.octets.proofs.Words.{_≡_, refl, sym, _∙_, List, [], _∷_, ℕ, ℕ-discrete, arith}
 use Rattle.octets.specs.Lists.{Each}
+use Rattle.octets.proofs.OrderLaws.{by-place}
 use Rattle.route_table.specs.declared.row.Row.{Row}
-use Rattle.route_table.specs.Rows.{rowFor}
+use Rattle.route_table.specs.Rows.{leadingTo, rowFor}
 use Rattle.route_table.proofs.HasLaws.{Has, row-first, row-behind}
 use Rattle.route_merges.specs.declared.candidate.Candidate.{Candidate}
 use Rattle.route_merges.specs.Learning.{put, Learned, learn, learnAll}
 use Rattle.route_merges.proofs.LearnLaws.{by-learn}
-use Rattle.route_merges.proofs.PutLaws.{by-place}
 
 -- a row that is put is the one for its destination, and every other destination has the row that it had
 pub row-put : (w : Row) (rs : List Row) → rowFor (w .destination) (put w rs) ≡ w
 row-put w [] = row-first (w .destination) w [] refl
 row-put w (r ∷ rs) =
     let later = row-put w rs in
-    by-place (λ l. rowFor (w .destination) l ≡ w) w r rs
+    by-place leadingTo (λ l. rowFor (w .destination) l ≡ w) w r rs
     (λ h. row-behind (w .destination) r (put w rs) (λ e. omega arith) ∙ later)
     (λ h. row-first (w .destination) w rs refl)
     (λ h. row-first (w .destination) w (r ∷ rs) refl)
@@ -28,7 +24,7 @@ pub put-other : (d : ℕ) (w : Row) → (w .destination ≡ d → ⊥) → (rs :
 put-other d w n [] = row-behind d w [] n
 put-other d w n (r ∷ rs) =
     let later = put-other d w n rs in
-    by-place (λ l. rowFor d l ≡ rowFor d (r ∷ rs)) w r rs
+    by-place leadingTo (λ l. rowFor d l ≡ rowFor d (r ∷ rs)) w r rs
     (λ h. go (ℕ-discrete (r .destination) d) later)
     (λ h. row-behind d w rs n ∙ sym (row-behind d r rs (λ e. n (sym h ∙ e))))
     (λ h. row-behind d w (r ∷ rs) n)
@@ -57,4 +53,4 @@ pub each-put : (P : Row → Type 0) (w : Row) → P w → (rs : List Row) → Ea
 each-put P w p [] e = (p, tt)
 each-put P w p (r ∷ rs) e =
     let later = each-put P w p rs (e .1) in
-    by-place (Each P) w r rs (λ h. (e .0, later)) (λ h. (p, e .1)) (λ h. (p, e))
+    by-place leadingTo (Each P) w r rs (λ h. (e .0, later)) (λ h. (p, e .1)) (λ h. (p, e))

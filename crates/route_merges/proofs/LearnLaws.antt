@@ -1,22 +1,14 @@
 -- What every row keeps while candidates are learned.
 -- Assumes nothing.
-use mathlib.Core.Path.{_≡_, refl, sym, _∙_}
-use mathlib.Core.Bool.{Bool, true, false, cond, and-eq-true-iff, and-false, false≢true}
-use mathlib.Core.List.{List, [], _∷_}
-use mathlib.Core.Logic.{_⊎_, inl, inr, ⊎-elim}
-use Prim.Native.Nat.{ℕ, _<_}
-use native.Mathlib.Omega.{arith}
-use borrow.Author.Tests.{eqb-true, ne-eqb, ltb-true}
-use lib.Dec.{eqb}
-use lib.ListN.{length}
+use Rattle.octets.proofs.Words.{_≡_, refl, sym, _∙_, Bool, true, false, cond, and-eq-true-iff, and-false, false≢true, List, [], _∷_, _⊎_, inl, inr, ⊎-elim, ℕ, _<_, arith, eqb-true, ne-eqb, ltb-true, eqb, length}
 use Rattle.octets.specs.Lists.{every, Each}
 use Rattle.octets.proofs.TestLaws.{of-cond}
+use Rattle.octets.proofs.OrderLaws.{put-every}
 use Rattle.route_table.specs.declared.row.Row.{Row}
-use Rattle.route_table.specs.Rows.{none, usable, withdrawnAt, rowFor}
+use Rattle.route_table.specs.Rows.{leadingTo, none, usable, withdrawnAt, rowFor}
 use Rattle.route_merges.specs.declared.candidate.Candidate.{Candidate}
 use Rattle.route_merges.specs.Candidates.{bad}
 use Rattle.route_merges.specs.Learning.{put, rowBy, givesWay, takenBack, Learned, met, newTo, learn, learnAll}
-use Rattle.route_merges.proofs.PutLaws.{put-every}
 
 -- what holds of every row holds of the one that is looked up, if there is one
 pub row-for-every : (test : Row → Bool) (d : ℕ) (rs : List Row) → every test rs ≡ true → (test (rowFor d rs) ≡ true) ⊎ (rowFor d rs ≡ none)
@@ -65,9 +57,9 @@ pub record Kept (test : Row → Bool) (via time : ℕ) (c : Candidate) : Type 0 
 module _ (test : Row → Bool) (via time : ℕ) (v : 0 < via) where
   pub learn-every : (c : Candidate) → Kept test via time c → (l : Learned) → every test (l .rows) ≡ true → every test (learn via time c l .rows) ≡ true
   learn-every c k l e =
-      by-learn (λ rs. every test rs ≡ true) via time c l e (λ b room. put-every test (rowBy via time c) (l .rows) (k .new b) e)
+      by-learn (λ rs. every test rs ≡ true) via time c l e (λ b room. put-every leadingTo test (rowBy via time c) (l .rows) (k .new b) e)
       (λ there t.
-      ⊎-elim (λ h. put-every test _ (l .rows) (k .back _ h) e) (λ z. absurd (false≢true (sym (none-back (rowFor (c .destination) (l .rows)) z) ∙ t)))
+      ⊎-elim (λ h. put-every leadingTo test _ (l .rows) (k .back _ h) e) (λ z. absurd (false≢true (sym (none-back (rowFor (c .destination) (l .rows)) z) ∙ t)))
       (row-for-every test (c .destination) (l .rows) e))
     where
       none-back : (r : Row) → r ≡ none → takenBack via time r ≡ false

@@ -9,7 +9,6 @@ pub mod MoveLaws
 pub mod OfferLaws
 pub mod OtherLaws
 pub mod PadLaws
-pub mod PutLaws
 pub mod RankLaws
 pub mod SearchLaws
 pub mod StepLaws

@@ -1,19 +1,10 @@
 -- The loop over an update's candidates: what is learned so far, with what is left to learn, is the whole.
 -- Assumes nothing.
-use mathlib.Core.Path.{_≡_, refl, sym, ap, _∙_}
-use mathlib.Core.Bool.{Bool, true, false, cond}
-use mathlib.Core.List.{List, []}
-use Prim.Native.Nat.{ℕ, suc, _+_, _-_, _*_, _≤_, _<_}
-use native.Mathlib.Nat.{add-zero}
-use native.Mathlib.Numerals.{add-one}
-use native.Mathlib.Omega.{arith}
-use borrow.Author.Tests.{ltb-true}
-use lib.Dec.{eqb, ltb}
-use lib.ListN.{length, getD, take, drop, drop-of-length-le}
-use lib.Seq.{drop-cons}
+use Rattle.octets.proofs.Words.{_≡_, refl, sym, ap, _∙_, Bool, true, false, List, [], ℕ, suc, _+_, _-_, _*_, _≤_, _<_, add-zero, add-one, arith, ltb-true, eqb, ltb, length, getD, take, drop, drop-of-length-le, drop-cons}
 use mir.Val.{boolByte}
 use Rattle.octets.specs.Lists.{every}
 use Rattle.octets.proofs.ListLaws.{length-tab, getD-tab, every-at}
+use Rattle.octets.proofs.TestLaws.{of-choice}
 use Rattle.route_table.specs.declared.row.Row.{Row}
 use Rattle.route_table.specs.Rows.{none, pad}
 use Rattle.route_table.proofs.StandingLaws.{pad-length}
@@ -145,11 +136,7 @@ module _ (part : List ℕ) (count own origin quality time : ℕ) (rows₀ : List
       learned-on = rw add-one (ap (λ x. learnAll origin time (drop (suc done) all) (learn origin time x (learned (m .rows) skipped))) (sym this) ∙ (rw (drop-cons all done nothing fit) at (m .rest)))
 
       from-place : from ≤ 47
-      from-place = rw starts (go (ltb (c′ .destination) (c .destination)))
-        where
-          go : (b : Bool) → cond b 0 at ≤ 47
-          go true = omega arith
-          go false = m .place
+      from-place = rw starts (of-choice (λ n. n ≤ 47) (ltb (c′ .destination) (c .destination)) (omega arith) (m .place))
 
       one-more : (rows′ out′ : List Row) → out′ ≡ pad rows′ → Sound rows′ → (take at rows′ ≡ take at (m .rows)) × (at ≤ length rows′)
           → learn origin time c (learned (m .rows) skipped) ≡ learned rows′ (skipped + boolByte skip) → Merging out′ c′ (done + 1) (skipped + boolByte skip) from

@@ -1,22 +1,15 @@
 -- Merging an update, from what its parts say.
 -- Assumes nothing.
-use mathlib.Core.Path.{_≡_, sym, ap, _∙_}
-use mathlib.Core.Bool.{Bool, true, false, not, cond, and-eq-true-iff}
-use mathlib.Core.List.{List}
-use Prim.Native.Nat.{ℕ, _≤_, _<_}
-use native.Mathlib.Omega.{arith}
-use borrow.Author.Tests.{eqb-true, ne-eqb, not-false, ltb-false}
-use lib.Dec.{eqb}
-use lib.ListN.{length}
+use Rattle.octets.proofs.Words.{_≡_, sym, ap, _∙_, Bool, true, false, not, cond, List, ℕ, _≤_, _<_, eqb-true, ne-eqb, not-false, ltb-false, eqb, length}
 use Rattle.octets.specs.Answers.{first}
 use Rattle.octets.specs.Lists.{every}
-use Rattle.octets.proofs.AnswerLaws.{numbered, refusing-numbered, none-holds}
+use Rattle.octets.proofs.AnswerLaws.{refusing-numbered, none-holds}
 use Rattle.moments.specs.Moments.{inOrder}
 use Rattle.frame_kinds.specs.Reading.{refusalAs}
-use Rattle.frame_kinds.specs.Rules.{address}
-use Rattle.frame_kinds.specs.Shape.{lengthOf, valuesIn, partIn}
-use Rattle.frame_kinds.proofs.ReadingLaws.{passed}
-use Rattle.frame_kinds.proofs.RuleLaws.{address-least}
+use Rattle.octets.specs.Addresses.{address}
+use Rattle.frame_kinds.specs.Shape.{valuesIn, partIn}
+use Rattle.frame_traffic.proofs.UpdateLaws.{updating}
+use Rattle.octets.proofs.AddressLaws.{address-least}
 use Rattle.frame_traffic.specs.declared.update.UpdateHeader.{UpdateHeader}
 use Rattle.frame_traffic.specs.Traffic.{update, updateValues, updateFrom, entryRule, entriesOf}
 use Rattle.route_table.specs.declared.row.Row.{Row}
@@ -49,17 +42,14 @@ unfolding mergeRefusal
 mergeable t s quality time e =
     let n =
     none-holds (mergeReasons t s quality time)
-    (numbered _ 14 (λ z. omega arith), (refusing-numbered (refusalAs update s), (numbered _ 6 (λ z. omega arith), (numbered _ 8 (λ z. omega arith), (numbered _ 9 (λ z. omega arith), tt))))) e in
+    (_, (refusing-numbered (refusalAs update s), _)) e in
     let others = n .1 .1 in
-    let p = passed (update .code) (lengthOf update (update .extent (valuesIn update s))) (update .rule (valuesIn update s) (partIn update s)) s (eqb-true (refusalAs update s) 0 (not-false (eqb (refusalAs update s) 0) (n .1 .0))) in
-    let (origin, entries) = and-eq-true-iff (address (updateIn s .origin)) (every entryRule (entriesOf (updateIn s .count) (partIn update s))) .0 (p .kept) in
-    let short = p .short in
-    let sized = p .sized in
+    let u = updating s (eqb-true (refusalAs update s) 0 (not-false (eqb (refusalAs update s) 0) (n .1 .0))) in
     record {
       rule = not-false (withinRule t) (n .0);
-      origin = origin;
-      entries = entries;
-      few = omega (arith, short, sized);
+      origin = u .origin;
+      entries = u .entries;
+      few = u .few;
       other = others .0;
       timely = not-false (inOrder (t .time) time) (others .1 .0);
       heard = ltb-false quality 40 (others .1 .1 .0);

@@ -1,16 +1,6 @@
 -- The loop that stores a row: what is done, with what is left to do, is the whole.
 -- Assumes nothing.
-use mathlib.Core.Path.{_≡_, sym, _∙_}
-use mathlib.Core.Bool.{Bool, true, false, not, _&&_, cond, and-eq-true-iff}
-use mathlib.Core.List.{List, [], _∷_, _++_, append-nil}
-use Prim.Native.Nat.{ℕ, suc, _+_, _-_, _≤_, _<_}
-use native.Mathlib.Decide.{ℕ-discrete, decLt}
-use native.Mathlib.Numerals.{add-one}
-use native.Mathlib.Omega.{arith}
-use borrow.Author.Tests.{eq-eqb, ne-eqb, lt-ltb, le-ltb, ltb-true}
-use lib.Dec.{eqb, ltb}
-use lib.ListN.{length, length-set, getD, take, drop, set, drop-of-length-le}
-use lib.Seq.{drop-cons, take-all, take-suc-set, drop-set-lt, append-snoc, set-split}
+use Rattle.octets.proofs.Words.{_≡_, sym, _∙_, Bool, true, false, not, _&&_, cond, and-eq-true-iff, List, [], _∷_, _++_, append-nil, ℕ, suc, _+_, _-_, _≤_, _<_, ℕ-discrete, decLt, add-one, arith, eq-eqb, ne-eqb, lt-ltb, le-ltb, ltb-true, eqb, ltb, length, length-set, getD, take, drop, set, drop-of-length-le, drop-cons, take-all, take-suc-set, drop-set-lt, append-snoc, set-split}
 use Rattle.route_table.specs.declared.row.Row.{Row}
 use Rattle.route_table.specs.Rows.{none}
 

@@ -1,15 +1,9 @@
 -- The candidates as the code walks them are those of the update: what stands for an entry that is passed over teaches nothing.
 -- Assumes nothing.
-use mathlib.Core.Path.{_≡_, refl, ap, _∙_}
-use mathlib.Core.Bool.{Bool, true, false, cond, and-eq-true-iff, and-false, or-true}
-use mathlib.Core.List.{List, [], _∷_, map}
-use Prim.Native.Nat.{ℕ, zero, suc, _+_, _<_}
-use native.Mathlib.Numerals.{add-one}
-use native.Mathlib.Omega.{arith}
-use borrow.Author.Tests.{ne-eqb, lt-ltb}
-use lib.ListN.{getD}
+use Rattle.octets.proofs.Words.{_≡_, refl, ap, _∙_, Bool, true, false, cond, and-eq-true-iff, and-false, or-true, List, [], _∷_, map, ℕ, zero, suc, _+_, _<_, add-one, arith, ne-eqb, lt-ltb, getD}
 use Rattle.octets.specs.Lists.{tab, every}
 use Rattle.octets.proofs.ListLaws.{length-tab, getD-tab, every-at, every-tab}
+use Rattle.octets.proofs.TestLaws.{of-choice}
 use Rattle.frame_traffic.specs.declared.entry.Entry.{Entry}
 use Rattle.frame_traffic.specs.Traffic.{entryRule, entryAt, entriesOf}
 use Rattle.route_table.specs.Rows.{none, usable}
@@ -28,11 +22,7 @@ fair-for c h = rw (lt-ltb 0 (c .destination) h) (or-true (bad c))
 
 module _ (own origin quality : ℕ) where
   offer-fair : (e : Entry) → entryRule e ≡ true → fair (offerOf own origin quality e) ≡ true
-  offer-fair e r = go (passedOver own origin e)
-    where
-      go : (b : Bool) → fair (cond b nothing (offered quality e)) ≡ true
-      go true = refl
-      go false = fair-for (offered quality e) (entry-some e r)
+  offer-fair e r = of-choice (λ c. fair c ≡ true) (passedOver own origin e) refl (fair-for (offered quality e) (entry-some e r))
 
   pub walked-fair : (count : ℕ) (part : List ℕ) → 0 < origin → every entryRule (entriesOf count part) ≡ true → every fair (walked own origin quality count part) ≡ true
   unfolding candidateNo offerAt

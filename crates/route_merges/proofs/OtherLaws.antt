@@ -1,19 +1,14 @@
 -- A candidate changes no row but its destination's.
 -- Assumes nothing.
-use mathlib.Core.Path.{_≡_, refl, sym, ap, _∙_}
-use mathlib.Core.Bool.{Bool, true, false, not, cond}
-use mathlib.Core.List.{List, [], _∷_}
-use Prim.Native.Nat.{ℕ}
-use borrow.Author.Tests.{eqb-true, eqb-false, not-true}
-use lib.Dec.{eqb}
+use Rattle.octets.proofs.Words.{_≡_, refl, sym, ap, _∙_, Bool, true, false, not, cond, List, [], _∷_, ℕ, eqb-true, eqb-false, not-true, eqb}
 use Rattle.octets.specs.Lists.{Each}
+use Rattle.octets.proofs.AddressLaws.{address-some}
 use Rattle.frame_kinds.specs.Shape.{partIn}
 use Rattle.frame_traffic.specs.Traffic.{update, entriesOf}
 use Rattle.route_table.specs.declared.row.Row.{Row}
 use Rattle.route_table.specs.Rows.{withdrawnAt, standing, rowFor}
 use Rattle.route_table.specs.Tables.{rowsOf}
 use Rattle.route_table.proofs.RuleLaws.{rows-of-pad}
-use Rattle.route_table.proofs.TableLaws.{address-some}
 use Rattle.route_merges.specs.declared.candidate.Candidate.{Candidate}
 use Rattle.route_merges.specs.Candidates.{candidates}
 use Rattle.route_merges.specs.Laws.{OthersUnchanged}

@@ -1,15 +1,6 @@
 -- The 48 places of a list of rows in use: what stands at a place, a store, a row moved in.
 -- Assumes nothing.
-use mathlib.Core.Path.{_≡_, refl, sym, ap, _∙_}
-use mathlib.Core.Bool.{true, not, and-eq-true-iff}
-use mathlib.Core.List.{List, [], _∷_, _++_, append-assoc}
-use Prim.Native.Nat.{ℕ, zero, suc, _-_, _≤_, _<_}
-use native.Mathlib.Decide.{decLt}
-use native.Mathlib.Omega.{arith}
-use borrow.Author.Tests.{ne-eqb, ltb-true, lt-ltb, le-ltb}
-use lib.Dec.{ltb}
-use lib.ListN.{length, getD, take, drop, set, replicate, length-append, length-set, length-take, length-drop, List·getD-eq-default}
-use lib.Seq.{set-append-left, take-append-le, drop-append-le}
+use Rattle.octets.proofs.Words.{_≡_, refl, sym, ap, _∙_, true, not, and-eq-true-iff, List, [], _∷_, _++_, append-assoc, ℕ, zero, suc, _-_, _≤_, _<_, decLt, arith, ne-eqb, ltb-true, lt-ltb, le-ltb, ltb, length, getD, take, drop, set, replicate, length-append, length-set, length-take, length-drop, List·getD-eq-default, set-append-left, take-append-le, drop-append-le}
 use Rattle.octets.specs.Lists.{every}
 use Rattle.octets.proofs.ListLaws.{every-drop}
 use Rattle.route_table.specs.declared.row.Row.{Row}

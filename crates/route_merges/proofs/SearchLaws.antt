@@ -1,23 +1,13 @@
 -- The search for a destination among ascending rows: it goes past the lower ones, and stops at the row itself or where it would stand.
 -- Assumes nothing.
-use mathlib.Core.Path.{_≡_, refl, sym, ap, _∙_}
-use mathlib.Core.Bool.{Bool, true, false, cond, and-eq-true-iff}
-use mathlib.Core.List.{List, [], _∷_, _++_}
-use Prim.Native.Nat.{ℕ, zero, suc, _+_, _≤_, _<_}
-use native.Mathlib.Numerals.{add-one}
-use native.Mathlib.Omega.{arith}
-use borrow.Author.Tests.{eq-eqb, ne-eqb, lt-ltb, ltb-true, ltb-false}
-use lib.Dec.{ltb}
-use lib.ListN.{length, getD, take, drop, set, length-append, drop-of-length-le}
-use lib.Seq.{drop-cons, take-suc, take-at, length-take-le, set-split}
+use Rattle.octets.proofs.Words.{_≡_, refl, sym, ap, _∙_, Bool, true, false, cond, and-eq-true-iff, List, [], _∷_, _++_, ℕ, zero, suc, _+_, _≤_, _<_, add-one, arith, eq-eqb, ne-eqb, lt-ltb, ltb-true, ltb-false, ltb, length, getD, take, drop, set, length-append, drop-of-length-le, drop-cons, take-suc, take-at, length-take-le, set-split}
 use Rattle.octets.specs.Lists.{every}
 use Rattle.octets.proofs.ListLaws.{every-snoc, every-on}
+use Rattle.octets.proofs.OrderLaws.{put-above, put-same, put-below, ascending-rest}
 use Rattle.route_table.specs.declared.row.Row.{Row}
-use Rattle.route_table.specs.Rows.{none, ascending, rowFor}
-use Rattle.route_table.proofs.StandingLaws.{ascending-rest}
+use Rattle.route_table.specs.Rows.{leadingTo, none, ascending, rowFor}
 use Rattle.route_merges.specs.Learning.{put}
 use Rattle.route_merges.specs.Searching.{startsAt}
-use Rattle.route_merges.proofs.PutLaws.{put-above, put-same, put-below}
 
 abbrev below : ℕ → Row → Bool
 below d r = ltb (r .destination) d
@@ -46,7 +36,7 @@ put-behind d rs zero e w q = refl
 put-behind d [] (suc at) e w q = refl
 put-behind d (r ∷ rs) (suc at) e w q =
     let (low, later) = and-eq-true-iff (below d r) (every (below d) (take at rs)) .0 e in
-    ap (λ (l : List Row). r ∷ l) (put-behind d rs at later w q) ∙ sym (put-above w r rs (omega (arith, ltb-true (r .destination) d low)))
+    ap (λ (l : List Row). r ∷ l) (put-behind d rs at later w q) ∙ sym (put-above leadingTo w r rs (omega (arith, ltb-true (r .destination) d low)))
 
 module _ (d : ℕ) (rs : List Row) (at : ℕ) (s : Searched d rs at) where
   abbrev here : Row
@@ -100,24 +90,24 @@ module _ (d : ℕ) (rs : List Row) (at : ℕ) (s : Searched d rs at) where
     pub set-same : here .destination ≡ d → (w : Row) → w .destination ≡ d → put w rs ≡ set rs at w
     set-same e w q =
         sym (puts w q) ∙
-        (rw (drop-cons rs at none h, put-same w here (drop (suc at) rs) (e ∙ sym q)) (sym (set-split rs at w h)))
+        (rw (drop-cons rs at none h, put-same leadingTo w here (drop (suc at) rs) (e ∙ sym q)) (sym (set-split rs at w h)))
 
     -- before the first row that is higher
     pub put-higher : d < here .destination → (w : Row) → w .destination ≡ d → put w rs ≡ take at rs ++ (w ∷ drop at rs)
     put-higher k w q =
-        sym (puts w q) ∙ rw (drop-cons rs at none h, put-below w here (drop (suc at) rs) (omega arith))
+        sym (puts w q) ∙ rw (drop-cons rs at none h, put-below leadingTo w here (drop (suc at) rs) (omega arith))
 
 -- ascending rows that begin above a destination have no row for it
 pub none-above : (d : ℕ) (r : Row) (rs : List Row) → ascending (r ∷ rs) ≡ true → d < r .destination → rowFor d (r ∷ rs) ≡ none
 none-above d r [] e h = rw (ne-eqb (r .destination) d (omega arith))
 none-above d r (s ∷ rs) e h =
     let k = ltb-true (r .destination) (s .destination) (and-eq-true-iff (ltb (r .destination) (s .destination)) (ascending (s ∷ rs)) .0 e .0) in
-    rw (ne-eqb (r .destination) d (omega arith)) (none-above d s rs (ascending-rest r (s ∷ rs) e) (omega (arith, k)))
+    rw (ne-eqb (r .destination) d (omega arith)) (none-above d s rs (ascending-rest leadingTo r (s ∷ rs) e) (omega (arith, k)))
 
 ascending-drop : (at : ℕ) (rs : List Row) → ascending rs ≡ true → ascending (drop at rs) ≡ true
 ascending-drop zero rs e = e
 ascending-drop (suc at) [] e = refl
-ascending-drop (suc at) (r ∷ rs) e = ascending-drop at rs (ascending-rest r rs e)
+ascending-drop (suc at) (r ∷ rs) e = ascending-drop at rs (ascending-rest leadingTo r rs e)
 
 pub stop-higher : (d : ℕ) (rs : List Row) (at : ℕ) → Searched d rs at → at < length rs → ascending rs ≡ true → d < getD rs at none .destination → rowFor d rs ≡ none
 stop-higher d rs at s h e k =

@@ -1,19 +1,12 @@
 -- One candidate: what it does to the list of rows is what it does at the place where its search stopped.
 -- Assumes nothing.
-use mathlib.Core.Path.{_≡_, refl, sym, ap, _∙_}
-use mathlib.Core.Bool.{Bool, true, false, not, _&&_, _||_, cond, and-eq-true-iff, and-false, false≢true}
-use mathlib.Core.List.{List, [], _∷_, _++_}
-use Prim.Native.Nat.{ℕ, _+_, _≤_, _<_}
-use native.Mathlib.Nat.{add-zero}
-use native.Mathlib.Decide.{ℕ-discrete, decLt}
-use native.Mathlib.Omega.{arith}
-use borrow.Author.Tests.{eq-eqb, ne-eqb, lt-ltb, ltb-true, eqb-true, eqb-false}
-use lib.Dec.{eqb, ltb}
-use lib.ListN.{length, getD, take, drop, set, length-set, List·getD-eq-default}
+use Rattle.octets.proofs.Words.{_≡_, refl, sym, ap, _∙_, Bool, true, false, not, _&&_, _||_, cond, and-eq-true-iff, and-false, false≢true, or-false, List, [], _∷_, _++_, ℕ, _+_, _≤_, _<_, ℕ-discrete, decLt, add-zero, arith, eq-eqb, ne-eqb, lt-ltb, ltb-true, eqb-true, eqb-false, eqb, ltb, length, getD, take, drop, set, length-set, List·getD-eq-default}
 use mir.Val.{boolByte}
 use Rattle.octets.specs.Lists.{every}
+use Rattle.octets.proofs.OrderLaws.{put-every, put-length, put-ascending}
+use Rattle.octets.proofs.TestLaws.{of-choice}
 use Rattle.route_table.specs.declared.row.Row.{Row}
-use Rattle.route_table.specs.Rows.{none, usable, withdrawnAt, ascending, pad, rowFor}
+use Rattle.route_table.specs.Rows.{leadingTo, none, usable, withdrawnAt, ascending, pad, rowFor}
 use Rattle.route_table.proofs.StandingLaws.{used}
 use Rattle.route_merges.specs.declared.candidate.Candidate.{Candidate}
 use Rattle.route_merges.specs.Candidates.{bad}
@@ -21,7 +14,6 @@ use Rattle.route_merges.specs.Learning.{put, rowBy, Learned, learned, me
 use Rattle.route_merges.specs.Searching.{goesOn, changes, stores, skips, made}
 use Rattle.route_merges.proofs.MoveLaws.{movedIn}
 use Rattle.route_merges.proofs.PadLaws.{pad-at, used-within, within-used, full, set-pad, moved-pad}
-use Rattle.route_merges.proofs.PutLaws.{put-every, put-length, put-ascending}
 use Rattle.route_merges.proofs.SearchLaws.{Searched, searched-on, stop-end, put-end, stop-same, set-same, put-higher, stop-higher}
 
 -- rows as a table has them: in use, ascending, at most 48
@@ -39,7 +31,7 @@ pub record Stored (d : ℕ) (new : Row) (after : Learned) (rows : List Row) (ski
 
 pub stored-sound : (d : ℕ) (new : Row) (after : Learned) (rows : List Row) (skipped : ℕ) → Sound rows → Stored d new after rows skipped → Sound (put new rows)
 stored-sound d new after rows skipped sound s =
-    record { inUse = put-every used new rows (s .isUsed) (sound .inUse); ascends = put-ascending new rows (sound .ascends); fits = s .fits }
+    record { inUse = put-every leadingTo used new rows (s .isUsed) (sound .inUse); ascends = put-ascending leadingTo new rows (sound .ascends); fits = s .fits }
 
 -- no row in use is for no unit
 pub zero-none : (rs : List Row) → every used rs ≡ true → rowFor 0 rs ≡ none
@@ -51,14 +43,6 @@ zero-none (r ∷ rs) u =
     rw (ne-eqb (r .destination) 0 (omega (arith, k))) (zero-none rs later)
 
 -- ---- what a decision says of its parts
-no-change : (b : Bool) → (b || false) ≡ false → b ≡ false
-no-change true e = e
-no-change false e = e
-
-changed : (b : Bool) → (b || false) ≡ true → b ≡ true
-changed true e = e
-changed false e = e
-
 stored : (b few filled : Bool) → filled ≡ not few → (not b && not filled) ≡ true → (b ≡ false) × (few ≡ true)
 stored true few filled f e = absurd (false≢true e)
 stored false true filled f e = (refl, refl)
@@ -96,11 +80,7 @@ module _ (via time : ℕ) (c : Candidate) where
 
   -- what it makes is for its destination
   made-for : (r : Row) → r .destination ≡ d → made via time c r .destination ≡ d
-  made-for r e = go (bad c)
-    where
-      go : (b : Bool) → cond b (withdrawnAt time r) (rowBy via time c) .destination ≡ d
-      go true = e
-      go false = refl
+  made-for r e = of-choice (λ x. x .destination ≡ d) (bad c) {x = withdrawnAt time r} {y = rowBy via time c} e refl
 
   module _ (rows : List Row) (skipped : ℕ) where
     abbrev after : Learned
@@ -213,7 +193,7 @@ module _ (via time : ℕ) (c : Candidate) where
               zero-stays z ∙ rw (b, add-zero)
           go (no z) (yes k) =
               let same : there ≡ true = eq-eqb (row .destination) d k in
-              let stays : changes via time c row ≡ false = no-change (changes via time c row) (rw same at e) in
+              let stays : changes via time c row ≡ false = sym (or-false (changes via time c row)) ∙ (rw same at e) in
               there-learns (omega arith) k ∙ rw (stays, same, add-zero)
           go (no z) (no k) =
               let other : there ≡ false = ne-eqb (row .destination) d k in
@@ -227,7 +207,7 @@ module _ (via time : ℕ) (c : Candidate) where
         step-set t =
             let k = eqb-true (row .destination) d t in
             let q = some-unit e in
-            let change : changes via time c row ≡ true = changed (changes via time c row) (rw t at e) in
+            let change : changes via time c row ≡ true = sym (or-false (changes via time c row)) ∙ (rw t at e) in
             let same = there-put q k in
             let size : length (put new rows) ≡ length rows = ap length same ∙ length-set rows at new in (
               record {
@@ -252,7 +232,7 @@ module _ (via time : ℕ) (c : Candidate) where
                 leads = target;
                 learns = new-learns q k ∙ rw (good, room);
                 isUsed = lt-ltb 0 (new .destination) (omega (arith, q, target));
-                fits = omega (arith, few, put-length new rows);
+                fits = omega (arith, few, put-length leadingTo new rows);
               },
               moved-pad rows at new (sound .inUse) (s .within) few ∙ ap pad (sym (room-put q k few new target)),
               rw (t, good, full rows (sound .inUse) (sound .fits), room),

@@ -1,11 +1,6 @@
 -- Merging an update into a stored table, from what its parts say.
 -- Assumes nothing.
-use mathlib.Core.Path.{_≡_, refl, sym, ap, _∙_}
-use mathlib.Core.Bool.{Bool, true, false, cond}
-use mathlib.Core.List.{List}
-use Prim.Native.Nat.{ℕ}
-use borrow.Author.Tests.{eq-eqb, ne-eqb}
-use lib.ListN.{length}
+use Rattle.octets.proofs.Words.{_≡_, refl, sym, ap, _∙_, Bool, true, false, cond, List, ℕ, eq-eqb, ne-eqb, length}
 use Rattle.octets.specs.Answers.{first}
 use Rattle.octets.proofs.CallLaws.{stored-none}
 use Rattle.route_table.specs.declared.row.Row.{Row}

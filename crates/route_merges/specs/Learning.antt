@@ -6,7 +6,8 @@ use mathlib.Core.List.{List, [], _∷_}
 use lib.Dec.{eqb, ltb}
 use lib.ListN.{length}
 use Rattle.route_table.specs.declared.row.Row.{Row}
-use Rattle.route_table.specs.Rows.{usable, withdrawnAt, rowFor}
+use Rattle.octets.specs.Ordered.{putBy}
+use Rattle.route_table.specs.Rows.{leadingTo, usable, withdrawnAt, rowFor}
 use Rattle.route_merges.specs.declared.candidate.Candidate.{Candidate}
 use Rattle.route_merges.specs.Candidates.{bad}
 
@@ -27,8 +28,7 @@ takenBack via time r = usable time r && eqb (r .«next_hop») via
 
 -- a row at its place among ascending ones: in place of the one for its destination, or before the first that is higher
 abbrev pub put : Row → List Row → List Row
-put w [] = w ∷ []
-put w (r ∷ rs) = cond (ltb (r .destination) (w .destination)) (r ∷ put w rs) (cond (eqb (r .destination) (w .destination)) (w ∷ rs) (w ∷ r ∷ rs))
+put w rs = putBy leadingTo w rs
 
 pub record Learned : Type 0 where
   pub rows : List Row

@@ -1,4 +1,5 @@
--- The candidates of an update as the code walks them: one for each entry, where an entry that is passed over offers nothing.
+-- Needs no belief, laws carry it to the candidates: an update's candidates as the code walks them, one for each entry, where an entry that is passed over
+-- offers nothing.
 -- Assumes nothing.
 use Prim.Native.Nat.{ℕ, zero, suc, _+_}
 use mathlib.Core.Bool.{Bool, _||_, cond}

@@ -1,5 +1,5 @@
--- What the code sees of a table's 48 places while it looks for a candidate's row: the search goes up from a place behind lower ones and stops at the
--- first that is not lower. The laws carry it to the list of rows.
+-- Needs no belief, laws carry it to the list of rows: what the code sees of a table's 48 places while it looks for a candidate's row. The search goes up from
+-- a place behind lower ones and stops at the first that is not lower.
 -- Assumes nothing.
 use Prim.Native.Nat.{ℕ}
 use mathlib.Core.Bool.{Bool, not, _&&_, _||_, cond}

@@ -5,6 +5,7 @@ ghost use Rattle.frame_traffic.specs.Traffic.{entryAt};
 ghost use Rattle.route_merges.specs.Candidates.{neighbour, offered, passedOver, bad};
 ghost use Rattle.route_merges.specs.Offering.{nothing, offerOf, offerAt};
 use frame_traffic::entry::Entry;
+use route_table::row::Row;
 
 // One hop more than an unreachable entry has is 256.
 pub struct Candidate {
@@ -14,6 +15,9 @@ pub struct Candidate {
 }
 
 impl Candidate {
+    // As many as a row may have, in a candidate's own width.
+    const MOST_HOPS: u16 = 16;
+
     // The origin of an update itself.
     pub(crate) fn neighbour(origin: u16, quality: u8) -> Candidate
         ensures { λ r. ⌜ r ≡ neighbour origin quality ⌝ }
@@ -75,6 +79,6 @@ impl Candidate {
     pub(crate) fn bad(self) -> bool
         ensures { λ r. ⌜ r ≡ bad self ⌝ }
     {
-        (16 < self.hops) | (self.quality < 40)
+        (Candidate::MOST_HOPS < self.hops) | (self.quality < Row::LEAST_QUALITY)
     }
 }

@@ -1,4 +1,4 @@
-// Merges: what a table learns from the routing updates of its neighbours.
+// What a table learns from the routing updates of its neighbours.
 pub mod candidate;
 pub mod merging;
 mod steps;

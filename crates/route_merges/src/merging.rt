@@ -14,10 +14,10 @@ use crate::steps::made;
 use crate::steps::skips;
 use crate::steps::starts;
 use crate::steps::stores;
-use frame_reading::parts::entries;
-use frame_reading::refusals::update;
 use frame_traffic::update::UpdateHeader;
+use frame_traffic::update::entries;
 use moments::in_order;
+use octets::answers::Refusal;
 use octets::answers::refuse_if;
 use route_table::row::Row;
 use route_table::standing::standing_places;
@@ -90,10 +90,10 @@ pub(crate) fn why_unmerged(own: u16, last: u32, frame: &[u8], quality: u8, time:
     ensures { λ r. ⌜ r ≡ first (unmergedReasons own last (now (frame .entry)) quality time) ⌝ }
 {
     let origin = UpdateHeader::of(frame).origin;
-    let unread = update(frame);
-    let refused = refuse_if(quality < 40, 9, 0);
-    let refused = refuse_if(!in_order(last, time), 8, refused);
-    let refused = refuse_if(origin == own, 6, refused);
+    let unread = UpdateHeader::refusal(frame);
+    let refused = refuse_if(quality < Row::LEAST_QUALITY, Refusal::QUALITY, 0);
+    let refused = refuse_if(!in_order(last, time), Refusal::EARLIER, refused);
+    let refused = refuse_if(origin == own, Refusal::OWN, refused);
     refuse_if(unread != 0, unread, refused)
 }
 
@@ -102,7 +102,7 @@ pub fn merge(table: Table, frame: &[u8], quality: u8, time: u32) -> Merged
     ensures { λ r. ⌜ r ≡ mergeOf table (now (frame .entry)) quality time ⌝ }
 {
     let refused = why_unmerged(table.own, table.time, frame, quality, time);
-    let refused = refuse_if(!table.within_rule(), 14, refused);
+    let refused = refuse_if(!table.within_rule(), Refusal::RULE, refused);
     if refused != 0 {
         return Merged {
             refused,

@@ -6,8 +6,9 @@ ghost use Rattle.route_merges.specs.Merges.{mergeRefusal};
 ghost use Rattle.route_merges.specs.StoredMerges.{mergedIn, mergeCall};
 use crate::merging::learn_all;
 use crate::merging::why_unmerged;
-use frame_reading::parts::entries;
 use frame_traffic::update::UpdateHeader;
+use frame_traffic::update::entries;
+use octets::answers::Refusal;
 use route_bytes::tables::head_of;
 use route_bytes::tables::put_table;
 use route_in_place::judging::holds_table;
@@ -25,7 +26,7 @@ fn why_unmerged_in(s: &[u8], frame: &[u8], quality: u8, time: u32) -> u8
     ensures { λ r. ⌜ r ≡ storedTable (now (s .entry)) (mergeRefusal (tableIn (now (s .entry))) (now (frame .entry)) quality time) ⌝ }
 {
     if !holds_table(s) {
-        return 14;
+        return Refusal::RULE;
     }
     let head = head_of(s);
     why_unmerged(head.own, head.time, frame, quality, time)

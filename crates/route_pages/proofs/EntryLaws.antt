@@ -1,13 +1,6 @@
 -- Entries in bytes, one after the other: how many bytes they are, one put a turn, and that they are read back.
 -- Assumes nothing.
-use mathlib.Core.Path.{_≡_, refl, ap, _∙_}
-use mathlib.Core.Bool.{true}
-use mathlib.Core.List.{List, [], _∷_, _++_, map}
-use Prim.Native.Nat.{ℕ, _+_, _*_, _-_, _≤_}
-use native.Mathlib.Nat.{zero-add}
-use native.Mathlib.Omega.{arith}
-use lib.ListN.{length, take, drop}
-use lib.Seq.{sets}
+use Rattle.octets.proofs.Words.{_≡_, refl, ap, _∙_, true, List, [], _∷_, _++_, map, ℕ, _+_, _*_, _-_, _≤_, zero-add, arith, length, take, drop, sets}
 use Rattle.octets.specs.Layouts.{bytes, Bytes, Fit}
 use Rattle.octets.proofs.ByteLaws.{no-bytes, append-bytes, layout-bytes}
 use Rattle.octets.proofs.RunLaws.{Run, run-length, put-turn, run-read}
@@ -68,7 +61,3 @@ entry-quality time x e = rw e
 pub entry-destination : (time : ℕ) (x : Row) → entryFor time x .destination ≡ x .destination
 unfolding entryFor
 entry-destination time x = refl
-
-pub entry-next : (time : ℕ) (x : Row) → entryFor time x .«next_hop» ≡ x .«next_hop»
-unfolding entryFor
-entry-next time x = refl

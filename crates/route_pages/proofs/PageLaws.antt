@@ -1,28 +1,20 @@
 -- A page as an update, and the call that writes it, from what its parts say: the same for a table by value and for one that lies in bytes.
 -- Assumes nothing.
-use mathlib.Core.Path.{_≡_, refl, sym, _∙_}
-use mathlib.Core.Bool.{true, false, _||_}
-use mathlib.Core.List.{List, [], _∷_, map}
-use Prim.Native.Nat.{ℕ, _+_, _*_, _≤_, _<_}
-use native.Mathlib.Decide.{decLt}
-use native.Mathlib.Omega.{arith}
-use borrow.Author.Tests.{ne-eqb, lt-ltb, le-ltb, ltb-false}
-use lib.Dec.{eqb, ltb}
-use lib.ListN.{length, take, drop, set, length-take, length-drop, length-map}
-use lib.Seq.{sets}
+use Rattle.octets.proofs.Words.{_≡_, refl, sym, ap, _∙_, true, false, List, [], _∷_, map, ℕ, _+_, _*_, _≤_, _<_, decLt, arith, ne-eqb, lt-ltb, le-ltb, ltb-false, ltb, length, take, drop, set, length-take, length-drop, length-map, sets}
 use Rattle.octets.specs.Answers.{first}
 use Rattle.octets.specs.Layouts.{bytes}
 use Rattle.octets.specs.Sums.{xors}
 use Rattle.octets.specs.declared.answers.Written.{Written}
 use Rattle.octets.specs.Told.{wrote}
-use Rattle.octets.proofs.AnswerLaws.{numbered, none-holds}
+use Rattle.octets.proofs.AnswerLaws.{none-holds}
 use Rattle.frame_traffic.specs.Traffic.{update}
-use Rattle.frame_writing.proofs.WritingLaws.{frame-length, sealed-stored}
+use Rattle.frame_kinds.proofs.StoredLaws.{frame-length, frame-put}
 use Rattle.route_table.specs.declared.row.Row.{Row}
 use Rattle.route_table.specs.declared.table.Table.{Table}
 use Rattle.route_table.specs.Rows.{standing}
 use Rattle.route_table.specs.Tables.{rowsOf, withinRule}
-use Rattle.route_pages.specs.Pages.{entryFor, onPage, pageFrame, unpagedReasons, pageRefusal, pageOf}
+use Rattle.route_pages.specs.Pages.{entryFor, onPage, pageFrame, pageRefusal, pageOf}
+use Rattle.route_pages.specs.Places.{unpagedReasons}
 use Rattle.route_pages.proofs.EntryLaws.{rowEntries, length-entries}
 
 -- ---- a page
@@ -57,7 +49,7 @@ pub record Paged (t : Table) (p time : ℕ) (out : List ℕ) (count refused : �
   pub counted : count ≡ length (onPage (standing time (rowsOf t)) p)
   pub last : ℕ
   pub accepted : last ≡ t .time
-  pub why : refused ≡ first (unpagedReasons last (eqb p 0 || ltb 0 count) (9 + 10 * count) time (length out))
+  pub why : refused ≡ first (unpagedReasons last p count time (length out))
 
 module _ {t : Table} {p time : ℕ} {out : List ℕ} {count refused : ℕ} (k : Paged t p time out count refused) where
   abbrev rs : List Row
@@ -74,8 +66,8 @@ module _ {t : Table} {p time : ℕ} {out : List ℕ} {count refused : ℕ} (k : 
     -- there is room for it
     pub page-room : 9 + 10 * count ≤ length out
     page-room =
-        let none = none-holds (unpagedReasons (k .last) (eqb p 0 || ltb 0 count) (9 + 10 * count) time (length out))
-        (numbered _ 8 (λ y. omega arith), (numbered _ 14 (λ y. omega arith), (numbered _ 5 (λ y. omega arith), tt)))
+        let none = none-holds (unpagedReasons (k .last) p count time (length out))
+        _
         (sym (k .why) ∙ z) in
         ltb-false (length out) (9 + 10 * count) (none .1 .1 .0)
 
@@ -85,9 +77,9 @@ module _ {t : Table} {p time : ℕ} {out : List ℕ} {count refused : ℕ} (k : 
         → wrote (Written.Done (9 + 10 * count)) three ≡ pageOf t p time out
     unfolding pageOf
     page-written own o rows r one two three a b c =
-        let n : 8 + 10 * count ≡ 8 + length (rowEntries time rs) = omega (arith, length-rows time rs, k .counted) in
+        let n : 8 + 10 * count ≡ 8 + length (rowEntries time rows) = omega (arith, length-rows time rows, k .counted, ap length r) in
         let size : 9 + 10 * count ≡ length (pageFrame t p time) = rw (k .counted) (sym (page-size t p time)) in
         let whole : three ≡ sets out 0 (pageFrame t p time) =
-        c ∙ rw (b, r, a, n, o, k .counted)
-        (sealed-stored (1 ∷ update .widths) (update .code ∷ t .own ∷ length rs ∷ time ∷ []) (rowEntries time rs) out 8 refl refl _ (omega (arith, page-room, length-rows time rs, k .counted)) refl) in
+        rw (← o, ← k .counted, ← r)
+        (frame-put update (own ∷ count ∷ time ∷ []) (rowEntries time rows) out refl one two three (omega (arith, page-room, n)) a b (c ∙ rw n)) in
         rw (← number, z, whole, size)

@@ -1,15 +1,6 @@
 -- The places of a table by value: those in use counted, an entry put for each of some, and those of a page.
 -- Assumes nothing.
-use mathlib.Core.Path.{_≡_, refl, sym, ap, _∙_}
-use mathlib.Core.Bool.{Bool, true, false, cond}
-use mathlib.Core.List.{List, [], _∷_, _++_, append-nil}
-use Prim.Native.Nat.{ℕ, _+_, _*_, _-_, _≤_, _<_, min}
-use native.Mathlib.Numerals.{add-one}
-use native.Mathlib.Decide.{decLe}
-use native.Mathlib.Omega.{arith}
-use lib.Dec.{eqb}
-use lib.ListN.{length, getD, take, drop, length-take, length-drop, drop-of-length-le}
-use lib.Seq.{sets, drop-cons, getD-take, length-take-le, take-take, take-add, take-nil, drop-at}
+use Rattle.octets.proofs.Words.{_≡_, refl, sym, ap, _∙_, Bool, true, false, cond, List, [], _∷_, _++_, append-nil, ℕ, _+_, _*_, _-_, _≤_, _<_, min, decLe, add-one, arith, eqb, length, getD, take, drop, length-take, length-drop, drop-of-length-le, sets, drop-cons, getD-take, length-take-le, take-take, take-add, take-nil, drop-at}
 use Rattle.octets.specs.Layouts.{bytes}
 use Rattle.octets.specs.Lists.{every}
 use Rattle.octets.proofs.PartLaws.{take-min}

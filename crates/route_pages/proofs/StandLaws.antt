@@ -1,14 +1,6 @@
 -- Where a row stands among the pages, and that a page is made of bytes.
 -- Assumes nothing.
-use mathlib.Core.Path.{_≡_, _∙_}
-use mathlib.Core.Bool.{true}
-use mathlib.Core.List.{List, [], _∷_, map}
-use Prim.Native.Nat.{ℕ, _+_, _*_, _-_, _/_, _<_}
-use native.Mathlib.Omega.{arith}
-use borrow.Author.Tests.{lt-ltb}
-use lib.Dec.{eqb, ltb}
-use lib.ListN.{length, getD, drop, length-take, length-drop}
-use lib.Seq.{getD-take, getD-drop}
+use Rattle.octets.proofs.Words.{_≡_, _∙_, true, List, [], _∷_, map, ℕ, _+_, _*_, _-_, _/_, _<_, arith, lt-ltb, eqb, ltb, length, getD, drop, length-take, length-drop, getD-take, getD-drop}
 use Rattle.octets.specs.Layouts.{Bytes}
 use Rattle.octets.specs.Lists.{Some}
 use Rattle.octets.proofs.EachLaws.{some-at}

@@ -1,11 +1,6 @@
 -- A page of a table that lies in bytes is that of the table that they hold, and its rows are those from the place behind the pages before.
 -- Assumes nothing.
-use mathlib.Core.Path.{_≡_, refl, ap, _∙_}
-use mathlib.Core.Bool.{Bool, true, false, cond}
-use mathlib.Core.List.{List}
-use Prim.Native.Nat.{ℕ, _*_, _≤_}
-use native.Mathlib.Omega.{arith}
-use lib.ListN.{length, take, drop, length-take}
+use Rattle.octets.proofs.Words.{_≡_, refl, ap, _∙_, Bool, true, false, cond, List, ℕ, _*_, _≤_, arith, length, take, drop, length-take}
 use Rattle.octets.specs.Answers.{refused}
 use Rattle.octets.specs.declared.answers.Written.{Written}
 use Rattle.octets.specs.Told.{wrote}

@@ -1,13 +1,6 @@
 -- The loops over the places of a table that lies in bytes: rows that stand are passed, counted, and given an entry each.
 -- Assumes nothing.
-use mathlib.Core.Path.{_≡_, refl, sym, ap, _∙_}
-use mathlib.Core.Bool.{true, false}
-use mathlib.Core.List.{List, [], _∷_, _++_}
-use Prim.Native.Nat.{ℕ, suc, _+_, _*_, _-_, _≤_, _<_}
-use native.Mathlib.Decide.{decLe}
-use native.Mathlib.Omega.{arith}
-use lib.ListN.{length, take, drop}
-use lib.Seq.{sets, take-nil, drop-nil}
+use Rattle.octets.proofs.Words.{_≡_, refl, sym, ap, _∙_, true, false, List, [], _∷_, _++_, ℕ, suc, _+_, _*_, _-_, _≤_, _<_, decLe, arith, length, take, drop, sets, take-nil, drop-nil}
 use Rattle.octets.specs.Layouts.{bytes}
 use Rattle.frame_traffic.specs.declared.entry.Entry.{Entry}
 use Rattle.frame_traffic.specs.Traffic.{entryWidths, entryValues}

@@ -49,18 +49,14 @@ pageFrame t p time =
     let rs = onPage (standing time (rowsOf t)) p in
     frameOf update (t .own ∷ length rs ∷ time ∷ []) (entriesBytes (map (entryFor time) rs))
 
--- why a table within rule, with this last accepted time, does not write a page that exists or not and has so many bytes: 8 14 5
-abbrev pub unpagedReasons : ℕ → Bool → ℕ → ℕ → ℕ → List Reason
-unpagedReasons last there size time room =
-    reason (not (inOrder last time)) 8 ∷
-    reason (not there) 14 ∷
-    reason (ltb room size) 5 ∷
-    []
-
--- page: 14, then these, of the table's own rows, ..
+-- page: 14 8 14 5, ..
 abbrev pub pageReasons : Table → ℕ → ℕ → ℕ → List Reason
 pageReasons t p time room =
-    reason (not (withinRule t)) 14 ∷ unpagedReasons (t .time) (pageThere (standing time (rowsOf t)) p) (length (pageFrame t p time)) time room
+    reason (not (withinRule t)) 14 ∷
+    reason (not (inOrder (t .time) time)) 8 ∷
+    reason (not (pageThere (standing time (rowsOf t)) p)) 14 ∷
+    reason (ltb room (length (pageFrame t p time))) 5 ∷
+    []
 
 abbrev pub pageRefusal : Table → ℕ → ℕ → ℕ → ℕ
 pageRefusal t p time room = first (pageReasons t p time room)

@@ -8,10 +8,9 @@ ghost use Rattle.octets.specs.Told.{wrote};
 ghost use Rattle.route_table.specs.Rows.{inUse};
 ghost use Rattle.route_pages.specs.Pages.{entryFor, entriesBytes, pageOf};
 use crate::writing::entry_for;
-use crate::writing::put_entry;
-use crate::writing::put_header;
 use crate::writing::refusal;
-use crate::writing::seal;
+use frame_kinds::sealing::seal;
+use frame_traffic::update::UpdateHeader;
 use octets::answers::Refusal;
 use octets::answers::Written;
 use octets::parts::smaller;
@@ -42,7 +41,7 @@ fn put_entries(out: &mut [u8], rows: [Row; 48], from: usize, to: usize, time: u3
         let row = rows[i];
         let start = 8 + 10 * (i - from);
         let end = start + 10;
-        put_entry(&mut out[start..end], entry_for(row, time));
+        entry_for(row, time).put(&mut out[start..end]);
         i += 1;
     }
 }
@@ -59,7 +58,9 @@ pub fn page(table: Table, number: u32, time: u32, out: &mut [u8]) -> Written
     ensures { λ r. ⌜ wrote r (now (out .exit)) ≡ pageOf table number time (now (out .entry)) ⌝ }
 {
     if !table.within_rule() {
-        return Written::Refused(Refusal { number: 14 });
+        return Written::Refused(Refusal {
+            number: Refusal::RULE,
+        });
     }
     let rows = table.rows;
     let stand = standing_places(rows, time);
@@ -70,8 +71,13 @@ pub fn page(table: Table, number: u32, time: u32, out: &mut [u8]) -> Written
     if refused != 0 {
         return Written::Refused(Refusal { number: refused });
     }
-    put_header(out, table.own, count as u8, time);
+    let header = UpdateHeader {
+        origin: table.own,
+        count: count as u8,
+        time,
+    };
+    header.put(out);
     put_entries(out, stand, from, to, time);
-    seal(out, count);
+    seal(out, 8 + 10 * count);
     Written::Done(9 + 10 * count)
 }

@@ -8,7 +8,6 @@ ghost use Rattle.route_table.specs.Rows.{standing};
 ghost use Rattle.route_pages.specs.Pages.{entryFor, entriesBytes};
 ghost use Rattle.route_pages.specs.Places.{rowsFrom};
 use crate::writing::entry_for;
-use crate::writing::put_entry;
 use route_bytes::tables::row_at;
 
 // The place behind the first rows that stand, so many of them; 48 or an empty place where there are fewer.
@@ -72,7 +71,7 @@ pub(crate) fn put_standing(out: &mut [u8], s: &[u8], from: u8, count: usize, tim
         }
         let start = 8 + 10 * put;
         let end = start + 10;
-        put_entry(&mut out[start..end], entry_for(row, time));
+        entry_for(row, time).put(&mut out[start..end]);
         put += 1;
     }
 }

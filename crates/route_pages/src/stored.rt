@@ -5,9 +5,9 @@ ghost use Rattle.route_pages.specs.Pages.{pageIn};
 use crate::rows::place_behind;
 use crate::rows::put_standing;
 use crate::rows::standing_from;
-use crate::writing::put_header;
 use crate::writing::refusal;
-use crate::writing::seal;
+use frame_kinds::sealing::seal;
+use frame_traffic::update::UpdateHeader;
 use octets::answers::Refusal;
 use octets::answers::Written;
 use route_bytes::tables::head_of;
@@ -18,7 +18,9 @@ pub fn page_in(table: &[u8], number: u32, time: u32, out: &mut [u8]) -> Written
     ensures { λ r. ⌜ wrote r (now (out .exit)) ≡ pageIn (now (table .entry)) number time (now (out .entry)) ⌝ }
 {
     if !holds_table(table) {
-        return Written::Refused(Refusal { number: 14 });
+        return Written::Refused(Refusal {
+            number: Refusal::RULE,
+        });
     }
     let head = head_of(table);
     let place = place_behind(table, 24 * (number as usize), time);
@@ -27,8 +29,13 @@ pub fn page_in(table: &[u8], number: u32, time: u32, out: &mut [u8]) -> Written
     if refused != 0 {
         return Written::Refused(Refusal { number: refused });
     }
-    put_header(out, head.own, count as u8, time);
+    let header = UpdateHeader {
+        origin: head.own,
+        count: count as u8,
+        time,
+    };
+    header.put(out);
     put_standing(out, table, place, count, time);
-    seal(out, count);
+    seal(out, 8 + 10 * count);
     Written::Done(9 + 10 * count)
 }

@@ -1,30 +1,20 @@
 -- Passing a beacon on, from what its parts say.
 -- Assumes nothing.
-use mathlib.Core.Path.{_≡_, sym, ap, _∙_}
-use mathlib.Core.Bool.{true, not, cond}
-use mathlib.Core.List.{List, [], _∷_, _++_}
-use Prim.Native.Nat.{ℕ}
-use native.Mathlib.Omega.{arith}
-use borrow.Author.Tests.{not-false}
-use lib.Dec.{eqb}
-use lib.ListN.{length}
-use Rattle.octets.specs.Answers.{Said, reason, refusing, first}
-use Rattle.octets.proofs.AnswerLaws.{Numbered, numbered, refusing-numbered, none-holds}
+use Rattle.octets.proofs.Words.{_≡_, sym, ap, _∙_, true, not, cond, List, [], _∷_, _++_, ℕ, not-false, eqb, length}
+use Rattle.octets.specs.Answers.{reason, refusing, first}
+use Rattle.octets.proofs.AnswerLaws.{Numbered, refusing-numbered, none-holds}
 use Rattle.octets.proofs.ReasonLaws.{first-append, first-behind, first-refusing}
 use Rattle.route_table.specs.declared.row.Row.{Row}
+use Rattle.route_table.specs.declared.table.Found.{Found}
 use Rattle.route_table.specs.declared.table.Head.{Head}
 use Rattle.route_table.specs.declared.table.Table.{Table}
 use Rattle.route_table.specs.Rows.{rowFor, standingPlaces}
-use Rattle.route_table.specs.Tables.{rowsOf, headOf, withinRule, settled, foundBy, lookupOf}
+use Rattle.route_table.specs.Tables.{rowsOf, headOf, withinRule, settled, foundBy}
 use Rattle.route_table.proofs.LookupLaws.{looked-up}
 use Rattle.route_table.proofs.StandingLaws.{standing-places}
 use Rattle.route_table.proofs.TableLaws.{settled-same, held}
 use Rattle.route_passing.specs.declared.Passing.{Passing}
 use Rattle.route_passing.specs.Passes.{passingReasons, tableReasons, passedHead, recorded, passReasons, passOf}
-
-pub passing-numbered : (h : Head) (found : Said) (network : ℕ) (p : Passing) (delay time : ℕ) → Numbered (passingReasons h found network p delay time)
-passing-numbered h found network p delay time =
-    (numbered _ 6 (λ z. omega arith), (numbered _ 15 (λ z. omega arith), (numbered _ 8 (λ z. omega arith), (numbered _ 11 (λ z. omega arith), (numbered _ 16 (λ z. omega arith), (numbered _ 4 (λ z. omega arith), tt))))))
 
 module _ (t : Table) (before network : ℕ) (p : Passing) (delay time behind : ℕ) where
   abbrev from : ℕ
@@ -38,10 +28,10 @@ module _ (t : Table) (before network : ℕ) (p : Passing) (delay time behind : �
       ∙ (first-behind (reason (not (withinRule t)) 14 ∷ []) (refusing before ∷ refusing unpassed ∷ refusing behind ∷ []) (refusing before ∷ tableReasons t network p delay time ++ (refusing behind ∷ []))
       (λ n.
       let found = looked-up t from time (not-false (withinRule t) (n .0)) in
-      let why : unpassed ≡ first (tableReasons t network p delay time) = e ∙ sym (ap (λ (said : Said). first (passingReasons (headOf t) said network p delay time)) found) in
+      let why : unpassed ≡ first (tableReasons t network p delay time) = e ∙ sym (ap (λ (f : Found). first (passingReasons (headOf t) f network p delay time)) found) in
       rw why
       (first-behind (refusing before ∷ []) (refusing (first (tableReasons t network p delay time)) ∷ refusing behind ∷ []) (tableReasons t network p delay time ++ (refusing behind ∷ []))
-      (λ m. sym (first-append (tableReasons t network p delay time) (refusing behind ∷ []) (passing-numbered (headOf t) (lookupOf t from time) network p delay time))))))
+      (λ m. sym (first-append (tableReasons t network p delay time) (refusing behind ∷ []) _)))))
 
   -- a beacon that nothing refuses was not refused before, and the table is within rule
   pub pass-right : first (passReasons t before network p delay time behind) ≡ 0 → withinRule t ≡ true
@@ -51,7 +41,7 @@ module _ (t : Table) (before network : ℕ) (p : Passing) (delay time behind : �
     where
       numbers : Numbered (passReasons t before network p delay time behind)
       numbers =
-          (numbered _ 14 (λ z. omega arith), (refusing-numbered before, (numbered _ 6 (λ z. omega arith), (numbered _ 15 (λ z. omega arith), (numbered _ 8 (λ z. omega arith), (numbered _ 11 (λ z. omega arith), (numbered _ 16 (λ z. omega arith), (numbered _ 4 (λ z. omega arith), (refusing-numbered behind, tt)))))))))
+          (_, (refusing-numbered before, (_, (_, (_, (_, (_, (_, (refusing-numbered behind, _)))))))))
 
   -- the table as the code builds it
   pub passes : (n : ℕ) (h : Head) (rows : List Row) → length (t .rows) ≡ 48 → n ≡ first (passReasons t before network p delay time behind) → h ≡ passedHead (headOf t) p time

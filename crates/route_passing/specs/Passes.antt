@@ -4,10 +4,10 @@ use Prim.Native.Nat.{ℕ, _+_}
 use mathlib.Core.Bool.{Bool, true, not, _&&_}
 use mathlib.Core.List.{List, [], _∷_, _++_}
 use lib.Dec.{eqb, ltb}
-use lib.ListN.{getD}
-use Rattle.octets.specs.Answers.{Said, Reason, reason, refusing, first}
+use Rattle.octets.specs.Answers.{Reason, reason, refusing, first}
 use Rattle.moments.specs.Moments.{inOrder}
 use Rattle.route_table.specs.declared.table.Changed.{Changed}
+use Rattle.route_table.specs.declared.table.Found.{Found}
 use Rattle.route_table.specs.declared.table.Head.{Head}
 use Rattle.route_table.specs.declared.table.Table.{Table}
 use Rattle.route_table.specs.Rows.{standing}
@@ -18,21 +18,18 @@ use Rattle.route_passing.specs.declared.Passing.{Passing}
 abbrev pub again : Head → Passing → Bool
 again h p = h .forwarded && eqb (h .origin) (p .«original_source») && eqb (h .sequence) (p .sequence)
 
--- a unit's own hop: its lookup's hops to the beacon's original source
-abbrev pub ownHop : Said → ℕ
-ownHop found = getD (found .values) 1 0
-
--- it is this unit's to forward: its own hop is the beacon's and one more, the beacon may go further, and it is a new one
-abbrev pub toForward : Head → Said → Passing → Bool
-toForward h found p = eqb (ownHop found) (p .hop + 1) && ltb (p .hop) (p .«max_hops») && not (again h p)
+-- it is this unit's to forward: its own hop, its lookup's hops to the beacon's original source, is the beacon's and one more, the beacon may go further, and
+-- it is a new one
+abbrev pub toForward : Head → Found → Passing → Bool
+toForward h found p = eqb (found .hops) (p .hop + 1) && ltb (p .hop) (p .«max_hops») && not (again h p)
 
 -- why a beacon that was read is not passed on by a table within rule with this head, which answers `found` to a lookup of its original source: 6 15 8 11 16 4
-abbrev pub passingReasons : Head → Said → ℕ → Passing → ℕ → ℕ → List Reason
+abbrev pub passingReasons : Head → Found → ℕ → Passing → ℕ → ℕ → List Reason
 passingReasons h found network p delay time =
     reason (eqb (p .source) (h .own)) 6 ∷
     reason (not (eqb (p .network) network)) 15 ∷
     reason (not (inOrder (h .time) time)) 8 ∷
-    reason (not (eqb (found .refusal) 0)) 11 ∷
+    reason (not (eqb (found .refused) 0)) 11 ∷
     reason (not (toForward h found p)) 16 ∷
     reason (ltb 0xFFFFFFFF (p .delay + delay)) 4 ∷
     []

@@ -1,9 +1,9 @@
-// Passing: what a forwarder needs of a beacon, apart from any layout; why a table does not pass it on, and what it records when it does.
+// What a forwarder needs of a beacon, apart from any layout; why a table does not pass it on, and what it records when it does.
 ghost use mathlib.Core.Path.{_≡_};
 ghost use Rattle.octets.specs.Answers.{first};
-ghost use Rattle.route_table.specs.Told.{toldFound};
 ghost use Rattle.route_passing.specs.Passes.{again, passingReasons, passedHead, passOf};
 use moments::in_order;
+use octets::answers::Refusal;
 use octets::answers::refuse_if;
 use route_table::standing::standing_places;
 use route_table::table::Changed;
@@ -41,17 +41,17 @@ pub fn why_not_passed(
     delay: u32,
     time: u32,
 ) -> u8
-    ensures { λ r. ⌜ r ≡ first (passingReasons head (toldFound found) network passing delay time) ⌝ }
+    ensures { λ r. ⌜ r ≡ first (passingReasons head found network passing delay time) ⌝ }
 {
-    let next = found.hop().hops as u16 == passing.hop as u16 + 1;
+    let next = found.hops as u16 == passing.hop as u16 + 1;
     let ours = next & (passing.hop < passing.max_hops) & !again(head, passing);
     let sum = passing.delay as u64 + delay as u64;
-    let refused = refuse_if(0xFFFFFFFF < sum, 4, 0);
-    let refused = refuse_if(!ours, 16, refused);
-    let refused = refuse_if(!(found.refusal() == 0), 11, refused);
-    let refused = refuse_if(!in_order(head.time, time), 8, refused);
-    let refused = refuse_if(!(passing.network == network), 15, refused);
-    refuse_if(passing.source == head.own, 6, refused)
+    let refused = refuse_if(0xFFFFFFFF < sum, Refusal::FIELD, 0);
+    let refused = refuse_if(!ours, Refusal::NOT_OURS, refused);
+    let refused = refuse_if(!(found.refused == 0), Refusal::NO_ROUTE, refused);
+    let refused = refuse_if(!in_order(head.time, time), Refusal::EARLIER, refused);
+    let refused = refuse_if(!(passing.network == network), Refusal::NETWORK, refused);
+    refuse_if(passing.source == head.own, Refusal::OWN, refused)
 }
 
 // The head of a table when a beacon was passed on: its pair and the time.
@@ -87,7 +87,7 @@ pub fn pass(
     let unpassed = why_not_passed(head, found, network, passing, delay, time);
     let refused = refuse_if(!(unpassed == 0), unpassed, behind);
     let refused = refuse_if(!(before == 0), before, refused);
-    let refused = refuse_if(!table.within_rule(), 14, refused);
+    let refused = refuse_if(!table.within_rule(), Refusal::RULE, refused);
     let new = passed_head(head, passing, time);
     let stand = standing_places(rows, time);
     settled(

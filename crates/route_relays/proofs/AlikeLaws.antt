@@ -1,10 +1,6 @@
 -- Rows that are gone affect no answer: a table within rule and the same without them are answered alike.
 -- Assumes nothing.
-use mathlib.Core.Path.{_≡_}
-use mathlib.Core.Bool.{true}
-use mathlib.Core.List.{List}
-use Prim.Native.Nat.{ℕ}
-use lib.ListN.{length}
+use Rattle.octets.proofs.Words.{_≡_, true, List, ℕ, length}
 use Rattle.octets.specs.Parts.{Lent}
 use Rattle.route_table.specs.declared.table.Table.{Table}
 use Rattle.route_table.specs.Tables.{withinRule, dropped}

@@ -1,3 +1,2 @@
 pub mod AlikeLaws
 pub mod RelayLaws
-pub mod ToldLaws

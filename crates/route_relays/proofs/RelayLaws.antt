@@ -1,36 +1,26 @@
 -- Relaying, from what its parts say.
 -- Assumes nothing.
-use mathlib.Core.Path.{_≡_, refl, sym, ap, _∙_}
-use mathlib.Core.Bool.{Bool, true, false, not, _&&_, cond, and-eq-true-iff, false≢true}
-use mathlib.Core.List.{List, [], _∷_}
-use Prim.Native.Nat.{ℕ, _+_, _≤_}
-use native.Mathlib.Omega.{arith}
-use borrow.Author.Tests.{eqb-true, leb-false, ltb-false, not-true, not-false}
-use lib.Dec.{eqb}
-use lib.ListN.{length, getD}
-use lib.Seq.{sets}
-use Rattle.octets.specs.Answers.{Said, accepted, refused, Reason, first, unless}
+use Rattle.octets.proofs.Words.{_≡_, refl, sym, ap, _∙_, Bool, true, false, not, _&&_, cond, and-eq-true-iff, false≢true, List, [], _∷_, ℕ, _+_, _≤_, arith, eq-eqb, eqb-true, leb-false, ltb-false, not-true, not-false, eqb, length, sets}
+use Rattle.octets.specs.Answers.{Reason, first}
 use Rattle.octets.specs.Parts.{Lent, partOf}
-use Rattle.octets.specs.Told.{Wrote}
-use Rattle.octets.proofs.AnswerLaws.{Numbered, numbered, refusing-numbered, none-holds}
+use Rattle.octets.proofs.AnswerLaws.{Numbered, refusing-numbered, none-holds}
 use Rattle.moments.specs.Moments.{inOrder}
 use Rattle.frame_kinds.specs.Reading.{refusalAs}
-use Rattle.frame_kinds.specs.Rules.{address}
+use Rattle.octets.specs.Addresses.{address}
 use Rattle.frame_kinds.specs.Shape.{valuesIn, partIn, partLent, frameOf}
 use Rattle.frame_kinds.proofs.ReadingLaws.{passed, part-length}
 use Rattle.frame_traffic.specs.declared.data_frame.DataHeader.{DataHeader}
 use Rattle.frame_traffic.specs.Traffic.{dataKind, dataValues, dataFrom}
-use Rattle.frame_writing.proofs.WritingLaws.{frame-length}
+use Rattle.frame_kinds.proofs.StoredLaws.{frame-length}
+use Rattle.route_table.specs.declared.table.Found.{Found}
 use Rattle.route_table.specs.declared.table.Table.{Table}
-use Rattle.route_table.specs.declared.table.Hop.{Hop}
 use Rattle.route_table.specs.Rows.{rowFor}
 use Rattle.route_table.specs.Tables.{rowsOf, withinRule, foundBy, lookupOf}
-use Rattle.route_table.specs.Told.{hopOf}
 use Rattle.route_table.proofs.LookupLaws.{looked-up, lookup-told}
 use Rattle.route_bytes.specs.TableBytes.{tableIn, isTable, holdsTable}
 use Rattle.route_in_place.proofs.JudgedLaws.{judged-table}
 use Rattle.route_relays.specs.declared.relaying.Relayed.{Relayed}
-use Rattle.route_relays.specs.Relays.{dataIn, isFor, forUs, passedOn, copyOf, unrelayedReasons, relayReasons, relayRefusal, relayOf, relayBy, relayIn, handedBack, toldRelayed, relayed}
+use Rattle.route_relays.specs.Relays.{dataIn, isFor, forUs, passedOn, copyOf, unrelayedReasons, relayReasons, relayRefusal, relayOf, relayBy, relayIn, handedBack, Relaying, relayed, unwritten, passedTo, relayedOr}
 
 pub header-in : (h : DataHeader) (s : List ℕ) → dataValues h ≡ valuesIn dataKind s → h ≡ dataIn s
 header-in h s e = ap dataFrom e
@@ -45,17 +35,17 @@ pub read-destination : (s : List ℕ) → refusalAs dataKind s ≡ 0 → address
 read-destination s e = and-eq-true-iff (address (dataIn s .source)) (address (dataIn s .destination)) .0 (passed _ _ _ s e .kept) .1
 
 -- ---- by a table within rule of which the unit, the last accepted time and a lookup are known
-module _ (own last : ℕ) (found : Said) (s : List ℕ) (time room : ℕ) where
+module _ (own last : ℕ) (found : Found) (s : List ℕ) (time room : ℕ) where
   pub numbers : Numbered (unrelayedReasons own last found s time room)
   numbers =
-      (refusing-numbered (refusalAs dataKind s), (numbered _ 6 (λ z. omega arith), (numbered _ 8 (λ z. omega arith), (numbered _ 10 (λ z. omega arith), (numbered _ 11 (λ z. omega arith), (numbered _ 5 (λ z. omega arith), tt))))))
+      (refusing-numbered (refusalAs dataKind s), _)
 
   -- what is known of a frame that is passed on
   record OnwardBy : Type 0 where
     unread : refusalAs dataKind s ≡ 0
     ordered : inOrder last time ≡ true
     lives : 2 ≤ dataIn s .ttl
-    there : found .refusal ≡ 0
+    there : found .refused ≡ 0
     fits : length (copyOf s) ≤ room
 
   onward-by : first (unrelayedReasons own last found s time room) ≡ 0 → isFor own s ≡ false → OnwardBy
@@ -66,7 +56,7 @@ module _ (own last : ℕ) (found : Said) (s : List ℕ) (time room : ℕ) where
         unread = eqb-true n 0 (not-false _ (none .0));
         ordered = not-false (inOrder last time) (none .1 .1 .0);
         lives = leb-false (dataIn s .ttl) 1 (rw o at (none .1 .1 .1 .0));
-        there = eqb-true (found .refusal) 0 (not-false _ (rw o at (none .1 .1 .1 .1 .0)));
+        there = eqb-true (found .refused) 0 (not-false _ (rw o at (none .1 .1 .1 .1 .0)));
         fits = ltb-false room (length (copyOf s)) (rw o at (none .1 .1 .1 .1 .1 .0));
       }
 
@@ -76,10 +66,10 @@ module _ (t : Table) (s : List ℕ) (time room : ℕ) where
   reasons = unrelayedReasons (t .own) (t .time) (lookupOf t (dataIn s .destination) time) s time room
 
   -- nothing refuses it: neither the table's rule nor what comes behind it
-  unrefused : relayRefusal t s time room ≡ 0 → (withinRule t ≡ true) × (first reasons ≡ 0)
+  pub unrefused : relayRefusal t s time room ≡ 0 → (withinRule t ≡ true) × (first reasons ≡ 0)
   unfolding relayRefusal
   unrefused e =
-      let none = none-holds (relayReasons t s time room) (numbered _ 14 (λ z. omega arith), numbers (t .own) (t .time) (lookupOf t (dataIn s .destination) time) s time room) e in
+      let none = none-holds (relayReasons t s time room) (_, numbers (t .own) (t .time) (lookupOf t (dataIn s .destination) time) s time room) e in
       let right = not-false (withinRule t) (none .0) in
       (right, rw right at e)
 
@@ -95,7 +85,7 @@ module _ (t : Table) (s : List ℕ) (time room : ℕ) where
     pub unread : refusalAs dataKind s ≡ 0
     pub ordered : inOrder (t .time) time ≡ true
     pub lives : 2 ≤ dataIn s .ttl
-    pub found : lookupOf t (dataIn s .destination) time .refusal ≡ 0
+    pub found : lookupOf t (dataIn s .destination) time .refused ≡ 0
     pub fits : length (copyOf s) ≤ room
 
   pub onward : relayRefusal t s time room ≡ 0 → forUs t s ≡ false → Onward
@@ -118,9 +108,52 @@ module _ (t : Table) (s : List ℕ) (time : ℕ) (out : List ℕ) (e : relayRefu
       omega (arith, copy-length s, part-is, p .sized, p .short)
 
   -- the answer to it: the next hop of the row for its destination, and the copy from the buffer's start
-  pub onto : record { said = accepted (rowFor (dataIn s .destination) (rowsOf t) .«next_hop» ∷ length (copyOf s) ∷ []); held = sets out 0 (copyOf s) } ≡ relayOf t s time out
+  pub onto : relayed (passedTo (rowFor (dataIn s .destination) (rowsOf t) .«next_hop») s) (sets out 0 (copyOf s)) ≡ relayOf t s time out
   unfolding relayOf
   onto = rw (lookup-told t (dataIn s .destination) time (known .found), e, o)
+
+-- ---- what every answer says
+module _ (number : ℕ) (ours : Bool) (found : Found) (s out : List ℕ) where
+  or-cases : (P : Relaying → Type 0) → (number ≡ 0 → ours ≡ false → P (relayed (passedTo (found .«next_hop») s) (sets out 0 (copyOf s))))
+      → ((number ≡ 0 → ours ≡ true) → P (relayed (unwritten number (dataIn s .count)) out)) → P (relayedOr number ours found s out)
+  or-cases P on off = go (eqb number 0) ours refl refl
+    where
+      go : (b u : Bool) → eqb number 0 ≡ b → ours ≡ u → P (cond (b && not u) (relayed (passedTo (found .«next_hop») s) (sets out 0 (copyOf s))) (relayed (unwritten number (dataIn s .count)) out))
+      go true true q o = off (λ z. o)
+      go true false q o = on (eqb-true number 0 q) o
+      go false u q o = off (λ z. absurd (false≢true (sym q ∙ eq-eqb number 0 z)))
+
+module _ (t : Table) (s : List ℕ) (time : ℕ) (out : List ℕ) where
+  by-cases : (P : Relaying → Type 0)
+      → (relayRefusal t s time (length out) ≡ 0 → forUs t s ≡ false → P (relayed (passedTo (lookupOf t (dataIn s .destination) time .«next_hop») s) (sets out 0 (copyOf s))))
+      → ((relayRefusal t s time (length out) ≡ 0 → forUs t s ≡ true) → P (relayed (unwritten (relayRefusal t s time (length out)) (dataIn s .count)) out)) → P (relayOf t s time out)
+  unfolding relayOf
+  by-cases = or-cases (relayRefusal t s time (length out)) (forUs t s) (lookupOf t (dataIn s .destination) time) s out
+
+  -- its number is the first reason's
+  pub relay-number : relayOf t s time out .answer .refused ≡ relayRefusal t s time (length out)
+  relay-number = by-cases (λ w. w .answer .refused ≡ relayRefusal t s time (length out)) (λ z o. sym z) (λ h. refl)
+
+  -- where it is refused nothing is written
+  pub relay-kept : (relayOf t s time out .answer .refused ≡ 0 → ⊥) → relayOf t s time out .held ≡ out
+  relay-kept = by-cases (λ w. (w .answer .refused ≡ 0 → ⊥) → w .held ≡ out) (λ z o h. absurd (h refl)) (λ h g. refl)
+
+  -- where it is not, it is for this unit or passed on
+  pub relay-ours : relayOf t s time out .answer .refused ≡ 0 → relayOf t s time out .answer .ours ≡ forUs t s
+  relay-ours = by-cases (λ w. w .answer .refused ≡ 0 → w .answer .ours ≡ forUs t s) (λ z o q. sym o) (λ h q. eq-eqb _ 0 q ∙ sym (h q))
+
+  -- a frame for this unit has no next hop
+  pub relay-no-hop : relayOf t s time out .answer .ours ≡ true → relayOf t s time out .answer .«next_hop» ≡ 0
+  relay-no-hop = by-cases (λ w. w .answer .ours ≡ true → w .answer .«next_hop» ≡ 0) (λ z o q. absurd (false≢true q)) (λ h q. refl)
+
+  -- and its size is a byte's
+  pub relay-short : relayOf t s time out .answer .refused ≡ 0 → relayOf t s time out .answer .size ≤ 255
+  relay-short =
+      by-cases (λ w. w .answer .refused ≡ 0 → w .answer .size ≤ 255) (λ z o q. copy-short t s time out z o)
+      (λ h q.
+      let unread = relayed-read t s time (length out) q in
+      let p = passed _ _ _ s unread in
+      rw (eq-eqb _ 0 q) (omega (arith, part-length dataKind s unread, p .sized, p .short)))
 
 -- of a table within rule it is what its row for the destination makes of it; of any other 14
 module _ (t : Table) (s : List ℕ) (time : ℕ) (out : List ℕ) where
@@ -129,7 +162,7 @@ module _ (t : Table) (s : List ℕ) (time : ℕ) (out : List ℕ) where
   unfolding relayBy relayOf relayRefusal
   relayed-by w = rw (looked-up t (dataIn s .destination) time w, w)
 
-  pub unrelayed : withinRule t ≡ false → relayed (Relayed.Refused (record { number = 14 })) out ≡ relayOf t s time out
+  pub unrelayed : withinRule t ≡ false → relayed (unwritten 14 0) out ≡ relayOf t s time out
   unfolding relayOf relayRefusal
   unrelayed w = rw w
 
@@ -139,16 +172,16 @@ module _ (table s : List ℕ) (time : ℕ) (out : List ℕ) where
   unfolding relayIn
   stored-relayed e = rw (judged-table table e)
 
-  pub stored-none : holdsTable table ≡ false → relayed (Relayed.Refused (record { number = 14 })) out ≡ relayIn table s time out
+  pub stored-none : holdsTable table ≡ false → relayed (unwritten 14 0) out ≡ relayIn table s time out
   unfolding relayIn holdsTable
   stored-none e = go (isTable table) refl
     where
-      go : (b : Bool) → isTable table ≡ b → relayed (Relayed.Refused (record { number = 14 })) out ≡ cond b (relayOf (tableIn table) s time out) (record { said = refused 14; held = out })
+      go : (b : Bool) → isTable table ≡ b → relayed (unwritten 14 0) out ≡ cond b (relayOf (tableIn table) s time out) (relayed (unwritten 14 0) out)
       go true q = unrelayed (tableIn table) s time out (rw q at e)
       go false q = refl
 
 -- ---- the answers, with what was read as the code has it
-module _ (own last : ℕ) (found : Said) (s : List ℕ) (time : ℕ) (out : List ℕ) (h : DataHeader) (n : ℕ) (e : dataValues h ≡ valuesIn dataKind s)
+module _ (own last : ℕ) (found : Found) (s : List ℕ) (time : ℕ) (out : List ℕ) (h : DataHeader) (n : ℕ) (e : dataValues h ≡ valuesIn dataKind s)
     (z : n ≡ first (unrelayedReasons own last found s time (length out))) where
   module _ (f : (eqb n 0 && not (eqb (h .destination) own)) ≡ true) where
     none : n ≡ 0
@@ -160,29 +193,19 @@ module _ (own last : ℕ) (found : Said) (s : List ℕ) (time : ℕ) (out : List
     pub has-room : (part : List ℕ) → part ≡ partIn dataKind s → 10 + length part ≤ length out
     has-room part p = rw p (omega (arith, copy-length s, onward-by own last found s time (length out) (sym z ∙ none) other .fits))
 
-    pub relayed-on : (hop : Hop) (copy : DataHeader) (part held : List ℕ) → hop ≡ hopOf found → copy ≡ passedOn h → part ≡ partIn dataKind s
+    pub relayed-on : (copy : DataHeader) (part held : List ℕ) → copy ≡ passedOn h → part ≡ partIn dataKind s
         → held ≡ sets out 0 (frameOf dataKind (dataValues copy) part)
-        → record { said = accepted (hop .«next_hop» ∷ (length part + 10) ∷ []); held = held } ≡ relayBy own last found s time out
+        → relayed (record { refused = n; ours = false; «next_hop» = found .«next_hop»; size = length part + 10 }) held ≡ relayBy own last found s time out
     unfolding relayBy
-    relayed-on hop copy part held r c p q = rw (r, q, c, p, header-in h s e, copy-length s, ← z, none, other)
+    relayed-on copy part held c p q = rw (q, c, p, header-in h s e, copy-length s, ← z, none, other)
 
   -- a frame of which nothing is written
-  pub relayed-off : (r : Relayed) → (eqb n 0 && not (eqb (h .destination) own)) ≡ false → toldRelayed r ≡ unless n (accepted (h .count ∷ []))
-      → relayed r out ≡ relayBy own last found s time out
+  pub relayed-off : (r : Relayed) → (eqb n 0 && not (eqb (h .destination) own)) ≡ false → r ≡ unwritten n (h .count) → relayed r out ≡ relayBy own last found s time out
   unfolding relayBy
   relayed-off r f a =
       let g = header-in h s e in
-      rw (a, ← z, g) (go (eqb n 0) (isFor own s) (rw g at f))
-    where
-      go : (b u : Bool) → (b && not u) ≡ false → _≡_ {A = Wrote}
-          (record { said = cond b (accepted (dataIn s .count ∷ [])) (refused n); held = out })
-          (record {
-            said = cond b (cond u (accepted (dataIn s .count ∷ [])) (accepted (getD (found .values) 0 0 ∷ length (copyOf s) ∷ []))) (refused n);
-            held = cond b (cond u out (sets out 0 (copyOf s))) out;
-          })
-      go true true f = refl
-      go true false f = absurd (false≢true (sym f))
-      go false u f = refl
+      let off : (eqb n 0 && not (isFor own s)) ≡ false = rw g at f in
+      rw (a, ← z, g, off)
 
 -- ---- a payload that is handed back
 module _ (t : Table) (s : Lent) (time : ℕ) where

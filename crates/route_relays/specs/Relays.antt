@@ -1,20 +1,19 @@
 -- Relaying a data frame: handed back where it is for this unit, else passed on with its ttl one less.
 -- Assumes nothing.
 use Prim.Native.Nat.{ℕ, _-_}
-use mathlib.Core.Bool.{Bool, not, _&&_, cond}
+use mathlib.Core.Bool.{Bool, false, not, _&&_, cond}
 use mathlib.Core.List.{List, [], _∷_}
 use lib.Dec.{eqb, leb, ltb}
-use lib.ListN.{length, getD}
+use lib.ListN.{length}
 use lib.Seq.{sets}
-use Rattle.octets.specs.Answers.{Said, accepted, refused, Reason, reason, refusing, first, unless}
-use Rattle.octets.specs.Calls.{after}
+use Rattle.octets.specs.Answers.{Reason, reason, refusing, first}
 use Rattle.octets.specs.Parts.{Lent, partOf}
-use Rattle.octets.specs.Told.{Wrote}
 use Rattle.moments.specs.Moments.{inOrder}
 use Rattle.frame_kinds.specs.Reading.{refusalAs}
 use Rattle.frame_kinds.specs.Shape.{valuesIn, partIn, partLent, frameOf}
 use Rattle.frame_traffic.specs.declared.data_frame.DataHeader.{DataHeader}
 use Rattle.frame_traffic.specs.Traffic.{dataKind, dataValues, dataFrom}
+use Rattle.route_table.specs.declared.table.Found.{Found}
 use Rattle.route_table.specs.declared.table.Table.{Table}
 use Rattle.route_table.specs.Tables.{withinRule, lookupOf}
 use Rattle.route_bytes.specs.StoredTables.{onTable}
@@ -41,14 +40,14 @@ copyOf s = frameOf dataKind (dataValues (passedOn (dataIn s))) (partIn dataKind 
 
 -- why a frame is not relayed by a table within rule of the unit `own`, with this last accepted time, which answers `found` to a lookup of its destination:
 -- 1 2 1 3 4 6 8, and, where it is not for this unit, 10 11 5; a lookup that comes so far is refused with 11 alone
-abbrev pub unrelayedReasons : ℕ → ℕ → Said → List ℕ → ℕ → ℕ → List Reason
+abbrev pub unrelayedReasons : ℕ → ℕ → Found → List ℕ → ℕ → ℕ → List Reason
 unrelayedReasons own last found s time room =
     let other = not (isFor own s) in
     refusing (refusalAs dataKind s) ∷
     reason (eqb (dataIn s .source) own) 6 ∷
     reason (not (inOrder last time)) 8 ∷
     reason (other && leb (dataIn s .ttl) 1) 10 ∷
-    reason (other && not (eqb (found .refusal) 0)) 11 ∷
+    reason (other && not (eqb (found .refused) 0)) 11 ∷
     reason (other && ltb room (length (copyOf s))) 5 ∷
     []
 
@@ -60,38 +59,40 @@ relayReasons t s time room =
 unfoldable pub relayRefusal : Table → List ℕ → ℕ → ℕ → ℕ
 relayRefusal t s time room = first (relayReasons t s time room)
 
--- what is answered where this number refuses it: for this unit the length of the payload, and nothing is written; else the next hop, and the copy's bytes
-abbrev pub relaying : ℕ → Bool → Said → List ℕ → List ℕ → Wrote
-relaying refusal ours found s out =
-    record {
-      said =
-          unless refusal
-          (cond ours
-          (accepted (dataIn s .count ∷ []))
-          (accepted (getD (found .values) 0 0 ∷ length (copyOf s) ∷ [])));
-      held = after refusal out (cond ours out (sets out 0 (copyOf s)));
-    }
+-- what relaying answers, and what the buffer then holds
+pub record Relaying : Type 0 where
+  pub answer : Relayed
+  pub held : List ℕ
 
-unfoldable pub relayOf : Table → List ℕ → ℕ → List ℕ → Wrote
-relayOf t s time out = relaying (relayRefusal t s time (length out)) (forUs t s) (lookupOf t (dataIn s .destination) time) s out
+abbrev pub relayed : Relayed → List ℕ → Relaying
+relayed answer held = record { answer = answer; held = held }
+
+-- the answer where nothing is written: a payload of this length for this unit, unless a number refuses it
+abbrev pub unwritten : ℕ → ℕ → Relayed
+unwritten number count = record { refused = number; ours = eqb number 0; «next_hop» = 0; size = cond (eqb number 0) count 0 }
+
+-- the answer where the copy is written: the next hop, and the copy's length
+abbrev pub passedTo : ℕ → List ℕ → Relayed
+passedTo hop s = record { refused = 0; ours = false; «next_hop» = hop; size = length (copyOf s) }
+
+-- unless a number refuses it: for this unit the length of the payload, and nothing is written; else the next hop, and the copy's bytes
+abbrev pub relayedOr : ℕ → Bool → Found → List ℕ → List ℕ → Relaying
+relayedOr number ours found s out =
+    cond (eqb number 0 && not ours)
+    (relayed (passedTo (found .«next_hop») s) (sets out 0 (copyOf s)))
+    (relayed (unwritten number (dataIn s .count)) out)
+
+unfoldable pub relayOf : Table → List ℕ → ℕ → List ℕ → Relaying
+relayOf t s time out = relayedOr (relayRefusal t s time (length out)) (forUs t s) (lookupOf t (dataIn s .destination) time) s out
 
 -- the same by a table within rule of which only this is known
-unfoldable pub relayBy : ℕ → ℕ → Said → List ℕ → ℕ → List ℕ → Wrote
-relayBy own last found s time out = relaying (first (unrelayedReasons own last found s time (length out))) (isFor own s) found s out
+unfoldable pub relayBy : ℕ → ℕ → Found → List ℕ → ℕ → List ℕ → Relaying
+relayBy own last found s time out = relayedOr (first (unrelayedReasons own last found s time (length out))) (isFor own s) found s out
 
 -- relaying by the table that bytes hold, 14 where they hold none
-unfoldable pub relayIn : List ℕ → List ℕ → ℕ → List ℕ → Wrote
-relayIn table s time out = onTable table (λ t. relayOf t s time out) (record { said = refused 14; held = out })
+unfoldable pub relayIn : List ℕ → List ℕ → ℕ → List ℕ → Relaying
+relayIn table s time out = onTable table (λ t. relayOf t s time out) (relayed (unwritten 14 0) out)
 
 -- the payload of a frame that is relayed to this unit, as its part of the frame; of any other nothing, at its start
 unfoldable pub handedBack : Table → Lent → ℕ → Lent
 handedBack t s time = cond (eqb (relayRefusal t (s .bytes) time 0) 0 && forUs t (s .bytes)) (partLent dataKind s) (partOf s 0 0)
-
--- what the cases of the answer say
-abbrev pub toldRelayed : Relayed → Said
-toldRelayed (Relayed.ForUs n) = accepted (n ∷ [])
-toldRelayed (Relayed.Passed p) = accepted (p .«next_hop» ∷ p .size ∷ [])
-toldRelayed (Relayed.Refused r) = refused (r .number)
-
-abbrev pub relayed : Relayed → List ℕ → Wrote
-relayed answer held = record { said = toldRelayed answer; held = held }

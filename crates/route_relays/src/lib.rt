@@ -1,2 +1,2 @@
-// Relays: what a table, by value or in bytes, does with a data frame: it is handed back, or goes on to the next hop.
+// What a table, by value or in bytes, does with a data frame: it is handed back, or goes on to the next hop.
 pub mod relaying;

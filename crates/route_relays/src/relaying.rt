@@ -1,27 +1,22 @@
 // Relaying a data frame.
 ghost use mathlib.Core.Path.{_≡_};
-ghost use mathlib.Core.List.{[], _∷_};
+ghost use mathlib.Core.Bool.{cond};
 ghost use lib.ListN.{length};
 ghost use lib.Seq.{sets};
 ghost use Prim.Native.Nat.{_+_, _-_, _≤_};
-ghost use Rattle.octets.specs.Answers.{accepted, first, unless};
-ghost use Rattle.octets.specs.Layouts.{bytes};
+ghost use Rattle.octets.specs.Answers.{first};
 ghost use Rattle.octets.specs.Parts.{lent};
 ghost use Rattle.frame_kinds.specs.Shape.{frameOf};
 ghost use Rattle.frame_traffic.specs.Traffic.{dataKind, dataValues};
-ghost use Rattle.route_table.specs.Told.{toldFound};
-ghost use Rattle.route_relays.specs.Relays.{passedOn, unrelayedReasons, relayOf, relayBy, relayIn, handedBack, toldRelayed, relayed};
-use frame_reading::parts::payload;
-use frame_reading::refusals;
+ghost use Rattle.route_relays.specs.Relays.{passedOn, unrelayedReasons, relayOf, relayBy, relayIn, handedBack, unwritten, relayed};
+use frame_kinds::sealing::seal;
 use frame_traffic::data_frame::DataHeader;
+use frame_traffic::data_frame::payload;
 use moments::in_order;
 use octets::answers::Refusal;
 use octets::answers::refuse_if;
-use octets::fixed::put8;
-use octets::fixed::put16;
 use octets::parts::part;
 use octets::parts::put_bytes;
-use octets::sums::xor_of;
 use route_bytes::tables::head_of;
 use route_in_place::finding;
 use route_in_place::judging::holds_table;
@@ -30,17 +25,13 @@ use route_table::table::Table;
 use route_table::table::found_by;
 use route_table::table::row_for;
 
-// A copy that was written: the neighbour it goes to, and its size in bytes.
-pub struct Passage {
+// What relaying answers. A frame for this unit has no next hop, and its size is the payload's, which `handed_back` hands back; of any other it is the copy's
+// that was written. Where it is refused it is not for this unit, and the numbers are 0.
+pub struct Relayed {
+    pub refused: u8,
+    pub ours: bool,
     pub next_hop: u16,
     pub size: usize,
-}
-
-// What relaying answers. A payload for this unit is handed back by `handed_back`; here its length is told.
-pub enum Relayed {
-    ForUs(u8),
-    Passed(Passage),
-    Refused(Refusal),
 }
 
 fn one_less(ttl: u8) -> u8
@@ -64,40 +55,36 @@ fn passed_on(header: DataHeader) -> DataHeader
 // Why a frame is not relayed by a table within rule, of which this is known: its unit, its last accepted time, and what it answers to a lookup of the
 // frame's destination; 0 where it is.
 fn refusal(own: u16, last: u32, found: Found, frame: &[u8], time: u32, room: usize) -> u8
-    ensures { λ r. ⌜ r ≡ first (unrelayedReasons own last (toldFound found) (now (frame .entry)) time room) ⌝ }
+    ensures { λ r. ⌜ r ≡ first (unrelayedReasons own last found (now (frame .entry)) time room) ⌝ }
 {
     let header = DataHeader::of(frame);
-    let unread = refusals::data_frame(frame);
+    let unread = DataHeader::refusal(frame);
     let other = !(header.destination == own);
     let size = payload(frame).len() + 10;
-    let refused = refuse_if(other & (room < size), 5, 0);
-    let refused = refuse_if(other & !(found.refusal() == 0), 11, refused);
-    let refused = refuse_if(other & (header.ttl <= 1), 10, refused);
-    let refused = refuse_if(!in_order(last, time), 8, refused);
-    let refused = refuse_if(header.source == own, 6, refused);
+    let refused = refuse_if(other & (room < size), Refusal::ROOM, 0);
+    let refused = refuse_if(other & !(found.refused == 0), Refusal::NO_ROUTE, refused);
+    let refused = refuse_if(other & (header.ttl <= 1), Refusal::TTL, refused);
+    let refused = refuse_if(!in_order(last, time), Refusal::EARLIER, refused);
+    let refused = refuse_if(header.source == own, Refusal::OWN, refused);
     refuse_if(!(unread == 0), unread, refused)
+}
+
+fn count_if(test: bool, count: u8) -> usize
+    ensures { λ r. ⌜ r ≡ cond test count 0 ⌝ }
+{
+    if test { count as usize } else { 0 }
 }
 
 // What is said of a frame of which nothing is written.
 fn unwritten(refused: u8, count: u8) -> Relayed
-    ensures { λ r. ⌜ toldRelayed r ≡ unless refused (accepted (count ∷ [])) ⌝ }
+    ensures { λ r. ⌜ r ≡ unwritten refused count ⌝ }
 {
-    if refused == 0 {
-        return Relayed::ForUs(count);
+    Relayed {
+        refused,
+        ours: refused == 0,
+        next_hop: 0,
+        size: count_if(refused == 0, count),
     }
-    Relayed::Refused(Refusal { number: refused })
-}
-
-// Writes the type and the fields.
-fn put_header(out: &mut [u8], header: DataHeader)
-    ensures { λ _. ⌜ now (out .exit) ≡ sets (now (out .entry)) 0 (bytes (1 ∷ dataKind .widths) (dataKind .code ∷ dataValues header)) ⌝ }
-{
-    put8(out, 0, 0x11);
-    put16(out, 1, header.source);
-    put16(out, 3, header.destination);
-    put8(out, 5, header.ttl);
-    put16(out, 6, header.sequence);
-    put8(out, 8, header.count);
 }
 
 // Writes the frame with this header and this payload. The writer of any kind of frame would judge again what was judged when it was read.
@@ -105,27 +92,27 @@ fn put_frame(out: &mut [u8], header: DataHeader, part: &[u8])
     requires { ⌜ 10 + length (now part) ≤ length (now out) ⌝ }
     ensures { λ _. ⌜ now (out .exit) ≡ sets (now (out .entry)) 0 (frameOf dataKind (dataValues header) (now (part .entry))) ⌝ }
 {
-    put_header(out, header);
+    header.put(out);
     put_bytes(out, 9, part);
-    let end = 9 + part.len();
-    let sum = xor_of(out, end);
-    out[end] = sum;
+    seal(out, 9 + part.len());
 }
 
 // Relays by a table within rule, of which this is known. A payload for this unit is told and nothing is written; any other frame is written with its ttl
 // one less.
 fn relay_by(own: u16, last: u32, found: Found, frame: &[u8], time: u32, out: &mut [u8]) -> Relayed
-    ensures { λ r. ⌜ relayed r (now (out .exit)) ≡ relayBy own last (toldFound found) (now (frame .entry)) time (now (out .entry)) ⌝ }
+    ensures { λ r. ⌜ relayed r (now (out .exit)) ≡ relayBy own last found (now (frame .entry)) time (now (out .entry)) ⌝ }
 {
     let header = DataHeader::of(frame);
     let refused = refusal(own, last, found, frame, time, out.len());
     if (refused == 0) & !(header.destination == own) {
         let part = payload(frame);
         put_frame(out, passed_on(header), part);
-        return Relayed::Passed(Passage {
-            next_hop: found.hop().next_hop,
+        return Relayed {
+            refused,
+            ours: false,
+            next_hop: found.next_hop,
             size: part.len() + 10,
-        });
+        };
     }
     unwritten(refused, header.count)
 }
@@ -134,7 +121,7 @@ pub fn relay(table: Table, frame: &[u8], time: u32, out: &mut [u8]) -> Relayed
     ensures { λ r. ⌜ relayed r (now (out .exit)) ≡ relayOf table (now (frame .entry)) time (now (out .entry)) ⌝ }
 {
     if !table.within_rule() {
-        return Relayed::Refused(Refusal { number: 14 });
+        return unwritten(Refusal::RULE, 0);
     }
     let to = DataHeader::of(frame).destination;
     let rows = table.rows;
@@ -147,7 +134,7 @@ pub fn relay_in(table: &[u8], frame: &[u8], time: u32, out: &mut [u8]) -> Relaye
     ensures { λ r. ⌜ relayed r (now (out .exit)) ≡ relayIn (now (table .entry)) (now (frame .entry)) time (now (out .entry)) ⌝ }
 {
     if !holds_table(table) {
-        return Relayed::Refused(Refusal { number: 14 });
+        return unwritten(Refusal::RULE, 0);
     }
     let head = head_of(table);
     let to = DataHeader::of(frame).destination;

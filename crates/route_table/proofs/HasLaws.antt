@@ -1,12 +1,6 @@
 -- The row for a destination among some rows, in any order: the first with it, what holds of it, and where it stands.
 -- Assumes nothing.
-use mathlib.Core.Path.{_≡_, sym, _∙_}
-use mathlib.Core.List.{List, [], _∷_}
-use Prim.Native.Nat.{ℕ, suc, _<_}
-use native.Mathlib.Decide.{ℕ-discrete}
-use native.Mathlib.Omega.{arith}
-use borrow.Author.Tests.{eq-eqb, ne-eqb}
-use lib.ListN.{length, getD}
+use Rattle.octets.proofs.Words.{_≡_, sym, _∙_, List, [], _∷_, ℕ, suc, _<_, ℕ-discrete, arith, eq-eqb, ne-eqb, length, getD}
 use Rattle.octets.specs.Lists.{Each}
 use Rattle.route_table.specs.declared.row.Row.{Row}
 use Rattle.route_table.specs.Rows.{none, rowFor}

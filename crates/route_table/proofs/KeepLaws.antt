@@ -1,43 +1,18 @@
 -- Tables that are within rule: one whose places are filled from rows that are, a fresh one, and that of an accepted forget.
 -- Assumes nothing.
-use mathlib.Core.Path.{_≡_, refl, _∙_}
-use mathlib.Core.Bool.{Bool, true, false, not, _&&_, _||_, cond, and-eq-true-iff}
-use mathlib.Core.List.{List, [], _∷_, map}
-use Prim.Native.Nat.{ℕ}
-use native.Mathlib.Omega.{arith}
-use borrow.Author.Tests.{not-false}
-use lib.Dec.{eqb, ltb}
-use lib.ListN.{length-map}
+use Rattle.octets.proofs.Words.{_≡_, refl, _∙_, Bool, true, false, not, _&&_, _||_, cond, List, [], _∷_, map, ℕ, arith, not-false, eqb, length-map}
 use Rattle.octets.specs.Answers.{reason}
 use Rattle.octets.specs.Lists.{every}
-use Rattle.octets.proofs.AnswerLaws.{numbered, none-holds}
-use Rattle.moments.specs.Moments.{inOrder}
-use Rattle.frame_kinds.specs.Rules.{address}
+use Rattle.octets.proofs.AnswerLaws.{none-holds}
+use Rattle.octets.specs.Addresses.{address}
+use Rattle.octets.proofs.ListLaws.{every-map}
 use Rattle.route_table.specs.declared.row.Row.{Row}
 use Rattle.route_table.specs.declared.table.Table.{Table}
 use Rattle.route_table.specs.Rows.{usable, rowRule, withdrawnAt, forgotten, ascending, pad, standing}
 use Rattle.route_table.specs.Tables.{rowsOf, withinRule, freshOf, forgetOf}
 use Rattle.route_table.proofs.RuleLaws.{rule-later, rule-withdrawn, within-pad}
-use Rattle.route_table.proofs.StandingLaws.{ascending-without, standing-on, standing-ascending}
+use Rattle.route_table.proofs.StandingLaws.{standing-on, standing-ascending}
 use Rattle.route_table.proofs.TableLaws.{within, few-stand, forgettable}
-
--- ---- what a test of rows says of some of them
-pub every-map : (test test′ : Row → Bool) (f : Row → Row) → ((r : Row) → test r ≡ true → test′ (f r) ≡ true) → (rs : List Row)
-    → every test rs ≡ true → every test′ (map f rs) ≡ true
-unfolding every
-every-map test test′ f h [] e = refl
-every-map test test′ f h (r ∷ rs) e =
-    let (here, later) = and-eq-true-iff (test r) (every test rs) .0 e in
-    rw (h r here, every-map test test′ f h rs later)
-
--- ---- rows that ascend
--- every row behind the first is above it
-pub ascending-above : (r : Row) (rs : List Row) → ascending (r ∷ rs) ≡ true → every (λ s. ltb (r .destination) (s .destination)) rs ≡ true
-unfolding every
-ascending-above r [] e = refl
-ascending-above r (s ∷ rs) e =
-    let (a, f) = and-eq-true-iff (ltb (r .destination) (s .destination)) (ascending (s ∷ rs)) .0 e in
-    rw (a, ascending-above r rs (ascending-without r s rs e))
 
 -- ---- a row when a unit is forgotten: as it was, or withdrawn
 pub by-forgotten : (P : Row → Type 0) (unit time : ℕ) (r : Row) → P r → P (withdrawnAt time r) → P (forgotten unit time r)
@@ -72,7 +47,7 @@ forgotten-destination unit time r = by-forgotten (λ x. x .destination ≡ r .de
 pub fresh-within : (own time : ℕ) → freshOf own time .refused ≡ 0 → withinRule (freshOf own time .table) ≡ true
 unfolding freshOf pad every
 fresh-within own time e =
-    let a = not-false (address own) (none-holds (reason (not (address own)) 4 ∷ []) (numbered _ 4 (λ z. omega arith), tt) e .0) in
+    let a = not-false (address own) (none-holds (reason (not (address own)) 4 ∷ []) _ e .0) in
     rw a (within-pad own time false 0 0 [] a refl (omega arith) refl refl)
 
 pub forget-within : (t : Table) (unit time : ℕ) → forgetOf t unit time .refused ≡ 0 → withinRule (forgetOf t unit time .table) ≡ true

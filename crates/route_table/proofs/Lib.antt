@@ -7,4 +7,3 @@ pub mod RowLaws
 pub mod RuleLaws
 pub mod StandingLaws
 pub mod TableLaws
-pub mod ToldLaws

@@ -1,16 +1,6 @@
 -- The 48 places against the list of rows that they hold.
 -- Assumes nothing.
-use mathlib.Core.Path.{_≡_, refl, sym, _∙_}
-use mathlib.Core.Bool.{Bool, true, false, not, _&&_, _||_, cond, and-true, and-false}
-use mathlib.Core.List.{List, [], _∷_}
-use Prim.Native.Nat.{ℕ, _+_, _≤_, _<_}
-use native.Mathlib.Numerals.{add-one}
-use native.Mathlib.Decide.{ℕ-discrete}
-use native.Mathlib.Omega.{arith}
-use borrow.Author.Tests.{eq-eqb, ne-eqb, not-true, not-false}
-use lib.Dec.{eqb, ltb}
-use lib.ListN.{length, getD, drop, drop-of-length-le}
-use lib.Seq.{drop-cons}
+use Rattle.octets.proofs.Words.{_≡_, refl, sym, _∙_, Bool, true, false, not, _&&_, _||_, cond, and-true, and-false, List, [], _∷_, ℕ, _+_, _≤_, _<_, ℕ-discrete, add-one, arith, eq-eqb, ne-eqb, not-true, not-false, eqb, ltb, length, getD, drop, drop-of-length-le, drop-cons}
 use Rattle.octets.specs.Lists.{every}
 use Rattle.route_table.specs.declared.row.Row.{Row}
 use Rattle.route_table.specs.Places.{okRow, firstDestination, okPlaces}

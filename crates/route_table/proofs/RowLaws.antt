@@ -1,14 +1,6 @@
 -- The loops over a table's places: one row looked up, the standing ones gathered, each one changed.
 -- Assumes nothing.
-use mathlib.Core.Path.{_≡_, refl, sym, ap, _∙_}
-use mathlib.Core.Bool.{Bool, true, false, cond}
-use mathlib.Core.List.{List, [], _∷_, _++_, map, append-nil, append-assoc}
-use Prim.Native.Nat.{ℕ, suc, _+_, _-_, _≤_, _<_}
-use native.Mathlib.Numerals.{add-one}
-use native.Mathlib.Omega.{arith}
-use borrow.Author.Tests.{eq-eqb, ne-eqb}
-use lib.ListN.{length, getD, take, drop, set, length-append, drop-of-length-le}
-use lib.Seq.{drop-cons, take-suc, take-suc-set, drop-set-lt, append-snoc, set-append-seam}
+use Rattle.octets.proofs.Words.{_≡_, refl, sym, ap, _∙_, Bool, true, false, cond, List, [], _∷_, _++_, map, append-nil, append-assoc, ℕ, suc, _+_, _-_, _≤_, _<_, add-one, arith, eq-eqb, ne-eqb, length, getD, take, drop, set, length-append, drop-of-length-le, drop-cons, take-suc, take-suc-set, drop-set-lt, append-snoc, set-append-seam}
 use Rattle.route_table.specs.declared.row.Row.{Row}
 use Rattle.route_table.specs.Rows.{none, stands, inUse, pad, standing, rowFor}
 

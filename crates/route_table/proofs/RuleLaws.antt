@@ -1,19 +1,12 @@
 -- Rows within rule, and the table that is made of them.
 -- Assumes nothing.
-use mathlib.Core.Path.{_≡_, refl}
-use mathlib.Core.Bool.{Bool, true, false, not, _&&_, cond, false≢true}
-use mathlib.Core.List.{List}
-use Prim.Native.Nat.{ℕ, _≤_}
-use native.Mathlib.Omega.{arith}
-use borrow.Author.Tests.{leb-true, lt-ltb}
-use lib.Dec.{eqb, leb}
-use lib.ListN.{length}
+use Rattle.octets.proofs.Words.{_≡_, refl, Bool, true, false, not, _&&_, cond, false≢true, List, ℕ, _≤_, arith, leb-true, lt-ltb, eqb, leb, length}
 use Rattle.octets.specs.Lists.{every}
 use Rattle.octets.proofs.ListLaws.{every-on}
 use Rattle.moments.specs.Moments.{ageAt, inOrder}
 use Rattle.moments.proofs.MomentLaws.{in-order-self, young-in-order}
-use Rattle.frame_kinds.specs.Rules.{address}
-use Rattle.frame_kinds.proofs.RuleLaws.{address-least}
+use Rattle.octets.specs.Addresses.{address}
+use Rattle.octets.proofs.AddressLaws.{address-least}
 use Rattle.route_table.specs.declared.row.Row.{Row}
 use Rattle.route_table.specs.Rows.{stands, rowRule, withdrawnAt, ascending, inUse, pad}
 use Rattle.route_table.specs.Tables.{pairOk, withinRule}

@@ -1,18 +1,10 @@
 -- Rows that stand: the loop that looks for a gone one, and the places when it finds none.
 -- Assumes nothing.
-use mathlib.Core.Path.{_≡_, refl, sym, ap, _∙_}
-use mathlib.Core.Bool.{Bool, true, false, cond, and-eq-true-iff}
-use mathlib.Core.List.{List, [], _∷_, _++_}
-use Prim.Native.Nat.{ℕ, zero, suc, _+_, _-_, _≤_, _<_}
-use native.Mathlib.Decide.{ℕ-discrete}
-use native.Mathlib.Omega.{arith}
-use borrow.Author.Tests.{eq-eqb, ne-eqb, lt-ltb, ltb-true}
-use lib.Dec.{eqb, ltb}
-use lib.ListN.{length, getD, drop, replicate, length-append, length-replicate}
-use lib.Seq.{drop-append-seam}
+use Rattle.octets.proofs.Words.{_≡_, refl, sym, ap, _∙_, Bool, true, false, cond, and-eq-true-iff, List, [], _∷_, _++_, ℕ, zero, suc, _+_, _-_, _≤_, _<_, ℕ-discrete, arith, eq-eqb, ne-eqb, lt-ltb, ltb-true, eqb, ltb, length, getD, drop, replicate, length-append, length-replicate, drop-append-seam}
 use Rattle.octets.specs.Lists.{every}
+use Rattle.octets.proofs.OrderLaws.{ascending-rest, ascending-without}
 use Rattle.route_table.specs.declared.row.Row.{Row}
-use Rattle.route_table.specs.Rows.{none, stands, isNone, ascending, inUse, pad, standing, standingPlaces}
+use Rattle.route_table.specs.Rows.{leadingTo, none, stands, isNone, ascending, inUse, pad, standing, standingPlaces}
 use Rattle.route_table.proofs.RowLaws.{in-use-end, in-use-turn}
 
 -- ---- looking for a row that is gone
@@ -84,24 +76,10 @@ standing-shorter time (r ∷ rs) = go (stands time r) (standing-shorter time rs)
     go true h = omega arith
     go false h = omega arith
 
--- ascending rows without one of them ascend
-pub ascending-rest : (r : Row) (rs : List Row) → ascending (r ∷ rs) ≡ true → ascending rs ≡ true
-ascending-rest r [] e = refl
-ascending-rest r (s ∷ rs) e = and-eq-true-iff (ltb (r .destination) (s .destination)) (ascending (s ∷ rs)) .0 e .1
-
-pub ascending-without : (r s : Row) (rs : List Row) → ascending (r ∷ s ∷ rs) ≡ true → ascending (r ∷ rs) ≡ true
-ascending-without r s [] e = refl
-ascending-without r s (q ∷ rs) e =
-    let (one, later) = and-eq-true-iff (ltb (r .destination) (s .destination)) (ascending (s ∷ q ∷ rs)) .0 e in
-    let (two, rest) = and-eq-true-iff (ltb (s .destination) (q .destination)) (ascending (q ∷ rs)) .0 later in
-    let a = ltb-true (r .destination) (s .destination) one in
-    let b = ltb-true (s .destination) (q .destination) two in
-    rw (lt-ltb (r .destination) (q .destination) (omega (arith, a, b))) rest
-
 before-standing : (time : ℕ) (r : Row) (rs : List Row) → ascending (r ∷ rs) ≡ true → ascending (r ∷ standing time rs) ≡ true
 before-standing time r [] e = refl
 before-standing time r (s ∷ rs) e =
-    go (stands time s) (before-standing time s rs (ascending-rest r (s ∷ rs) e)) (before-standing time r rs (ascending-without r s rs e))
+    go (stands time s) (before-standing time s rs (ascending-rest leadingTo r (s ∷ rs) e)) (before-standing time r rs (ascending-without leadingTo r s rs e))
   where
     go : (b : Bool) → ascending (s ∷ standing time rs) ≡ true → ascending (r ∷ standing time rs) ≡ true → ascending (r ∷ cond b (s ∷ standing time rs) (standing time rs)) ≡ true
     go true kept dropped = rw (and-eq-true-iff (ltb (r .destination) (s .destination)) (ascending (s ∷ rs)) .0 e .0) kept
@@ -109,7 +87,7 @@ before-standing time r (s ∷ rs) e =
 
 pub standing-ascending : (time : ℕ) (rs : List Row) → ascending rs ≡ true → ascending (standing time rs) ≡ true
 standing-ascending time [] e = refl
-standing-ascending time (r ∷ rs) e = go (stands time r) (before-standing time r rs e) (standing-ascending time rs (ascending-rest r rs e))
+standing-ascending time (r ∷ rs) e = go (stands time r) (before-standing time r rs e) (standing-ascending time rs (ascending-rest leadingTo r rs e))
   where
     go : (b : Bool) → ascending (r ∷ standing time rs) ≡ true → ascending (standing time rs) ≡ true → ascending (cond b (r ∷ standing time rs) (standing time rs)) ≡ true
     go true kept dropped = kept

@@ -1,20 +1,12 @@
 -- The calls on a table, from what its parts say.
 -- Assumes nothing.
-use mathlib.Core.Path.{_≡_, refl, sym, ap, _∙_}
-use mathlib.Core.Bool.{Bool, true, false, not, _&&_, cond, and-eq-true-iff, false≢true}
-use mathlib.Core.List.{List, [], _∷_, _++_, map}
-use Prim.Native.Nat.{ℕ, zero, suc, _-_, _≤_}
-use native.Mathlib.Decide.{ℕ-discrete}
-use native.Mathlib.Omega.{arith}
-use borrow.Author.Tests.{ne-eqb, leb-true, le-leb, eqb-true, not-true, not-false}
-use lib.Dec.{eqb, leb}
-use lib.ListN.{length, drop, replicate, length-map, length-drop}
+use Rattle.octets.proofs.Words.{_≡_, refl, sym, ap, _∙_, Bool, true, false, not, _&&_, cond, and-eq-true-iff, false≢true, List, [], _∷_, _++_, map, ℕ, zero, suc, _-_, _≤_, ℕ-discrete, arith, ne-eqb, leb-true, le-leb, eqb-true, not-true, not-false, eqb, leb, length, drop, replicate, length-map, length-drop}
 use Rattle.octets.specs.Answers.{first}
 use Rattle.octets.specs.Lists.{every}
-use Rattle.octets.proofs.AnswerLaws.{numbered, none-holds}
+use Rattle.octets.proofs.AnswerLaws.{none-holds}
 use Rattle.moments.specs.Moments.{inOrder}
-use Rattle.frame_kinds.specs.Rules.{address}
-use Rattle.frame_kinds.proofs.RuleLaws.{address-least}
+use Rattle.octets.specs.Addresses.{address}
+use Rattle.octets.proofs.AddressLaws.{address-some}
 use Rattle.route_table.specs.declared.row.Row.{Row}
 use Rattle.route_table.specs.declared.table.Table.{Table}
 use Rattle.route_table.specs.Places.{okPlaces}
@@ -62,9 +54,6 @@ forgotten-none unit time h = rw (ne-eqb 0 unit (λ z. h (sym z))) (go (usable ti
     go : (b : Bool) → cond (b && false) (record { destination = 0; «next_hop» = 0; hops = 0; quality = 0; time = time; withdrawn = true }) none ≡ none
     go true = refl
     go false = refl
-
-pub address-some : (unit : ℕ) → address unit ≡ true → unit ≡ 0 → ⊥
-address-some unit e z = omega (arith, address-least unit e)
 
 -- ---- the places of a table within rule are its rows, with zeros behind them
 abbrev built : ℕ → ℕ → ℕ → ℕ → ℕ → Bool → Row
@@ -147,8 +136,7 @@ pub record Forgettable (t : Table) (unit time : ℕ) : Type 0 where
 pub forgettable : (t : Table) (unit time : ℕ) → first (forgetReasons t unit time) ≡ 0 → Forgettable t unit time
 forgettable t unit time e =
     let none =
-    none-holds (forgetReasons t unit time)
-    (numbered _ 14 (λ z. omega arith), (numbered _ 4 (λ z. omega arith), (numbered _ 6 (λ z. omega arith), (numbered _ 8 (λ z. omega arith), tt)))) e in
+    none-holds (forgetReasons t unit time) _ e in
     record { right = not-false (withinRule t) (none .0); known = not-false (address unit) (none .1 .0); ordered = not-false (inOrder (t .time) time) (none .1 .1 .1 .0) }
 
 -- the table then, with its rows as the loops leave them

@@ -1,4 +1,3 @@
 pub mod Places
 pub mod Rows
 pub mod Tables
-pub mod Told

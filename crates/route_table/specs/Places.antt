@@ -1,4 +1,4 @@
--- What the code sees of a table's 48 places, with no order required; the laws carry it to the list of rows.
+-- Needs no belief, laws carry it to the list of rows: what the code sees of a table's 48 places, with no order required.
 -- Assumes nothing.
 use Prim.Native.Nat.{ℕ}
 use mathlib.Core.Bool.{Bool, true, _&&_, _||_, cond}

@@ -3,11 +3,12 @@
 use Prim.Native.Nat.{ℕ, _-_}
 use mathlib.Core.Bool.{Bool, true, false, not, _&&_, _||_, cond}
 use mathlib.Core.List.{List, [], _∷_, _++_}
-use lib.Dec.{eqb, leb, ltb}
+use lib.Dec.{eqb, leb}
 use lib.ListN.{length, replicate}
 use Rattle.octets.specs.Lists.{every}
+use Rattle.octets.specs.Ordered.{ascendingBy}
 use Rattle.moments.specs.Moments.{ageAt, inOrder}
-use Rattle.frame_kinds.specs.Rules.{address}
+use Rattle.octets.specs.Addresses.{address}
 use Rattle.route_table.specs.declared.row.Row.{Row}
 
 -- ---- one row
@@ -57,11 +58,13 @@ forgotten unit time r = cond (lost unit time r) (withdrawnAt time r) r
 
 -- ---- all rows
 
+-- where a row leads
+abbrev pub leadingTo : Row → ℕ
+leadingTo r = r .destination
+
 -- ascending by destination, no two alike
 abbrev pub ascending : List Row → Bool
-ascending [] = true
-ascending (r ∷ []) = true
-ascending (r ∷ s ∷ rs) = ltb (r .destination) (s .destination) && ascending (s ∷ rs)
+ascending rs = ascendingBy leadingTo rs
 
 -- the rows in use: up to the first place that is not
 abbrev pub inUse : List Row → List Row

@@ -5,13 +5,15 @@ use mathlib.Core.Bool.{Bool, false, not, _&&_, cond}
 use mathlib.Core.List.{List, [], _∷_, map}
 use lib.Dec.{eqb, leb}
 use lib.ListN.{length, drop, replicate}
-use Rattle.octets.specs.Answers.{Said, accepted, Reason, reason, first, unless}
+use Rattle.octets.specs.Answers.{Reason, reason, first}
+use Rattle.octets.specs.Calls.{after}
 use Rattle.octets.specs.Lists.{every}
 use Rattle.moments.specs.Moments.{inOrder}
-use Rattle.frame_kinds.specs.Rules.{address}
+use Rattle.octets.specs.Addresses.{address}
 use Rattle.route_table.specs.declared.row.Row.{Row}
 use Rattle.route_table.specs.declared.table.Table.{Table}
 use Rattle.route_table.specs.declared.table.Changed.{Changed}
+use Rattle.route_table.specs.declared.table.Found.{Found}
 use Rattle.route_table.specs.declared.table.Head.{Head}
 use Rattle.route_table.specs.Rows.{none, usable, leads, rowRule, isNone, forgotten, ascending, inUse, pad, standing, rowFor}
 
@@ -47,7 +49,7 @@ dropped time t = withRows t (t .time) (standing time (rowsOf t))
 
 -- a changing call: the number that refuses it with the table as it was, or the new table
 abbrev pub settled : ℕ → Table → Table → Changed
-settled number t new = record { refused = number; table = cond (eqb number 0) new t }
+settled number t new = record { refused = number; table = after number t new }
 
 -- the row for a destination, if there is one, may carry traffic there at this time
 abbrev pub leadsTo : Table → ℕ → ℕ → Bool
@@ -63,6 +65,12 @@ emptyTable own time = record { own = own; time = time; forwarded = false; origin
 unfoldable pub freshOf : ℕ → ℕ → Changed
 freshOf own time = settled (first (reason (not (address own)) 4 ∷ [])) (emptyTable 0 0) (emptyTable own time)
 
+-- what is found by a row, unless a number refuses it: its next hop and its hops; where it is refused, zeros
+abbrev pub foundOr : ℕ → Row → Found
+foundOr number r =
+    let by = cond (eqb number 0) r none in
+    record { refused = number; «next_hop» = by .«next_hop»; hops = by .hops }
+
 -- why a table within rule does not answer the lookup of a destination, with this last accepted time and this row for it: 4 8 11, ..
 abbrev pub foundReasons : ℕ → Row → ℕ → ℕ → List Reason
 foundReasons last r d time =
@@ -71,9 +79,9 @@ foundReasons last r d time =
     reason (not (leads d time r)) 11 ∷
     []
 
--- .. else the next hop and the hops of the usable row
-unfoldable pub foundBy : ℕ → Row → ℕ → ℕ → Said
-foundBy last r d time = unless (first (foundReasons last r d time)) (accepted (r .«next_hop» ∷ r .hops ∷ []))
+-- .. else what the row says
+unfoldable pub foundBy : ℕ → Row → ℕ → ℕ → Found
+foundBy last r d time = foundOr (first (foundReasons last r d time)) r
 
 -- lookup: 14, then these, of the table's own row, ..
 abbrev pub lookupReasons : Table → ℕ → ℕ → List Reason
@@ -82,11 +90,9 @@ lookupReasons t d time = reason (not (withinRule t)) 14 ∷ foundReasons (t .tim
 abbrev pub lookupRefusal : Table → ℕ → ℕ → ℕ
 lookupRefusal t d time = first (lookupReasons t d time)
 
--- .. else its next hop and its hops
-unfoldable pub lookupOf : Table → ℕ → ℕ → Said
-lookupOf t d time =
-    let r = rowFor d (rowsOf t) in
-    unless (lookupRefusal t d time) (accepted (r .«next_hop» ∷ r .hops ∷ []))
+-- .. else what that row says
+unfoldable pub lookupOf : Table → ℕ → ℕ → Found
+lookupOf t d time = foundOr (lookupRefusal t d time) (rowFor d (rowsOf t))
 
 -- why a table within rule, of this unit and with this last accepted time, does not forget another: 4 6 8
 abbrev pub unforgottenReasons : ℕ → ℕ → ℕ → ℕ → List Reason

@@ -5,6 +5,7 @@ ghost use Rattle.route_table.specs.Places.{okRow};
 ghost use Rattle.route_table.specs.Rows.{none, usable, leads, stands, rowRule, isNone, withdrawnAt, lost, forgotten};
 use moments::age;
 use moments::in_order;
+use octets::addresses::is_address;
 
 pub struct Row {
     pub destination: u16,
@@ -19,16 +20,32 @@ pub struct Row {
 fn lifetime(withdrawn: bool) -> u32
     ensures { λ r. ⌜ r ≡ cond withdrawn 60000 360000 ⌝ }
 {
-    if withdrawn { 60000 } else { 360000 }
+    if withdrawn {
+        Row::WITHDRAWN_MS
+    } else {
+        Row::STANDS_MS
+    }
 }
 
-fn either(test: bool, first: Row, second: Row) -> Row
+// The first row where a test holds, else the second.
+pub(crate) fn either(test: bool, first: Row, second: Row) -> Row
     ensures { λ r. ⌜ r ≡ cond test first second ⌝ }
 {
     if test { first } else { second }
 }
 
 impl Row {
+    // How long a row may carry traffic, how long it stands, and how long if it was withdrawn.
+    pub const USABLE_MS: u32 = 300_000;
+
+    pub const STANDS_MS: u32 = 360_000;
+
+    pub const WITHDRAWN_MS: u32 = 60_000;
+
+    pub const MOST_HOPS: u8 = 16;
+
+    pub const LEAST_QUALITY: u8 = 40;
+
     // A place that is not in use.
     pub fn none() -> Row
         ensures { λ r. ⌜ r ≡ none ⌝ }
@@ -47,7 +64,7 @@ impl Row {
     pub fn usable(self, time: u32) -> bool
         ensures { λ r. ⌜ r ≡ usable time self ⌝ }
     {
-        !self.withdrawn & (age(time, self.time) <= 300000)
+        !self.withdrawn & (age(time, self.time) <= Row::USABLE_MS)
     }
 
     // Whether traffic to a destination may go by it at this time.
@@ -68,11 +85,11 @@ impl Row {
     pub fn good(self, own: u16, last: u32) -> bool
         ensures { λ r. ⌜ r ≡ rowRule own last self ⌝ }
     {
-        ((1 <= self.destination) & (self.destination <= 0xFFFE))
+        is_address(self.destination)
             & !(self.destination == own)
-            & (((1 <= self.next_hop) & (self.next_hop <= 0xFFFE)) & !(self.next_hop == own))
-            & ((1 <= self.hops) & (self.hops <= 16))
-            & (40 <= self.quality)
+            & (is_address(self.next_hop) & !(self.next_hop == own))
+            & ((1 <= self.hops) & (self.hops <= Row::MOST_HOPS))
+            & (Row::LEAST_QUALITY <= self.quality)
             & in_order(self.time, last)
     }
 

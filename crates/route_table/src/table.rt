@@ -1,16 +1,16 @@
 // A unit's table of at most 48 routes, by value.
 ghost use mathlib.Core.Path.{_≡_};
-ghost use mathlib.Core.List.{[], _∷_, map};
+ghost use mathlib.Core.List.{map};
 ghost use lib.ListN.{length};
 ghost use Rattle.route_table.specs.Places.{okPlaces};
 ghost use Rattle.route_table.specs.Rows.{forgotten, inUse, rowFor};
-ghost use Rattle.octets.specs.Answers.{accepted, unless};
 ghost use Rattle.octets.specs.Answers.{first};
-ghost use Rattle.route_table.specs.Tables.{headOf, pairOk, withinRule, settled, emptyTable, freshOf, foundBy, lookupOf, unforgottenReasons, forgetOf};
-ghost use Rattle.route_table.specs.Told.{toldFound, hopOf};
+ghost use Rattle.route_table.specs.Tables.{headOf, pairOk, withinRule, settled, emptyTable, freshOf, foundOr, foundBy, lookupOf, unforgottenReasons, forgetOf};
 use crate::row::Row;
+use crate::row::either;
 use crate::standing::standing_places;
 use moments::in_order;
+use octets::addresses::is_address;
 use octets::answers::Refusal;
 use octets::answers::refuse_if;
 
@@ -39,15 +39,11 @@ pub struct Changed {
     pub table: Table,
 }
 
-pub struct Hop {
+// What a lookup answers: the number that refuses it, 0 where there is a next hop; where it is refused the others are 0.
+pub struct Found {
+    pub refused: u8,
     pub next_hop: u16,
     pub hops: u8,
-}
-
-// What a lookup answers.
-pub enum Found {
-    Hop(Hop),
-    Refused(Refusal),
 }
 
 // Whether each place may stand before the next.
@@ -70,7 +66,7 @@ pub fn pair_ok(forwarded: bool, origin: u16, sequence: u16) -> bool
     ensures { λ r. ⌜ r ≡ pairOk forwarded origin sequence ⌝ }
 {
     if forwarded {
-        (1 <= origin) & (origin <= 0xFFFE)
+        is_address(origin)
     } else {
         (origin == 0) & (sequence == 0)
     }
@@ -140,62 +136,38 @@ pub fn settled(refused: u8, old: Table, new: Table) -> Changed
     }
 }
 
-fn answered(refused: u8, row: Row) -> Found
-    ensures { λ r. ⌜ toldFound r ≡ unless refused (accepted (row .«next_hop» ∷ row .hops ∷ [])) ⌝ }
+// The answer by a row, unless a number refuses it.
+pub fn found_or(refused: u8, row: Row) -> Found
+    ensures { λ r. ⌜ r ≡ foundOr refused row ⌝ }
 {
-    if refused == 0 {
-        return Found::Hop(Hop {
-            next_hop: row.next_hop,
-            hops: row.hops,
-        });
+    let by = either(refused == 0, row, Row::none());
+    Found {
+        refused,
+        next_hop: by.next_hop,
+        hops: by.hops,
     }
-    Found::Refused(Refusal { number: refused })
 }
 
 // What a table within rule answers to a lookup, where it has this last accepted time and this row for the destination: a table by value and one that
 // lies in bytes find the row in their own ways.
 pub fn found_by(last: u32, row: Row, destination: u16, time: u32) -> Found
-    ensures { λ r. ⌜ toldFound r ≡ foundBy last row destination time ⌝ }
+    ensures { λ r. ⌜ r ≡ foundBy last row destination time ⌝ }
 {
-    let address = (1 <= destination) & (destination <= 0xFFFE);
-    let refused = refuse_if(!row.leads(destination, time), 11, 0);
-    let refused = refuse_if(!in_order(last, time), 8, refused);
-    answered(refuse_if(!address, 4, refused), row)
+    let refused = refuse_if(!row.leads(destination, time), Refusal::NO_ROUTE, 0);
+    let refused = refuse_if(!in_order(last, time), Refusal::EARLIER, refused);
+    found_or(
+        refuse_if(!is_address(destination), Refusal::FIELD, refused),
+        row,
+    )
 }
 
 // Why a table within rule of the unit `own`, with this last accepted time, does not forget a unit; 0 where it does.
 pub fn why_unforgotten(own: u16, last: u32, unit: u16, time: u32) -> u8
     ensures { λ r. ⌜ r ≡ first (unforgottenReasons own last unit time) ⌝ }
 {
-    let address = (1 <= unit) & (unit <= 0xFFFE);
-    let refused = refuse_if(!in_order(last, time), 8, 0);
-    let refused = refuse_if(unit == own, 6, refused);
-    refuse_if(!address, 4, refused)
-}
-
-impl Found {
-    // The number that refuses it, 0 where there is a hop.
-    pub fn refusal(self) -> u8
-        ensures { λ r. ⌜ r ≡ toldFound self .refusal ⌝ }
-    {
-        match self {
-            Found::Hop(_) => 0,
-            Found::Refused(refusal) => refusal.number,
-        }
-    }
-
-    // The next hop and how far it is, none where it is refused.
-    pub fn hop(self) -> Hop
-        ensures { λ r. ⌜ r ≡ hopOf (toldFound self) ⌝ }
-    {
-        match self {
-            Found::Hop(hop) => hop,
-            Found::Refused(_) => Hop {
-                next_hop: 0,
-                hops: 0,
-            },
-        }
-    }
+    let refused = refuse_if(!in_order(last, time), Refusal::EARLIER, 0);
+    let refused = refuse_if(unit == own, Refusal::OWN, refused);
+    refuse_if(!is_address(unit), Refusal::FIELD, refused)
 }
 
 impl Table {
@@ -203,8 +175,11 @@ impl Table {
     pub fn fresh(own: u16, time: u32) -> Changed
         ensures { λ r. ⌜ r ≡ freshOf own time ⌝ }
     {
-        let address = (1 <= own) & (own <= 0xFFFE);
-        settled(refuse_if(!address, 4, 0), zeros(0, 0), zeros(own, time))
+        settled(
+            refuse_if(!is_address(own), Refusal::FIELD, 0),
+            zeros(0, 0),
+            zeros(own, time),
+        )
     }
 
     pub fn head(self) -> Head
@@ -224,17 +199,17 @@ impl Table {
         ensures { λ r. ⌜ r ≡ withinRule self ⌝ }
     {
         let rows = self.rows;
-        ((1 <= self.own) & (self.own <= 0xFFFE))
+        is_address(self.own)
             & pair_ok(self.forwarded, self.origin, self.sequence)
             & places_ok(self.own, self.time, rows)
     }
 
     // The next hop to a destination, by a row that is usable at this time.
     pub fn lookup(self, destination: u16, time: u32) -> Found
-        ensures { λ r. ⌜ toldFound r ≡ lookupOf self destination time ⌝ }
+        ensures { λ r. ⌜ r ≡ lookupOf self destination time ⌝ }
     {
         if !self.within_rule() {
-            return Found::Refused(Refusal { number: 14 });
+            return found_or(Refusal::RULE, Row::none());
         }
         let rows = self.rows;
         found_by(self.time, row_for(rows, destination), destination, time)
@@ -246,7 +221,7 @@ impl Table {
     {
         let rows = self.rows;
         let refused = why_unforgotten(self.own, self.time, unit, time);
-        let refused = refuse_if(!self.within_rule(), 14, refused);
+        let refused = refuse_if(!self.within_rule(), Refusal::RULE, refused);
         let next = forgotten_rows(standing_places(rows, time), unit, time);
         settled(
             refused,

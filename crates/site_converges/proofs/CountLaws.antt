@@ -1,19 +1,11 @@
 -- Ascending rows for units of a list are no more than the list has.
 -- Assumes nothing.
-use mathlib.Core.Path.{_≡_, refl, sym, ap, _∙_}
-use mathlib.Core.Bool.{Bool, true, false, _||_, cond, and-eq-true-iff, false≢true}
-use mathlib.Core.List.{List, [], _∷_}
-use Prim.Native.Nat.{ℕ, suc, _+_, _≤_}
-use native.Mathlib.Omega.{arith}
-use borrow.Author.Tests.{eqb-true, ltb-true}
-use lib.Dec.{eqb, ltb}
-use lib.ListN.{length}
+use Rattle.octets.proofs.Words.{_≡_, refl, sym, ap, _∙_, Bool, true, false, _||_, cond, and-eq-true-iff, false≢true, List, [], _∷_, ℕ, suc, _+_, _≤_, arith, eqb-true, ltb-true, eqb, ltb, length}
 use Rattle.octets.specs.Lists.{every, Each, some}
 use Rattle.octets.proofs.TestLaws.{or-left, or-right, or-elim}
+use Rattle.octets.proofs.OrderLaws.{ascending-rest, ascending-above}
 use Rattle.route_table.specs.declared.row.Row.{Row}
-use Rattle.route_table.specs.Rows.{ascending}
-use Rattle.route_table.proofs.KeepLaws.{ascending-above}
-use Rattle.route_table.proofs.StandingLaws.{ascending-rest}
+use Rattle.route_table.specs.Rows.{leadingTo, ascending}
 use Rattle.route_table.proofs.HasLaws.{row-first, Has, row-behind}
 use Rattle.site_converges.specs.Sites.{among}
 
@@ -58,7 +50,7 @@ pub no-more : (rs : List Row) (l : List ℕ) → ascending rs ≡ true → Each 
 no-more [] l a e = omega arith
 no-more (r ∷ rs) l a e =
     let n = r .destination in
-    let ih = no-more rs (without n l) (ascending-rest r rs a) (behind-first n l rs (ascending-above r rs a) (e .1)) in
+    let ih = no-more rs (without n l) (ascending-rest leadingTo r rs a) (behind-first n l rs (ascending-above leadingTo r rs a) (e .1)) in
     omega (arith, ih, without-shorter n l (e .0))
 
 -- a destination that has no row is that of none

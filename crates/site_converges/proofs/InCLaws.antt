@@ -1,12 +1,6 @@
 -- The buffers of 539 bytes hold the tables that the calls on values give.
 -- Assumes nothing.
-use mathlib.Core.Path.{_≡_, refl, ap, _∙_}
-use mathlib.Core.Bool.{true}
-use mathlib.Core.List.{List, [], _∷_, map}
-use Prim.Native.Nat.{ℕ, zero, suc}
-use native.Mathlib.Omega.{arith}
-use borrow.Author.Tests.{eq-eqb}
-use lib.ListN.{length, getD}
+use Rattle.octets.proofs.Words.{_≡_, refl, ap, _∙_, true, List, [], _∷_, _++_, map, ℕ, zero, suc, arith, eq-eqb, length}
 use Rattle.octets.specs.Calls.{after}
 use Rattle.octets.specs.Lists.{Each}
 use Rattle.route_table.specs.declared.table.Table.{Table}
@@ -15,17 +9,17 @@ use Rattle.route_bytes.specs.TableBytes.{tableBytes}
 use Rattle.route_bytes.specs.TableTrips.{Sized}
 use Rattle.route_bytes.proofs.TableTripLaws.{reads-back, writes-tables}
 use Rattle.route_pages.specs.Pages.{pageOf}
-use Rattle.route_history.specs.TableCalls.{Call}
+use Rattle.route_history.specs.TableCalls.{Call, Happened}
 use Rattle.route_history.specs.TableCalls as history
 use Rattle.c_routes.specs.TableCalls.{freshCall, lookupLeft, lookupCall}
 use Rattle.c_routes.specs.UpdateCalls.{pageCall}
-use Rattle.c_history.specs.HeldTables.{InC, Held, heldAfter, AllMachine, callsOf, inBytes}
-use Rattle.c_history.proofs.StoredLaws.{held-same, fresh-same}
+use Rattle.c_history.specs.HeldTables.{InC, afterCallsInC, recordedInC, AllMachine, callsOf}
+use Rattle.c_history.proofs.StoredLaws.{all-stored, fresh-same}
 use Rattle.site_converges.specs.Sites.{Site, Sited, among}
 use Rattle.site_converges.specs.Courses.{Heard, Course, Fair}
 use Rattle.site_converges.specs.RowRounds.{rowsAfter, untilAfter}
-use Rattle.site_converges.specs.Rounds.{pageBuffer, bytesOf, taking, pastAfter, tableAfter, Sent, Clocks, Rounds, Played}
-use Rattle.site_converges.specs.InC.{sentBy, takingInC, holdsAfter, bufferAfter, HoldsTables, ConvergesInC, AllKnownInC, AllArriveInC}
+use Rattle.site_converges.specs.Rounds.{pageBuffer, bytesOf, taking, tableAfter, recordAfter, Sent, Clocks, Rounds, Played}
+use Rattle.site_converges.specs.InC.{sentBy, takingInC, bufferAfter, statusesAfter, HoldsTables, ConvergesInC, AllKnownInC, AllArriveInC}
 use Rattle.site_converges.proofs.StepLaws.{Right}
 use Rattle.site_converges.proofs.RoundLaws.{rounds-right}
 use Rattle.site_converges.proofs.TableLaws.{Holds, unit-address, written, machine, fresh-taken, tables-hold}
@@ -38,8 +32,8 @@ module _ (t : Table) (z : Sized t) where
   sent-same p time e = rw (reads-back t z, writes-tables t z, e)
 
   looked-up : (d time hop hops : ℕ)
-      → let said = lookupOf t d time in
-      lookupCall (tableBytes t) d time hop hops ≡ lookupLeft (said .refusal) (after (said .refusal) hop (getD (said .values) 0 0)) (after (said .refusal) hops (getD (said .values) 1 0))
+      → let found = lookupOf t d time in
+      lookupCall (tableBytes t) d time hop hops ≡ lookupLeft (found .refused) (after (found .refused) hop (found .«next_hop»)) (after (found .refused) hops (found .hops))
   unfolding lookupCall
   looked-up d time hop hops = rw (reads-back t z, writes-tables t z)
 
@@ -85,33 +79,36 @@ module _ (s : Site) (c : Course) (z : Sited s) (w : Clocks s c) (r : ℕ) (a : R
   all-machine (h ∷ hs) f g = (machine s c z r before (rowsAfter c r) (untilAfter c r) same right u m h (f .0) (g .0), all-machine hs (f .1) (g .1))
 
   round-held : (hs : List Heard) → Each (Fair s c u) hs → Each (Sent before) hs
-      → heldAfter (inBytes (pastAfter c r u)) (map (takingInC buffers) hs) ≡ inBytes (history.after (pastAfter c r u) (map (taking before) hs))
+      → let calls = map (taking before) hs in
+      (afterCallsInC (tableBytes (before u)) (map (takingInC buffers) hs) ≡ tableBytes (history.afterCalls (before u) calls))
+      × (recordedInC (tableBytes (before u)) (map (takingInC buffers) hs) ≡ history.recorded (before u) calls)
   round-held hs f g =
-      ap (heldAfter (inBytes (pastAfter c r u))) (all-calls hs f g)
-      ∙ (held-same (pastAfter c r u) (map (inC before) hs) (all-machine hs f g) (same u m .sized)
-      ∙ ap (λ (l : List Call). inBytes (history.after (pastAfter c r u) l)) (calls-are before hs))
+      let stored = all-stored (before u) (map (inC before) hs) (all-machine hs f g) (same u m .sized) in
+      rw (all-calls hs f g, ← calls-are before hs) (stored .buffer, stored .happened)
 
 -- ---- rounds
 pub holds-tables : HoldsTables
-unfolding holdsAfter pastAfter freshCall
+unfolding bufferAfter statusesAfter tableAfter recordAfter freshCall
 holds-tables s c zero p anything l u m =
     let e : freshOf u (c .began u) .refused ≡ 0 = fresh-taken s c (p .site) (p .clocks) u m in
-    fresh-same (anything u) u (c .began u) (rw (eq-eqb (length (anything u)) 539 (l u), e))
+    (fresh-same (anything u) u (c .began u) (rw (eq-eqb (length (anything u)) 539 (l u), e)), refl)
 holds-tables s c (suc r) p anything l u m =
     let sooner : Played s c r = record { site = p .site; clocks = p .clocks; rounds = λ k h. p .rounds k (omega arith) } in
     let held = holds-tables s c r sooner anything l in
     let now = p .rounds r (omega arith) u m in
-    ap (λ (x : Held). heldAfter x (map (takingInC (bufferAfter anything c r)) (c .heard r u))) (held u m)
-    ∙ round-held s c (p .site) (p .clocks) r (sooner .rounds) (bufferAfter anything c r) (λ o i. ap (λ (x : Held). x .buffer) (held o i)) u m (c .heard r u) (now .fair) (now .sent)
+    let calls = map (takingInC (bufferAfter anything c r)) (c .heard r u) in
+    let (buffer, happened) =
+    round-held s c (p .site) (p .clocks) r (sooner .rounds) (bufferAfter anything c r) (λ o i. held o i .0) u m (c .heard r u) (now .fair) (now .sent) in
+    let here = held u m in (
+      ap (λ (b : List ℕ). afterCallsInC b calls) (here .0) ∙ buffer,
+      (λ i. here .1 i ++ recordedInC (here .0 i) calls) ∙ ap (λ (hs : List Happened). recordAfter c r u ++ hs) happened,
+    )
 
 pub converges-in-c : ConvergesInC
 converges-in-c s c r p anything l u d time hop hops m a q =
     let t = tableAfter c r u in
     let size = tables-hold s c (p .site) (p .clocks) r (p .rounds) .1 u m .held .sized in
-    let said = lookupOf t d time in
-    let left : lookupCall (bufferAfter anything c r u) d time hop hops
-    ≡ lookupLeft (said .refusal) (after (said .refusal) hop (getD (said .values) 0 0)) (after (said .refusal) hops (getD (said .values) 1 0)) =
-    ap (λ (x : Held). lookupCall (x .buffer) d time hop hops) (holds-tables s c r p anything l u m) ∙ looked-up t size d time hop hops in
+    let left = ap (λ (b : List ℕ). lookupCall b d time hop hops) (holds-tables s c r p anything l u m .0) ∙ looked-up t size d time hop hops in
     let told = lookups-converge s c r p u d time m a q in
     rw left
     (record {

@@ -1,12 +1,6 @@
 -- Three units in a line, computed.
 -- Assumes nothing.
-use mathlib.Core.Path.{_≡_, refl}
-use mathlib.Core.Bool.{Bool, true, false, _&&_, _||_, and-eq-true-iff}
-use Prim.Native.Nat.{ℕ}
-use native.Mathlib.Decide.{ℕ-discrete}
-use native.Mathlib.Omega.{arith}
-use borrow.Author.Tests.{eqb-true, ne-eqb}
-use lib.Dec.{eqb}
+use Rattle.octets.proofs.Words.{_≡_, refl, true, false, _&&_, _||_, and-eq-true-iff, or-comm, ℕ, ℕ-discrete, arith, eqb-true, ne-eqb, eqb}
 use Rattle.octets.specs.Numbers.{num, digits}
 use Rattle.octets.specs.Sums.{xors}
 use Rattle.octets.specs.Lists.{tab, every, some}
@@ -21,15 +15,9 @@ use Rattle.route_merges.specs.Learning.{learn}
 use Rattle.route_merges.specs.Merges.{mergeRefusal, mergedRows, mergeOf}
 use Rattle.route_pages.specs.Pages.{entryFor, pageOf}
 use Rattle.site_converges.specs.Sites.{Sited, among, within}
-use Rattle.site_converges.specs.Rounds.{pastAfter}
+use Rattle.site_converges.specs.Rounds.{tableAfter}
 use Rattle.site_converges.specs.Line.{line, LineTells}
 use Rattle.site_converges.proofs.SiteLaws.{among-every, within-more}
-
-either-way : (x y : Bool) → (x || y) ≡ (y || x)
-either-way true true = refl
-either-way true false = refl
-either-way false true = refl
-either-way false false = refl
 
 line-inside : (a b : ℕ) → line .linked a b ≡ true → among b (line .units) ≡ true
 unfolding among some
@@ -60,7 +48,7 @@ line-sited =
       addresses = refl;
       inside = line-inside;
       apart = line-apart;
-      both = λ a b. either-way (eqb a 2 && (eqb b 1 || eqb b 3)) (eqb b 2 && (eqb a 1 || eqb a 3));
+      both = λ a b. or-comm (eqb a 2 && (eqb b 1 || eqb b 3)) (eqb b 2 && (eqb a 1 || eqb a 3));
       across =
           λ a b m n.
           within-more line 2 _ a b (omega arith)
@@ -68,5 +56,5 @@ line-sited =
     }
 
 pub line-tells : LineTells
-unfolding tab every num digits xors ageAt inOrder isSealed readRefusal sealed entryAt pad withinRule freshOf lookupOf learn mergeRefusal mergedRows mergeOf entryFor pageOf pastAfter
+unfolding tab every num digits xors ageAt inOrder isSealed readRefusal sealed entryAt pad withinRule freshOf lookupOf learn mergeRefusal mergedRows mergeOf entryFor pageOf tableAfter
 line-tells = (line-sited, refl, refl, refl, refl, refl)

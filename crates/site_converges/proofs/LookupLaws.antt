@@ -1,17 +1,10 @@
 -- What lookups tell after some rounds, and where their next hops lead.
 -- Assumes nothing.
-use mathlib.Core.Path.{_≡_, sym, ap, subst, _∙_}
-use mathlib.Core.Bool.{true, false, not, and-eq-true-iff}
-use mathlib.Core.List.{List}
-use Prim.Native.Nat.{ℕ, zero, suc, _-_, _≤_}
-use native.Mathlib.Decide.{ℕ-discrete}
-use native.Mathlib.Omega.{arith}
-use borrow.Author.Tests.{eqb-true, eq-eqb, ne-eqb}
-use lib.Dec.{eqb}
-use lib.ListN.{getD}
+use Rattle.octets.proofs.Words.{_≡_, sym, ap, subst, _∙_, true, false, not, and-eq-true-iff, ℕ, zero, suc, _-_, _≤_, ℕ-discrete, arith, eqb-true, eq-eqb, ne-eqb, eqb}
 use Rattle.moments.specs.Moments.{inOrder}
 use Rattle.moments.proofs.MomentLaws.{young-in-order}
-use Rattle.frame_kinds.specs.Rules.{address}
+use Rattle.octets.specs.Addresses.{address}
+use Rattle.route_table.specs.declared.table.Found.{Found}
 use Rattle.route_table.specs.Rows.{rowFor}
 use Rattle.route_table.specs.Tables.{rowsOf, leadsTo, lookupOf}
 use Rattle.route_table.proofs.LookupLaws.{lookup-told, lookup-leads, not-led}
@@ -51,8 +44,8 @@ lookups-converge s c r p u d time m a q =
           λ e.
           let there : x .destination ≡ d = eqb-true (x .destination) d (n .exactly d a ∙ e) in
           let leads : leadsTo t d time ≡ true = rw (eq-eqb (x .destination) d there) (n .lasting d time a there (q .within) (row-before s c r p u m d a there time q)) in
-          let ok : lookupOf t d time .refusal ≡ 0 = eqb-true (lookupOf t d time .refusal) 0 (lookup-leads t d time (held .rule) a (q .order) ∙ leads) in
-          (ok, subst (λ (vs : List ℕ). Leads s u d (getD vs 0 0) (getD vs 1 0)) (sym (lookup-told t d time ok)) (n .leads d a there));
+          let ok : lookupOf t d time .refused ≡ 0 = eqb-true (lookupOf t d time .refused) 0 (lookup-leads t d time (held .rule) a (q .order) ∙ leads) in
+          (ok, subst (λ (f : Found). Leads s u d (f .«next_hop») (f .hops)) (sym (lookup-told t d time ok)) (n .leads d a there));
       unknown =
           λ e.
           let none : leadsTo t d time ≡ false = rw (n .exactly d a ∙ e) in
@@ -110,5 +103,5 @@ module _ (s : Site) (z : Sited s) (d : ℕ) (hop hops : ℕ → ℕ) (leads : (v
 
 pub all-arrive : AllArrive
 all-arrive s c r p a at asked u d m k =
-    all-arrive-by s (p .site) d (λ v. getD (lookupOf (tableAfter c r v) d (at v) .values) 0 0) (λ v. getD (lookupOf (tableAfter c r v) d (at v) .values) 1 0)
+    all-arrive-by s (p .site) d (λ v. lookupOf (tableAfter c r v) d (at v) .«next_hop») (λ v. lookupOf (tableAfter c r v) d (at v) .hops)
     (λ v i e. all-known s c r p a v d (at v) i k e (asked v i) .1) u m

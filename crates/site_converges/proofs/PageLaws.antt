@@ -1,13 +1,6 @@
 -- A neighbour's page: what it offers, and that each of its rows stands on one.
 -- Assumes nothing.
-use mathlib.Core.Path.{_≡_, refl}
-use mathlib.Core.Bool.{Bool, true, false, cond}
-use mathlib.Core.List.{List, [], _∷_, map}
-use mathlib.Core.Logic.{⊎-elim}
-use Prim.Native.Nat.{ℕ, _≤_}
-use native.Mathlib.Omega.{arith}
-use borrow.Author.Tests.{eqb-false}
-use lib.Dec.{eqb}
+use Rattle.octets.proofs.Words.{_≡_, refl, Bool, true, false, cond, List, [], _∷_, map, ⊎-elim, ℕ, _≤_, arith, eqb-false, eqb}
 use Rattle.octets.specs.Lists.{Some, Each}
 use Rattle.octets.proofs.TestLaws.{neither}
 use Rattle.route_table.specs.declared.row.Row.{Row}

@@ -1,20 +1,11 @@
 -- A round: from the units within r links to those within one more; and any number of rounds.
 -- Assumes nothing.
-use mathlib.Core.Path.{_≡_, refl, sym, ap, ap₂, subst, _∙_}
-use mathlib.Core.Bool.{Bool, true, false, not, _&&_, and-eq-true-iff, false≢true}
-use mathlib.Core.List.{List, [], _∷_, map}
-use mathlib.Core.Logic.{⊎-elim}
-use Prim.Native.Nat.{ℕ, zero, suc, _*_, _-_, _≤_}
-use native.Mathlib.Decide.{ℕ-discrete}
-use native.Mathlib.Omega.{arith}
-use borrow.Author.Tests.{eq-eqb, ne-eqb, eqb-false, leb-true}
-use lib.Dec.{eqb, leb}
-use lib.ListN.{drop}
+use Rattle.octets.proofs.Words.{_≡_, refl, sym, ap, ap₂, subst, _∙_, Bool, true, false, not, _&&_, and-eq-true-iff, false≢true, List, [], _∷_, map, ⊎-elim, ℕ, zero, suc, _*_, _-_, _≤_, ℕ-discrete, arith, eq-eqb, ne-eqb, eqb-false, leb-true, eqb, leb, drop}
 use Rattle.octets.specs.Lists.{Some, Each}
 use Rattle.octets.proofs.EachLaws.{each-take, each-drop, each-every}
 use Rattle.octets.proofs.TestLaws.{by-bool}
 use Rattle.moments.proofs.MomentLaws.{young-in-order, in-turn}
-use Rattle.frame_kinds.specs.Rules.{address}
+use Rattle.octets.specs.Addresses.{address}
 use Rattle.route_table.specs.declared.row.Row.{Row}
 use Rattle.route_table.specs.Rows.{stands, standing, rowFor}
 use Rattle.route_table.proofs.StandingLaws.{standing-all}

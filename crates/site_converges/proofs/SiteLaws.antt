@@ -1,13 +1,6 @@
 -- Links: more are no worse, one more leads on, and what is reached is a unit of the site.
 -- Assumes nothing.
-use mathlib.Core.Path.{_≡_, refl, sym, _∙_}
-use mathlib.Core.Bool.{Bool, true, false, _&&_, and-eq-true-iff, false≢true}
-use mathlib.Core.List.{List, [], _∷_}
-use Prim.Native.Nat.{ℕ, zero, suc, _≤_}
-use native.Mathlib.Decide.{decLe}
-use native.Mathlib.Omega.{arith}
-use borrow.Author.Tests.{eqb-true, eq-eqb}
-use lib.Dec.{eqb}
+use Rattle.octets.proofs.Words.{_≡_, refl, sym, _∙_, Bool, true, false, _&&_, and-eq-true-iff, false≢true, List, [], _∷_, ℕ, zero, suc, _≤_, decLe, arith, eqb-true, eq-eqb, eqb}
 use Rattle.octets.specs.Lists.{every, some}
 use Rattle.octets.proofs.TestLaws.{or-left, or-right, or-elim}
 use Rattle.site_converges.specs.Sites.{Site, Fewest, among, within}

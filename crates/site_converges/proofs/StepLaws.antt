@@ -1,26 +1,19 @@
 -- One candidate in the middle of a round: the rows stay right, the candidate's destination has one, and none is skipped.
 -- Assumes nothing.
-use mathlib.Core.Path.{_≡_, refl, sym, ap, _∙_}
-use mathlib.Core.Bool.{true, false, not, _&&_, _||_, and-eq-true-iff, false≢true}
-use mathlib.Core.List.{List, [], _∷_}
-use Prim.Native.Nat.{ℕ, suc, _≤_, _<_}
-use native.Mathlib.Omega.{arith}
-use borrow.Author.Tests.{eqb-true, eqb-false, ltb-true, ltb-false, le-ltb, le-leb, leb-true}
-use lib.Dec.{eqb, leb, ltb}
-use lib.ListN.{length}
+use Rattle.octets.proofs.Words.{_≡_, refl, sym, ap, _∙_, true, false, not, _&&_, _||_, and-eq-true-iff, false≢true, List, [], _∷_, ℕ, suc, _≤_, _<_, arith, eqb-true, eqb-false, ltb-true, ltb-false, le-ltb, le-leb, leb-true, eqb, leb, ltb, length}
 use Rattle.octets.specs.Lists.{Each}
 use Rattle.octets.proofs.EachLaws.{each-also}
 use Rattle.octets.proofs.TestLaws.{of-cond, or-elim, by-bool}
 use Rattle.moments.specs.Moments.{ageAt}
 use Rattle.moments.proofs.MomentLaws.{age-between}
-use Rattle.frame_kinds.specs.Rules.{address}
+use Rattle.octets.specs.Addresses.{address}
+use Rattle.octets.proofs.OrderLaws.{put-ascending}
 use Rattle.route_table.specs.declared.row.Row.{Row}
-use Rattle.route_table.specs.Rows.{usable, stands, ascending, rowFor}
+use Rattle.route_table.specs.Rows.{leadingTo, usable, stands, ascending, rowFor}
 use Rattle.route_table.proofs.HasLaws.{Has, each-row}
 use Rattle.route_merges.specs.declared.candidate.Candidate.{Candidate}
 use Rattle.route_merges.specs.Candidates.{bad}
 use Rattle.route_merges.specs.Learning.{put, rowBy, givesWay, takenBack, Learned, met, newTo, learn, learnAll}
-use Rattle.route_merges.proofs.PutLaws.{put-ascending}
 use Rattle.route_merges.proofs.HasLaws.{put-has, row-put, each-put, learn-all-has}
 use Rattle.site_converges.specs.Sites.{Site, Sited, Fewest, among, within}
 use Rattle.site_converges.specs.Courses.{Course, span, sinceBegan, InTime}
@@ -193,7 +186,7 @@ module _ (s : Site) (c : Course) (z : Sited s) (u : ℕ) (m : among u (s .units)
       put-right : Good s c u now (suc r) (rowBy via time x) → Right s c u now r (suc r) (put (rowBy via time x) (l .rows))
       put-right g =
           record {
-            up = put-ascending (rowBy via time x) (l .rows) (h .up);
+            up = put-ascending leadingTo (rowBy via time x) (l .rows) (h .up);
             good = each-put (Good s c u now (suc r)) (rowBy via time x) g (l .rows) (h .good);
             known = λ k n w. put-has k (rowBy via time x) (l .rows) (h .known k n w);
           }

@@ -1,23 +1,16 @@
 -- Through the calls a table comes to hold what its rows learn, and so it converges.
 -- Assumes nothing.
-use mathlib.Core.Path.{_≡_, refl, sym, ap, subst, _∙_}
-use mathlib.Core.Bool.{true, not, and-eq-true-iff, false≢true}
-use mathlib.Core.List.{List, [], _∷_, map}
-use Prim.Native.Nat.{ℕ, zero, suc, _+_, _≤_, _<_}
-use native.Mathlib.Decide.{ℕ-discrete}
-use native.Mathlib.Omega.{arith}
-use borrow.Author.Tests.{ne-eqb, le-ltb}
-use lib.Dec.{eqb, ltb}
-use lib.ListN.{length, getD, take}
+use Rattle.octets.proofs.Words.{_≡_, refl, sym, ap, subst, _∙_, true, not, and-eq-true-iff, false≢true, List, [], _∷_, _++_, map, ℕ, zero, suc, _+_, _≤_, _<_, ℕ-discrete, arith, ne-eqb, le-ltb, eqb, ltb, length, getD, take}
 use Rattle.octets.specs.Answers.{Said, Reason, reason, accepted}
 use Rattle.octets.specs.Layouts.{Bytes}
 use Rattle.octets.specs.Lists.{Each}
 use Rattle.octets.proofs.AnswerLaws.{unless-none, first-none}
 use Rattle.octets.proofs.StoreLaws.{take-sets}
+use Rattle.moments.specs.Elapsed.{Clock, started, moved}
 use Rattle.moments.specs.Moments.{ageAt, inOrder}
 use Rattle.moments.proofs.MomentLaws.{no-age, young-in-order, ages-add, in-turn}
-use Rattle.frame_kinds.specs.Rules.{address}
-use Rattle.frame_kinds.proofs.RuleLaws.{address-fits}
+use Rattle.octets.specs.Addresses.{address}
+use Rattle.octets.proofs.AddressLaws.{address-fits}
 use Rattle.route_table.specs.declared.row.Row.{Row}
 use Rattle.route_table.specs.declared.table.Table.{Table}
 use Rattle.route_table.specs.Rows.{standing}
@@ -32,7 +25,7 @@ use Rattle.route_merges.proofs.KeepLaws.{merge-gives, merge-rules, merge-within
 use Rattle.route_pages.specs.Pages.{entryFor, onPage, pageFrame, pageReasons, pageRefusal, pageOf}
 use Rattle.route_pages.proofs.PageLaws.{page-short}
 use Rattle.route_pages.proofs.StandLaws.{page-frame-bytes}
-use Rattle.route_history.specs.TableCalls.{merge, next, stepOf, Past, followed, after}
+use Rattle.route_history.specs.TableCalls.{answer, next, afterCalls, Happened, recorded, stepOf, clockOf}
 use Rattle.c_read_back.specs.FramesRead.{Paged, Offered}
 use Rattle.c_read_back.proofs.OfferLaws.{pages-offer}
 use Rattle.c_read_back.proofs.PageReadLaws.{pages-are-read}
@@ -41,7 +34,7 @@ use Rattle.site_converges.specs.Sites.{Site, Sited, among}
 use Rattle.site_converges.specs.Courses.{Heard, Course, span, sinceBegan, InTime, Fair, Names}
 use Rattle.site_converges.specs.RowRounds as rows
 use Rattle.site_converges.specs.RowRounds.{InTurn, AllInTurn, taught, learns, learnsAll, rowsAfter, mergedUntil, untilAfter, toHear}
-use Rattle.site_converges.specs.Rounds.{pageBuffer, bytesOf, taking, pastAfter, tableAfter, ordered, Sent, Clocks, Round, Rounds}
+use Rattle.site_converges.specs.Rounds.{pageBuffer, bytesOf, taking, tableAfter, recordAfter, ordered, Sent, Clocks, Round, Rounds}
 use Rattle.site_converges.specs.Laws.{AllTaken, Converges, ElapsesInTime, NoneRefused}
 use Rattle.site_converges.proofs.SiteLaws.{among-every}
 use Rattle.site_converges.proofs.StepLaws.{Right, right-more}
@@ -60,10 +53,6 @@ began-before c u time t = young-in-order time (c .began u) span (omega arith) (t
 -- of two times in order, the first in time, the second is no sooner after the beginning
 pub no-sooner : (c : Course) (u first second : ℕ) → InTime c u first → inOrder first second ≡ true → sinceBegan c u first ≤ sinceBegan c u second
 no-sooner c u first second t o = in-turn (c .began u) first second (began-before c u first t) o
-
--- an accepted merge counts in elapsed time
-counting : (t : Table) (frame : List ℕ) (quality time : ℕ) → mergeOf t frame quality time .refused ≡ 0 → stepOf t (merge frame quality time) .changes ≡ true
-counting t frame quality time e = rw e
 
 -- ---- a table in a round
 -- a unit's table with these rows, so many ms after it began: its own, within rule, with numbers that fit their bytes, and its last accepted time in time
@@ -201,61 +190,63 @@ module _ (s : Site) (c : Course) (z : Sited s) (r : ℕ) (before : ℕ → Table
     pub fine : Right s c u now r (suc r) rows
 
   -- what holds at the end of the pages, and before a page if it does behind it, holds from the beginning on
-  by-pages : (P : Past → ℕ → List Row → List Heard → Type 0) → ((p : Past) (now : ℕ) (rows : List Row) → Midway now rows (p .table) → P p now rows [])
-      → ((h : Heard) (hs : List Heard) (p : Past) (now : ℕ) (rows : List Row) → Fair s c u h → Sent before h → Midway now rows (p .table) → inOrder (p .table .time) (h .time) ≡ true
-      → P (followed p (taking before h)) (sinceBegan c u (h .time)) (learns u their h rows) hs → P p now rows (h ∷ hs))
-      → (hs : List Heard) → Each (Fair s c u) hs → Each (Sent before) hs → (p : Past) → ordered (p .table .time) hs ≡ true → (now : ℕ) (rows : List Row)
-      → Midway now rows (p .table) → P p now rows hs
-  by-pages P end page [] f g p order now rows k = end p now rows k
-  by-pages P end page (h ∷ hs) f g p order now rows k =
-      let t = p .table in
+  by-pages : (P : Table → ℕ → List Row → List Heard → Type 0) → ((t : Table) (now : ℕ) (rows : List Row) → Midway now rows t → P t now rows [])
+      → ((h : Heard) (hs : List Heard) (t : Table) (now : ℕ) (rows : List Row) → Fair s c u h → Sent before h → Midway now rows t → inOrder (t .time) (h .time) ≡ true
+      → P (next t (taking before h)) (sinceBegan c u (h .time)) (learns u their h rows) hs → P t now rows (h ∷ hs))
+      → (hs : List Heard) → Each (Fair s c u) hs → Each (Sent before) hs → (t : Table) → ordered (t .time) hs ≡ true → (now : ℕ) (rows : List Row)
+      → Midway now rows t → P t now rows hs
+  by-pages P end page [] f g t order now rows k = end t now rows k
+  by-pages P end page (h ∷ hs) f g t order now rows k =
       let (first, rest) = and-eq-true-iff (inOrder (t .time) (h .time)) (ordered (h .time) hs) .0 order in
       let time = next-time h (f .0) (g .0) t now rows (k .held) (k .fine) first in
-      page h hs p now rows (f .0) (g .0) k first
-      (by-pages P end page hs (f .1) (g .1) (followed p (taking before h)) (subst (λ (n : ℕ). ordered n hs ≡ true) (sym time) rest)
+      page h hs t now rows (f .0) (g .0) k first
+      (by-pages P end page hs (f .1) (g .1) (next t (taking before h)) (subst (λ (n : ℕ). ordered n hs ≡ true) (sym time) rest)
       (sinceBegan c u (h .time)) (learns u their h rows) (record {
         held = next-holds h (f .0) (g .0) t now rows (k .held) (k .fine) first;
         fine = next-right h (f .0) (g .0) t now rows (k .held) (k .fine) first;
       }))
 
-  module _ (hs : List Heard) (f : Each (Fair s c u) hs) (g : Each (Sent before) hs) (p : Past) (order : ordered (p .table .time) hs ≡ true) (now : ℕ) (rows : List Row)
-      (k : Midway now rows (p .table)) where
-    pub all-held : Holds c u (mergedUntil c u now hs) (after p (map (taking before) hs) .table) (learnsAll u their hs rows)
+  module _ (hs : List Heard) (f : Each (Fair s c u) hs) (g : Each (Sent before) hs) (t : Table) (order : ordered (t .time) hs ≡ true) (now : ℕ) (rows : List Row)
+      (k : Midway now rows t) where
+    pub all-held : Holds c u (mergedUntil c u now hs) (afterCalls t (map (taking before) hs)) (learnsAll u their hs rows)
     all-held =
-        by-pages (λ p now rows hs. Holds c u (mergedUntil c u now hs) (after p (map (taking before) hs) .table) (learnsAll u their hs rows)) (λ p now rows k. k .held)
-        (λ h hs p now rows f g k o later. later) hs f g p order now rows k
+        by-pages (λ t now rows hs. Holds c u (mergedUntil c u now hs) (afterCalls t (map (taking before) hs)) (learnsAll u their hs rows)) (λ t now rows k. k .held)
+        (λ h hs t now rows f g k o later. later) hs f g t order now rows k
 
     pub all-turn : AllInTurn c u until now hs
     all-turn =
-        by-pages (λ p now rows hs. AllInTurn c u until now hs) (λ p now rows k. tt)
-        (λ h hs p now rows f g k o later. (turn h f g (p .table) now rows (k .held) (k .fine) o, later)) hs f g p order now rows k
+        by-pages (λ t now rows hs. AllInTurn c u until now hs) (λ t now rows k. tt)
+        (λ h hs t now rows f g k o later. (turn h f g t now rows (k .held) (k .fine) o, later)) hs f g t order now rows k
 
-    pub all-taken : AllTaken before hs (p .table)
+    pub all-taken : AllTaken before hs t
     all-taken =
-        by-pages (λ p now rows hs. AllTaken before hs (p .table)) (λ p now rows k. tt)
-        (λ h hs p now rows f g k o later.
-        let t = p .table in
-        (written h f g, merged h f g t now rows (k .held) (k .fine) o, unskipped h f g t now rows (k .held) (k .fine) o, later)) hs f g p order now rows k
+        by-pages (λ t now rows hs. AllTaken before hs t) (λ t now rows k. tt)
+        (λ h hs t now rows f g k o later. (written h f g, merged h f g t now rows (k .held) (k .fine) o, unskipped h f g t now rows (k .held) (k .fine) o, later))
+        hs f g t order now rows k
 
     -- the clock of the calls: the table's last accepted time, and the ms since the unit began
-    pub all-clocked : p .clock ≡ record { last = p .table .time; elapsed = now }
-        → after p (map (taking before) hs) .clock ≡ record { last = after p (map (taking before) hs) .table .time; elapsed = mergedUntil c u now hs }
+    pub all-clocked : (clock : Clock) → clock ≡ record { last = t .time; elapsed = now }
+        → clockOf clock (recorded t (map (taking before) hs)) ≡ record { last = afterCalls t (map (taking before) hs) .time; elapsed = mergedUntil c u now hs }
     all-clocked =
         by-pages
-        (λ p now rows hs.
-        p .clock ≡ record { last = p .table .time; elapsed = now }
-        → after p (map (taking before) hs) .clock ≡ record { last = after p (map (taking before) hs) .table .time; elapsed = mergedUntil c u now hs })
-        (λ p now rows k e. e) (λ h hs p now rows f g k o later e. later (clocked h f g p now rows k o e)) hs f g p order now rows k
+        (λ t now rows hs.
+        (clock : Clock) → clock ≡ record { last = t .time; elapsed = now }
+        → clockOf clock (recorded t (map (taking before) hs)) ≡ record { last = afterCalls t (map (taking before) hs) .time; elapsed = mergedUntil c u now hs })
+        (λ t now rows k clock e. e) (λ h hs t now rows f g k o later clock e. later _ (clocked h f g t now rows k o clock e)) hs f g t order now rows k
       where
-        clocked : (h : Heard) (f : Fair s c u h) (g : Sent before h) (p : Past) (now : ℕ) (rows : List Row) (k : Midway now rows (p .table)) (o : inOrder (p .table .time) (h .time) ≡ true)
-            → p .clock ≡ record { last = p .table .time; elapsed = now }
-            → followed p (taking before h) .clock ≡ record { last = next (p .table) (taking before h) .time; elapsed = sinceBegan c u (h .time) }
-        clocked h f g p now rows k o e =
-            let t = p .table in
+        clocked : (h : Heard) (f : Fair s c u h) (g : Sent before h) (t : Table) (now : ℕ) (rows : List Row) (k : Midway now rows t) (o : inOrder (t .time) (h .time) ≡ true)
+            (clock : Clock) → clock ≡ record { last = t .time; elapsed = now }
+            → moved clock (stepOf (record { call = taking before h; refused = answer t (taking before h) .refused })) ≡ record { last = next t (taking before h) .time; elapsed = sinceBegan c u (h .time) }
+        clocked h f g t now rows k o clock e =
             let time = sym (next-time h f g t now rows (k .held) (k .fine) o) in
             let elapsed : now + ageAt (h .time) (t .time) ≡ sinceBegan c u (h .time) =
             omega (arith, ages-add (c .began u) (t .time) (h .time) (began-before c u (t .time) (k .held .at)) o, k .held .since) in
-            rw (counting t _ (h .quality) (h .time) (merged h f g t now rows (k .held) (k .fine) o), e) (λ i. record { last = time i; elapsed = elapsed i })
+            rw (merged h f g t now rows (k .held) (k .fine) o, e) (λ i. record { last = time i; elapsed = elapsed i })
+
+-- the clock goes over one record behind another
+clock-on : (k : Clock) (hs more : List Happened) → clockOf k (hs ++ more) ≡ clockOf (clockOf k hs) more
+clock-on k [] more = refl
+clock-on k (h ∷ hs) more = clock-on (moved k (stepOf h)) hs more
 
 -- ---- rounds
 module _ (s : Site) (c : Course) (z : Sited s) (w : Clocks s c) where
@@ -266,10 +257,10 @@ module _ (s : Site) (c : Course) (z : Sited s) (w : Clocks s c) where
   -- what is known of a unit after some rounds: its table, and the clock of its calls
   pub record Comes (r u : ℕ) : Type 0 where
     pub held : Holds c u (untilAfter c r u) (tableAfter c r u) (rowsAfter c r u)
-    pub clock : pastAfter c r u .clock ≡ record { last = tableAfter c r u .time; elapsed = untilAfter c r u }
+    pub clock : clockOf (started (c .began u)) (recordAfter c r u) ≡ record { last = tableAfter c r u .time; elapsed = untilAfter c r u }
 
   fresh-comes : (u : ℕ) → among u (s .units) ≡ true → Comes 0 u
-  unfolding pastAfter rowsAfter untilAfter freshOf
+  unfolding tableAfter recordAfter rowsAfter untilAfter freshOf
   fresh-comes u m =
       let a = unit-address s z u m in
       let none = no-age (c .began u) in
@@ -303,16 +294,17 @@ module _ (s : Site) (c : Course) (z : Sited s) (w : Clocks s c) where
           }
 
       next-comes : Comes (suc r) u
-      unfolding pastAfter rowsAfter untilAfter
+      unfolding tableAfter recordAfter rowsAfter untilAfter
       next-comes =
           let a = round u m in
           record {
             held =
-                all-held s c z r (tableAfter c r) (rowsAfter c r) (untilAfter c r) same right u m (c .heard r u) (a .fair) (a .sent) (pastAfter c r u) (a .order) (untilAfter c r u)
+                all-held s c z r (tableAfter c r) (rowsAfter c r) (untilAfter c r) same right u m (c .heard r u) (a .fair) (a .sent) (tableAfter c r u) (a .order) (untilAfter c r u)
                 (rowsAfter c r u) midway;
             clock =
-                all-clocked s c z r (tableAfter c r) (rowsAfter c r) (untilAfter c r) same right u m (c .heard r u) (a .fair) (a .sent) (pastAfter c r u) (a .order) (untilAfter c r u)
-                (rowsAfter c r u) midway (comes u m .clock);
+                clock-on (started (c .began u)) (recordAfter c r u) _
+                ∙ all-clocked s c z r (tableAfter c r) (rowsAfter c r) (untilAfter c r) same right u m (c .heard r u) (a .fair) (a .sent) (tableAfter c r u) (a .order) (untilAfter c r u)
+                (rowsAfter c r u) midway _ (comes u m .clock);
           }
 
       row-round : rows.Round s c u (rowsAfter c r) (untilAfter c r) (c .heard r u)
@@ -321,7 +313,7 @@ module _ (s : Site) (c : Course) (z : Sited s) (w : Clocks s c) where
           record {
             fair = a .fair;
             turn =
-                all-turn s c z r (tableAfter c r) (rowsAfter c r) (untilAfter c r) same right u m (c .heard r u) (a .fair) (a .sent) (pastAfter c r u) (a .order) (untilAfter c r u)
+                all-turn s c z r (tableAfter c r) (rowsAfter c r) (untilAfter c r) same right u m (c .heard r u) (a .fair) (a .sent) (tableAfter c r u) (a .order) (untilAfter c r u)
                 (rowsAfter c r u) midway;
             all = λ o p l t. a .all o p l (subst (λ (rs : List Row). toHear rs p ≡ true) (sym (same o (z .inside u o l) .holds)) t);
           }
@@ -329,7 +321,7 @@ module _ (s : Site) (c : Course) (z : Sited s) (w : Clocks s c) where
       round-taken : AllTaken (tableAfter c r) (c .heard r u) (tableAfter c r u)
       round-taken =
           let a = round u m in
-          all-taken s c z r (tableAfter c r) (rowsAfter c r) (untilAfter c r) same right u m (c .heard r u) (a .fair) (a .sent) (pastAfter c r u) (a .order) (untilAfter c r u)
+          all-taken s c z r (tableAfter c r) (rowsAfter c r) (untilAfter c r) same right u m (c .heard r u) (a .fair) (a .sent) (tableAfter c r u) (a .order) (untilAfter c r u)
           (rowsAfter c r u) midway
 
   pub tables-hold : (r : ℕ) → Rounds s c r → rows.Rounds s c r × ((u : ℕ) → among u (s .units) ≡ true → Comes r u)

@@ -1,29 +1,20 @@
 -- Rounds at any site: each unit begins at 0, and at 300,000 writes and merges all pages, in the order of the units.
 -- Assumes nothing.
-use mathlib.Core.Path.{_≡_, refl, sym, ap, subst}
-use mathlib.Core.Bool.{Bool, true, false, cond, false≢true}
-use mathlib.Core.List.{List, [], _∷_, _++_, map}
-use mathlib.Core.Logic.{inl, inr}
-use Prim.Native.Nat.{ℕ, zero, suc, _*_, _≤_}
-use native.Mathlib.Decide.{ℕ-discrete}
-use native.Mathlib.Omega.{arith}
-use borrow.Author.Tests.{eqb-true, ltb-true}
-use lib.Dec.{eqb, ltb}
-use lib.ListN.{length}
+use Rattle.octets.proofs.Words.{_≡_, refl, sym, ap, subst, Bool, true, false, cond, false≢true, List, [], _∷_, _++_, map, inl, inr, ℕ, zero, suc, _*_, _≤_, ℕ-discrete, arith, eqb-true, ltb-true, eqb, ltb, length}
 use Rattle.octets.specs.Lists.{Some, Each, some}
 use Rattle.octets.proofs.EachLaws.{each-append, each-also, some-behind, some-first}
-use Rattle.octets.proofs.TestLaws.{or-elim}
+use Rattle.octets.proofs.TestLaws.{or-elim, of-cond}
 use Rattle.moments.specs.Moments.{ageAt, inOrder}
 use Rattle.moments.proofs.MomentLaws.{in-order-self, young-in-order, age-between}
 use Rattle.route_table.specs.declared.row.Row.{Row}
 use Rattle.route_table.specs.declared.table.Table.{Table}
-use Rattle.route_table.specs.Tables.{rowsOf}
+use Rattle.route_table.specs.Tables.{rowsOf, freshOf}
 use Rattle.route_pages.specs.Pages.{pageThere}
-use Rattle.route_history.specs.TableCalls.{Past, after, fresh}
+use Rattle.route_history.specs.TableCalls.{afterCalls}
 use Rattle.site_converges.specs.Sites.{Site, Sited, among}
 use Rattle.site_converges.specs.Courses.{Heard, Course, InTime, Fair}
 use Rattle.site_converges.specs.RowRounds.{rowsAfter, untilAfter, toHear, Hears}
-use Rattle.site_converges.specs.Rounds.{taking, pastAfter, tableAfter, ordered, Sent, Round, Rounds, Clocks}
+use Rattle.site_converges.specs.Rounds.{taking, tableAfter, ordered, Sent, Round, Rounds, Clocks}
 use Rattle.site_converges.specs.Laws.{RoundsAreThere}
 use Rattle.site_converges.proofs.StepLaws.{Right, few-rows}
 use Rattle.site_converges.proofs.RoundLaws.{rounds-right}
@@ -41,18 +32,17 @@ unfoldable hearing : Site → (ℕ → Table) → ℕ → List ℕ → List Hear
 hearing s before u [] = []
 hearing s before u (o ∷ os) = cond (s .linked u o) (pages before o ++ hearing s before u os) (hearing s before u os)
 
-unfoldable pasts : Site → ℕ → ℕ → Past
-pasts s zero u = fresh u 0
-pasts s (suc r) u = after (pasts s r u) (map (taking (λ o. pasts s r o .table)) (hearing s (λ o. pasts s r o .table) u (s .units)))
+unfoldable tables : Site → ℕ → ℕ → Table
+tables s zero u = freshOf u 0 .table
+tables s (suc r) u = afterCalls (tables s r u) (map (taking (tables s r)) (hearing s (tables s r) u (s .units)))
 
 abbrev course : Site → Course
-course s = record { began = λ u. 0; heard = λ k u. hearing s (λ o. pasts s k o .table) u (s .units) }
+course s = record { began = λ u. 0; heard = λ k u. hearing s (tables s k) u (s .units) }
 
-pasts-are : (s : Site) (r : ℕ) → pasts s r ≡ pastAfter (course s) r
-unfolding pasts pastAfter
-pasts-are s zero = refl
-pasts-are s (suc r) =
-    ap (λ (b : ℕ → Past). λ (u : ℕ). after (b u) (map (taking (λ o. b o .table)) (hearing s (λ o. pasts s r o .table) u (s .units)))) (pasts-are s r)
+tables-are : (s : Site) (r : ℕ) → tables s r ≡ tableAfter (course s) r
+unfolding tables tableAfter
+tables-are s zero = refl
+tables-are s (suc r) = ap (λ (b : ℕ → Table). λ (u : ℕ). afterCalls (b u) (map (taking b) (hearing s (tables s r) u (s .units)))) (tables-are s r)
 
 -- 300,000 is in time for each unit
 all-the-time : ageAt 300000 0 ≡ 300000
@@ -81,20 +71,14 @@ module _ (s : Site) (u : ℕ) (before : ℕ → Table) (timely : (o : ℕ) → s
   )
 
   pages-fine : (o : ℕ) → s .linked u o ≡ true → Each Fine (pages before o)
-  pages-fine o l = (fine o 0 l refl, go (pageThere (rowsOf (before o)) 1) refl)
-    where
-      go : (b : Bool) → pageThere (rowsOf (before o)) 1 ≡ b → Each Fine (cond b (call o 1 ∷ []) [])
-      go true q = (fine o 1 l q, tt)
-      go false q = tt
+  pages-fine o l = (fine o 0 l refl, of-cond (Each Fine) (pageThere (rowsOf (before o)) 1) (call o 1 ∷ []) [] (λ q. (fine o 1 l q, tt)) (λ q. tt))
 
   hearing-fine : (os : List ℕ) → Each Fine (hearing s before u os)
   unfolding hearing
   hearing-fine [] = tt
-  hearing-fine (o ∷ os) = go (s .linked u o) refl (hearing-fine os)
-    where
-      go : (b : Bool) → s .linked u o ≡ b → Each Fine (hearing s before u os) → Each Fine (cond b (pages before o ++ hearing s before u os) (hearing s before u os))
-      go true q later = each-append Fine (pages before o) (hearing s before u os) (pages-fine o q) later
-      go false q later = later
+  hearing-fine (o ∷ os) =
+      let later = hearing-fine os in
+      of-cond (Each Fine) (s .linked u o) _ _ (λ q. each-append Fine (pages before o) (hearing s before u os) (pages-fine o q) later) (λ q. later)
 
   in-order : (n : ℕ) → inOrder n 300000 ≡ true → (hs : List Heard) → Each Fine hs → ordered n hs ≡ true
   in-order n e [] f = refl
@@ -166,7 +150,7 @@ module _ (s : Site) (z : Sited s) where
             let few = two-pages s c z o unit (untilAfter c r o) r (rowsAfter c r o) (right o unit) p (subst (λ (rs : List Row). toHear rs p ≡ true) (comes o unit .held .holds) t) in
             hearing-all s u before timely o p l few t (s .units) unit;
       } in
-      subst (λ (b : ℕ → Past). Round s c u before (hearing s (λ o. b o .table) u (s .units))) (sym (pasts-are s r)) here
+      subst (λ (b : ℕ → Table). Round s c u before (hearing s b u (s .units))) (sym (tables-are s r)) here
 
   all-rounds : (r : ℕ) → Rounds s (course s) r
   all-rounds zero k h u m = absurd (omega arith)

@@ -3,16 +3,17 @@
 use Prim.Native.Nat.{ℕ, zero, suc}
 use mathlib.Core.Path.{_≡_}
 use mathlib.Core.Bool.{true}
-use mathlib.Core.List.{List, map}
+use mathlib.Core.List.{List, [], _++_, map}
 use lib.ListN.{length, take}
-use Rattle.frame_kinds.specs.Rules.{address}
-use Rattle.route_history.specs.TableCalls.{merge}
-use Rattle.c_routes.specs.TableCalls.{lookupCall}
+use Rattle.octets.specs.Addresses.{address}
+use Rattle.route_bytes.specs.TableBytes.{tableBytes}
+use Rattle.route_history.specs.TableCalls.{merge, Happened}
+use Rattle.c_routes.specs.TableCalls.{freshCall, lookupCall}
 use Rattle.c_routes.specs.UpdateCalls.{pageCall}
-use Rattle.c_history.specs.HeldTables.{InC, Held, heldAfter, freshIn, inBytes}
+use Rattle.c_history.specs.HeldTables.{InC, afterCallsInC, recordedInC}
 use Rattle.site_converges.specs.Sites.{Site, among}
 use Rattle.site_converges.specs.Courses.{Heard, Course, Leads}
-use Rattle.site_converges.specs.Rounds.{pageBuffer, pastAfter, Played, Asked}
+use Rattle.site_converges.specs.Rounds.{pageBuffer, tableAfter, recordAfter, Played, Asked}
 use Rattle.site_converges.specs.Laws.{Told, Ready, Arrives}
 
 -- the bytes that the call for a page writes into a buffer with room for every page
@@ -26,24 +27,27 @@ abbrev pub takingInC : (ℕ → List ℕ) → Heard → InC
 takingInC buffers h =
     record { call = merge (sentBy (buffers (h .from)) (h .page) (h .written)) (h .quality) (h .time); filled = λ number. 0 }
 
--- what each unit holds after so many rounds: a fresh table is made in a buffer of anything, given for each unit
-unfoldable pub holdsAfter : (ℕ → List ℕ) → Course → ℕ → ℕ → Held
-holdsAfter anything c zero u = freshIn (anything u) u (c .began u)
-holdsAfter anything c (suc r) u = heldAfter (holdsAfter anything c r u) (map (takingInC (λ o. holdsAfter anything c r o .buffer)) (c .heard r u))
+-- what each unit's buffer holds after so many rounds: a fresh table is made in a buffer of anything, given for each unit
+unfoldable pub bufferAfter : (ℕ → List ℕ) → Course → ℕ → ℕ → List ℕ
+bufferAfter anything c zero u = freshCall (anything u) u (c .began u) .table
+bufferAfter anything c (suc r) u = afterCallsInC (bufferAfter anything c r u) (map (takingInC (bufferAfter anything c r)) (c .heard r u))
 
-abbrev pub bufferAfter : (ℕ → List ℕ) → Course → ℕ → ℕ → List ℕ
-bufferAfter anything c r u = holdsAfter anything c r u .buffer
+-- the record of its calls and their statuses
+unfoldable pub statusesAfter : (ℕ → List ℕ) → Course → ℕ → ℕ → List Happened
+statusesAfter anything c zero u = []
+statusesAfter anything c (suc r) u =
+    statusesAfter anything c r u ++ recordedInC (bufferAfter anything c r u) (map (takingInC (bufferAfter anything c r)) (c .heard r u))
 
 -- buffers of 539 bytes
 abbrev pub Buffers : (ℕ → List ℕ) → Type 0
 Buffers anything = (u : ℕ) → length (anything u) ≡ 539
 
 -- ---- what comes of it
--- each buffer holds the bytes of the table, and clock and log are those, that the same calls give on values
+-- each buffer holds the bytes of the table, and the record is that, which the same calls give on values
 abbrev pub HoldsTables : Type 0
 HoldsTables =
     (s : Site) (c : Course) (r : ℕ) → Played s c r → (anything : ℕ → List ℕ) → Buffers anything
-    → (u : ℕ) → among u (s .units) ≡ true → holdsAfter anything c r u ≡ inBytes (pastAfter c r u)
+    → (u : ℕ) → among u (s .units) ≡ true → (bufferAfter anything c r u ≡ tableBytes (tableAfter c r u)) × (statusesAfter anything c r u ≡ recordAfter c r u)
 
 -- after r rounds `braidlark_lookup` leads to exactly the other units within r links, and is 11 for every other address
 abbrev pub ConvergesInC : Type 0

@@ -5,17 +5,16 @@ use Prim.Native.Nat.{ℕ, zero, suc, _≤_, _<_}
 use mathlib.Core.Path.{_≡_}
 use mathlib.Core.Bool.{true, false}
 use mathlib.Core.List.{List, [], _∷_}
-use lib.ListN.{getD}
-use Rattle.moments.specs.Elapsed.{nowAt}
-use Rattle.frame_kinds.specs.Rules.{address}
+use Rattle.moments.specs.Elapsed.{started, nowAt}
+use Rattle.octets.specs.Addresses.{address}
 use Rattle.route_table.specs.declared.table.Table.{Table}
 use Rattle.route_table.specs.Tables.{rowsOf, lookupOf}
 use Rattle.route_merges.specs.Merges.{mergeOf}
 use Rattle.route_pages.specs.Pages.{pageOf}
-use Rattle.route_history.specs.TableCalls.{next}
+use Rattle.route_history.specs.TableCalls.{next, clockOf}
 use Rattle.site_converges.specs.Sites.{Site, Sited, Fewest, Across, among}
 use Rattle.site_converges.specs.Courses.{Heard, Course, span, sinceBegan, Leads, toKnow, Names}
-use Rattle.site_converges.specs.Rounds.{pageBuffer, bytesOf, taking, pastAfter, tableAfter, Played, Asked}
+use Rattle.site_converges.specs.Rounds.{pageBuffer, bytesOf, taking, tableAfter, recordAfter, Played, Asked}
 
 -- ---- the theorem
 -- after r rounds each table names exactly the other units within r links, each with the fewest hops
@@ -26,8 +25,8 @@ Converges = (s : Site) (c : Course) (r : ℕ) → Played s c r → (u : ℕ) →
 abbrev pub ElapsesInTime : Type 0
 ElapsesInTime =
     (s : Site) (c : Course) (r : ℕ) → Played s c r → (u : ℕ) → among u (s .units) ≡ true
-    → let p = pastAfter c r u in
-    (p .clock .elapsed ≤ span) × ((time : ℕ) → Asked c r u time → nowAt (p .clock) time ≡ sinceBegan c u time)
+    → let clock = clockOf (started (c .began u)) (recordAfter c r u) in
+    (clock .elapsed ≤ span) × ((time : ℕ) → Asked c r u time → nowAt clock time ≡ sinceBegan c u time)
 
 -- what a lookup is to say: for exactly the units that are to be known a next hop and hops that lead there, and 11 for every other address
 pub record Told (s : Site) (r u d status hop hops : ℕ) : Type 0 where
@@ -38,7 +37,7 @@ pub record Told (s : Site) (r u d status hop hops : ℕ) : Type 0 where
 abbrev pub LookupsConverge : Type 0
 LookupsConverge =
     (s : Site) (c : Course) (r : ℕ) → Played s c r → (u d time : ℕ) → among u (s .units) ≡ true → address d ≡ true → Asked c r u time
-    → let said = lookupOf (tableAfter c r u) d time in Told s r u d (said .refusal) (getD (said .values) 0 0) (getD (said .values) 1 0)
+    → let found = lookupOf (tableAfter c r u) d time in Told s r u d (found .refused) (found .«next_hop») (found .hops)
 
 -- ---- what installers read
 -- so many rounds are as many as the diameter of the site, or more: no two units are further apart
@@ -50,7 +49,7 @@ abbrev pub AllKnown : Type 0
 AllKnown =
     (s : Site) (c : Course) (r : ℕ) → Played s c r → Ready s r
     → (u d time : ℕ) → among u (s .units) ≡ true → among d (s .units) ≡ true → (d ≡ u → ⊥) → Asked c r u time
-    → let said = lookupOf (tableAfter c r u) d time in (said .refusal ≡ 0) × Leads s u d (getD (said .values) 0 0) (getD (said .values) 1 0)
+    → let found = lookupOf (tableAfter c r u) d time in (found .refused ≡ 0) × Leads s u d (found .«next_hop») (found .hops)
 
 -- so many steps from a unit, each to the next hop that the unit reached names
 abbrev pub steps : (ℕ → ℕ) → ℕ → ℕ → ℕ
@@ -68,7 +67,7 @@ pub record Arrives (s : Site) (hop : ℕ → ℕ) (u d : ℕ) : Type 0 where
 abbrev pub AllArrive : Type 0
 AllArrive =
     (s : Site) (c : Course) (r : ℕ) → Played s c r → Ready s r → (at : ℕ → ℕ) → ((v : ℕ) → among v (s .units) ≡ true → Asked c r v (at v))
-    → (u d : ℕ) → among u (s .units) ≡ true → among d (s .units) ≡ true → Arrives s (λ v. getD (lookupOf (tableAfter c r v) d (at v) .values) 0 0) u d
+    → (u d : ℕ) → among u (s .units) ≡ true → among d (s .units) ≡ true → Arrives s (λ v. lookupOf (tableAfter c r v) d (at v) .«next_hop») u d
 
 -- ---- on the way
 -- every page is written, every page is merged, and for none is there too little room

@@ -5,8 +5,8 @@ use mathlib.Core.Path.{_≡_}
 use mathlib.Core.Bool.{_&&_, _||_, cond}
 use mathlib.Core.List.{List, [], _∷_}
 use lib.Dec.{eqb}
-use Rattle.octets.specs.Answers.{accepted, refused}
-use Rattle.route_table.specs.Tables.{lookupOf}
+use Rattle.route_table.specs.Rows.{none}
+use Rattle.route_table.specs.Tables.{foundOr, lookupOf}
 use Rattle.site_converges.specs.Sites.{Site, Sited}
 use Rattle.site_converges.specs.Courses.{Heard, Course}
 use Rattle.site_converges.specs.Rounds.{tableAfter}
@@ -33,8 +33,8 @@ lineCourse = record { began = λ u. 2 ^ 32 - 1500; heard = λ k u. lineHears ((2
 abbrev pub LineTells : Type 0
 LineTells =
     Sited line
-    × (lookupOf (tableAfter lineCourse 1 1) 2 5000 ≡ accepted (2 ∷ 1 ∷ []))
-    × (lookupOf (tableAfter lineCourse 1 1) 3 5000 ≡ refused 11)
-    × (lookupOf (tableAfter lineCourse 2 1) 3 5000 ≡ accepted (2 ∷ 2 ∷ []))
-    × (lookupOf (tableAfter lineCourse 2 3) 1 5000 ≡ accepted (2 ∷ 2 ∷ []))
-    × (lookupOf (tableAfter lineCourse 2 2) 2 5000 ≡ refused 11)
+    × (lookupOf (tableAfter lineCourse 1 1) 2 5000 ≡ record { refused = 0; «next_hop» = 2; hops = 1 })
+    × (lookupOf (tableAfter lineCourse 1 1) 3 5000 ≡ foundOr 11 none)
+    × (lookupOf (tableAfter lineCourse 2 1) 3 5000 ≡ record { refused = 0; «next_hop» = 2; hops = 2 })
+    × (lookupOf (tableAfter lineCourse 2 3) 1 5000 ≡ record { refused = 0; «next_hop» = 2; hops = 2 })
+    × (lookupOf (tableAfter lineCourse 2 2) 2 5000 ≡ foundOr 11 none)

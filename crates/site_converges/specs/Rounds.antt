@@ -3,14 +3,15 @@
 use Prim.Native.Nat.{ℕ, zero, suc, _^_, _≤_, _<_}
 use mathlib.Core.Path.{_≡_}
 use mathlib.Core.Bool.{Bool, true, _&&_}
-use mathlib.Core.List.{List, [], _∷_, map}
-use lib.ListN.{getD, take, replicate}
+use mathlib.Core.List.{List, [], _∷_, map, _++_}
+use lib.ListN.{take, replicate}
 use Rattle.octets.specs.Lists.{Each}
+use Rattle.octets.specs.Told.{writtenIn}
 use Rattle.moments.specs.Moments.{inOrder}
 use Rattle.route_table.specs.declared.table.Table.{Table}
-use Rattle.route_table.specs.Tables.{rowsOf}
+use Rattle.route_table.specs.Tables.{rowsOf, freshOf}
 use Rattle.route_pages.specs.Pages.{pageOf}
-use Rattle.route_history.specs.TableCalls.{Call, merge, Past, after, fresh}
+use Rattle.route_history.specs.TableCalls.{Call, merge, afterCalls, Happened, recorded}
 use Rattle.site_converges.specs.Sites.{Site, Sited, among}
 use Rattle.site_converges.specs.Courses.{Heard, Course, InTime, Fair}
 use Rattle.site_converges.specs.RowRounds.{toHear, Hears}
@@ -27,20 +28,22 @@ pageBuffer = replicate pageRoom 0
 abbrev pub bytesOf : Table → ℕ → ℕ → List ℕ
 bytesOf t p time =
     let w = pageOf t p time pageBuffer in
-    take (getD (w .said .values) 0 0) (w .held)
+    take (writtenIn w) (w .held)
 
 -- the call by which a unit takes in a page that was written from another's table
 abbrev pub taking : (ℕ → Table) → Heard → Call
 taking tables h = merge (bytesOf (tables (h .from)) (h .page) (h .written)) (h .quality) (h .time)
 
--- each unit's history: a fresh table, and in each round a merge of each page that it hears, written from the tables as they stood before the round
-unfoldable pub pastAfter : Course → ℕ → ℕ → Past
-pastAfter c zero u = fresh u (c .began u)
-pastAfter c (suc r) u = after (pastAfter c r u) (map (taking (λ o. pastAfter c r o .table)) (c .heard r u))
+-- each unit's table after so many rounds: a fresh one, and in each round a merge of each page that it hears, written from the tables as they stood before
+-- the round
+unfoldable pub tableAfter : Course → ℕ → ℕ → Table
+tableAfter c zero u = freshOf u (c .began u) .table
+tableAfter c (suc r) u = afterCalls (tableAfter c r u) (map (taking (tableAfter c r)) (c .heard r u))
 
--- its table after so many rounds
-abbrev pub tableAfter : Course → ℕ → ℕ → Table
-tableAfter c r u = pastAfter c r u .table
+-- the record of its calls
+unfoldable pub recordAfter : Course → ℕ → ℕ → List Happened
+recordAfter c zero u = []
+recordAfter c (suc r) u = recordAfter c r u ++ recorded (tableAfter c r u) (map (taking (tableAfter c r)) (c .heard r u))
 
 -- ---- what is asked of it
 -- no page is merged before the last accepted time, nor before the one that is merged before it

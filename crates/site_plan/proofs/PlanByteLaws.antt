@@ -1,9 +1,6 @@
 -- The bytes of a plan: how many they are, that numbers which were read fit, and there and back.
 -- Assumes nothing.
-use mathlib.Core.Path.{_≡_, refl, ap}
-use mathlib.Core.List.{List, [], _++_, append-nil}
-use Prim.Native.Nat.{ℕ}
-use lib.ListN.{length}
+use Rattle.octets.proofs.Words.{_≡_, refl, ap, List, [], _++_, append-nil, ℕ, length}
 use Rattle.octets.specs.Layouts.{Fit, Bytes}
 use Rattle.octets.proofs.LayoutLaws.{length-bytes, fields-fit, fields-bytes}
 use Rattle.site_plan.specs.declared.plan.Plan.{Plan}

@@ -1,20 +1,13 @@
 -- The numbers of a plan, and what its rule makes of them.
 -- Assumes nothing.
-use mathlib.Core.Path.{_≡_, refl, sym, ap, _∙_}
-use mathlib.Core.Bool.{Bool, true, false, _&&_, and-eq-true-iff, false≢true}
-use mathlib.Core.List.{List}
-use Prim.Native.Nat.{ℕ, _+_, _*_, _≤_, _<_, _^_}
-use native.Mathlib.Omega.{arith}
-use native.Mathlib.Nat.{mul-le-mul, mul-le-mul-right}
+use Rattle.octets.proofs.Words.{_≡_, refl, sym, ap, _∙_, Bool, true, false, _&&_, and-eq-true-iff, false≢true, List, [], _∷_, ℕ, zero, suc, _+_, _*_, _≤_, _<_, _^_, mul-le-mul, mul-le-mul-right, arith, leb-true, le-leb, ltb-true, ltb-false, leb, ltb, getD}
 use mir.Val.{boolByte}
-use borrow.Author.Tests.{leb-true, le-leb, ltb-true, ltb-false}
-use lib.Dec.{leb, ltb}
-use lib.ListN.{getD}
 use Rattle.octets.specs.Lists.{tab}
 use Rattle.octets.proofs.ListLaws.{getD-tab}
-use Rattle.frame_kinds.specs.Rules.{address, network}
+use Rattle.octets.specs.Lists.{all, allFrom}
+use Rattle.octets.specs.Addresses.{address, network}
 use Rattle.site_plan.specs.declared.plan.Plan.{Plan}
-use Rattle.site_plan.specs.Plans.{planRule, discoverySlots, active, slotsIn, superframeMs}
+use Rattle.site_plan.specs.Plans.{slots, planRule, discoverySlots, active, slotsIn, superframeMs, planRules}
 use Rattle.site_plan.specs.Laws.{LengthsByTable, RuleBounds}
 
 -- ---- the length of a superframe and its time
@@ -27,17 +20,20 @@ unfolding slotsIn
 past-table active h = omega (arith, h)
 
 -- no superframe is longer than 100 slots
-few-slots : (active : ℕ) → slotsIn active ≤ 100
+few-length : (active : ℕ) → slotsIn active ≤ 100
 unfolding slotsIn
-few-slots active = omega arith
+few-length active = omega arith
+
+pub few-slots : (p : Plan) → slots p ≤ 100
+few-slots p = few-length (active p)
 
 pub length-fits : (lengths : List ℕ) → lengths ≡ tab 51 slotsIn → (active : ℕ) → active ≤ 50 → getD lengths active 0 < 2 ^ 32
-length-fits lengths e active h = omega (arith, lengths-by-table lengths e active h, few-slots active)
+length-fits lengths e active h = omega (arith, lengths-by-table lengths e active h, few-length active)
 
 -- so its time fits into 32 bits
 pub superframe-fits : (active slots ms : ℕ) → slots ≡ slotsIn active → ms < 2 ^ 16 → slots * ms < 2 ^ 32
 superframe-fits active slots ms e h =
-    let few : slots ≤ 100 = omega (arith, e, few-slots active) in
+    let few : slots ≤ 100 = omega (arith, e, few-length active) in
     let short : ms ≤ 65535 = omega (arith, h) in
     omega (arith, mul-le-mul few short)
 
@@ -72,30 +68,31 @@ pub record Kept (p : Plan) : Type 0 where
   pub few : active p ≤ 50
   pub short : superframeMs p ≤ 65535
 
+-- each test of a list that holds, by its place
+all-hold : (so : Bool) (tests : List Bool) → allFrom so tests ≡ true → (so ≡ true) × ((i : ℕ) → getD tests i true ≡ true)
+all-hold so [] e = (e, λ i. refl)
+all-hold so (test ∷ tests) e =
+    let (both, behind) = all-hold (so && test) tests e in
+    let (before, here) = and-eq-true-iff so test .0 both in
+    (before, at here behind)
+  where
+    at : test ≡ true → ((i : ℕ) → getD tests i true ≡ true) → (i : ℕ) → getD (test ∷ tests) i true ≡ true
+    at here behind zero = here
+    at here behind (suc i) = behind i
+
 pub kept : (p : Plan) → planRule p ≡ true → Kept p
 kept p e =
-    let hops = leb 1 (p .«max_hops») && leb (p .«max_hops») 10 in
-    let rows = leb 2 (p .rows) in
-    let data-slots = leb (p .rows) (p .«data_slots») in
-    let few = leb (active p) 50 in
-    let first-two = network (p .network) && address (p .manager) in
-    let (e₇, short-true) = and-eq-true-iff (first-two && hops && rows && data-slots && few && leb 1 (p .«slot_ms»)) (leb (superframeMs p) 65535) .0 e in
-    let (e₆, _) = and-eq-true-iff (first-two && hops && rows && data-slots && few) (leb 1 (p .«slot_ms»)) .0 e₇ in
-    let (e₅, few-true) = and-eq-true-iff (first-two && hops && rows && data-slots) few .0 e₆ in
-    let (e₄, data-true) = and-eq-true-iff (first-two && hops && rows) data-slots .0 e₅ in
-    let (e₃, rows-true) = and-eq-true-iff (first-two && hops) rows .0 e₄ in
-    let (e₂, hops-true) = and-eq-true-iff first-two hops .0 e₃ in
-    let (named, manager) = and-eq-true-iff (network (p .network)) (address (p .manager)) .0 e₂ in
-    let (least, most) = and-eq-true-iff (leb 1 (p .«max_hops»)) (leb (p .«max_hops») 10) .0 hops-true in
+    let holds = all-hold true (planRules p) e .1 in
+    let (least, most) = and-eq-true-iff (leb 1 (p .«max_hops»)) (leb (p .«max_hops») 10) .0 (holds 2) in
     record {
-      named = named;
-      manager = manager;
+      named = holds 0;
+      manager = holds 1;
       hops = leb-true _ _ least;
       few-hops = leb-true _ _ most;
-      rows = leb-true _ _ rows-true;
-      data-slots = leb-true _ _ data-true;
-      few = leb-true _ _ few-true;
-      short = leb-true _ _ short-true;
+      rows = leb-true _ _ (holds 3);
+      data-slots = leb-true _ _ (holds 4);
+      few = leb-true _ _ (holds 5);
+      short = leb-true _ _ (holds 7);
     }
 
 -- up to 50 active slots there is room for all of them
@@ -109,7 +106,7 @@ rule-bounds p e =
     record {
       few-rows = omega (arith, k .hops, k .rows, k .data-slots, k .few);
       few-data-slots = omega (arith, k .hops, k .rows, k .data-slots, k .few);
-      few-slots = few-slots (active p);
+      few-slots = few-slots p;
       inside = room (active p) (k .few);
     }
 
@@ -124,8 +121,11 @@ slot-within : (p : Plan) → superframeMs p ≤ 65535 → p .«slot_ms» ≤ 655
 slot-within p short = omega (arith, short, mul-le-mul-right (p .«slot_ms») (a-slot (active p) (omega arith)))
 
 -- what `fit` tests
+abbrev fits : Plan → List Bool
+fits p = leb (p .«max_hops») 255 ∷ leb (p .rows) 255 ∷ leb (p .«data_slots») 255 ∷ leb (p .«slot_ms») 65535 ∷ []
+
 abbrev fitting : Plan → Bool
-fitting p = leb (p .«max_hops») 255 && leb (p .rows) 255 && leb (p .«data_slots») 255 && leb (p .«slot_ms») 65535
+fitting p = all (fits p)
 
 pub record Fitting (p : Plan) : Type 0 where
   pub hops : p .«max_hops» ≤ 255
@@ -135,13 +135,8 @@ pub record Fitting (p : Plan) : Type 0 where
 
 pub fitted : (p : Plan) → fitting p ≡ true → Fitting p
 fitted p e =
-    let hops = leb (p .«max_hops») 255 in
-    let rows = leb (p .rows) 255 in
-    let data-slots = leb (p .«data_slots») 255 in
-    let (e₃, ms-true) = and-eq-true-iff (hops && rows && data-slots) (leb (p .«slot_ms») 65535) .0 e in
-    let (e₂, data-true) = and-eq-true-iff (hops && rows) data-slots .0 e₃ in
-    let (hops-true, rows-true) = and-eq-true-iff hops rows .0 e₂ in
-    record { hops = leb-true _ _ hops-true; rows = leb-true _ _ rows-true; data-slots = leb-true _ _ data-true; slot-ms = leb-true _ _ ms-true }
+    let holds = all-hold true (fits p) e .1 in
+    record { hops = leb-true _ _ (holds 0); rows = leb-true _ _ (holds 1); data-slots = leb-true _ _ (holds 2); slot-ms = leb-true _ _ (holds 3) }
 
 -- numbers within rule fit
 fits-in-rule : (p : Plan) → planRule p ≡ true → fitting p ≡ true

@@ -1,12 +1,6 @@
 -- The regions of a plan: each slot is in one, and its kind is that region's.
 -- Assumes nothing.
-use mathlib.Core.Path.{_≡_, refl}
-use mathlib.Core.Bool.{Bool, true, false, _&&_, and-eq-true-iff}
-use mathlib.Core.List.{[], _∷_}
-use Prim.Native.Nat.{ℕ, _+_, _-_, _≤_, _<_}
-use native.Mathlib.Omega.{arith}
-use borrow.Author.Tests.{eq-eqb, ltb-true, ltb-false, leb-true, lt-ltb, le-ltb, le-leb, lt-leb}
-use lib.Dec.{eqb, leb, ltb}
+use Rattle.octets.proofs.Words.{_≡_, refl, Bool, true, false, _&&_, and-eq-true-iff, [], _∷_, ℕ, _+_, _-_, _≤_, _<_, arith, eq-eqb, ltb-true, ltb-false, leb-true, lt-ltb, le-ltb, le-leb, lt-leb, eqb, leb, ltb}
 use Rattle.octets.proofs.TestLaws.{of-choice}
 use Rattle.slot_sets.specs.Sets.{has}
 use Rattle.site_plan.specs.Plans.{slots, controlAt, dataAt, discoveryAt, sleepAt}

@@ -1,14 +1,9 @@
 -- Who sends in a slot: the statements of specs/Laws on it, proved.
 -- Assumes nothing.
-use mathlib.Core.Path.{_≡_, refl, sym, _∙_}
-use mathlib.Core.Bool.{Bool, true, false, _&&_, cond, false≢true}
-use Prim.Native.Nat.{_+_, _-_}
-use native.Mathlib.Omega.{arith}
-use borrow.Author.Tests.{eqb-true}
-use lib.Dec.{eqb, ltb}
+use Rattle.octets.proofs.Words.{_≡_, refl, sym, _∙_, Bool, true, false, _&&_, cond, false≢true, _+_, _-_, arith, eqb-true, eqb, ltb}
 use Rattle.octets.proofs.TestLaws.{or-elim}
 use Rattle.slot_sets.specs.Sets.{has}
-use Rattle.slot_sets.proofs.SetLaws.{disjoint-is-apart}
+use Rattle.slot_sets.proofs.SetLaws.{disjoint-is-apart, never-both}
 use Rattle.site_plan.specs.Plans.{dataAt}
 use Rattle.site_plan.specs.Schedules.{tx, rx, beaconTx, beaconRx, controlTx, controlRx, sleep, sends, inControls, inData, controlSlot}
 use Rattle.site_plan.specs.Laws.{UnitsSendInOwn, OneSender, OneHop, OneSenderOfUnits, OneHopOfUnits}
@@ -44,15 +39,9 @@ units-send-in-own p row hop own =
     }
 
 -- ---- two units
--- two tests that do not hold together
-not-both : (a b : Bool) → (a ≡ true → b ≡ true → ⊥) → (a && b) ≡ false
-not-both true true h = absurd (h refl refl)
-not-both true false h = refl
-not-both false b h = refl
-
 pub one-sender : OneSender
 one-sender p row row′ hop hop′ own own′ kinds kinds′ u v rows apart s e =
-    not-both (sends (kinds s)) (sends (kinds′ s))
+    never-both (sends (kinds s)) (sends (kinds′ s))
     (λ x y.
     or-elim ⊥ (inControls p s) (inData p s) e
     (λ i. rows (omega (arith, u .controls s i x, v .controls s i y)))

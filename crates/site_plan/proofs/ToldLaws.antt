@@ -1,9 +1,6 @@
 -- What the answer to making a plan says is said by no other answer.
 -- Assumes nothing.
-use mathlib.Core.Path.{_≡_, refl}
-use mathlib.Core.List.{List, [], _∷_}
-use Prim.Native.Nat.{ℕ}
-use lib.ListN.{getD}
+use Rattle.octets.proofs.Words.{_≡_, refl, List, [], _∷_, ℕ, getD}
 use Rattle.octets.specs.Answers.{OneToOne}
 use Rattle.octets.proofs.AnswerLaws.{one-by-return}
 use Rattle.site_plan.specs.declared.plan.Made.{Made}

@@ -10,7 +10,7 @@ use Rattle.octets.specs.Lists.{tab}
 use Rattle.slot_sets.specs.Sets.{Slots, has, disjoint}
 use Rattle.site_plan.specs.declared.plan.Plan.{Plan}
 use Rattle.site_plan.specs.Plans.{planRule, slotsIn, slots, dataAt, sleepAt}
-use Rattle.site_plan.specs.Schedules.{tx, controlTx, sleep, sends, listens, inBeacons, inControls, inData, inDiscovery, regions, howMany, controlSlot, dataSlot, beaconKind, controlKind, dataKind, discoveryKind, kindOf}
+use Rattle.site_plan.specs.Schedules.{tx, controlTx, sleep, sends, listens, inBeacons, inControls, inData, inDiscovery, regions, howMany, controlSlot, dataSlot, beaconSlotKind, controlSlotKind, dataSlotKind, discoverySlotKind, kindOf}
 
 -- ---- the length of a superframe
 -- a table that is the definition entry by entry, for 0 to 50 active slots, gives the length for each of them
@@ -35,10 +35,10 @@ OneRegion = (p : Plan) (s : ℕ) → planRule p ≡ true → s < slots p → how
 -- ---- schedules
 -- the kind of a slot is that of its region, whatever the plan, and from the sleep region on it is sleep
 pub record ByRegion (p : Plan) (row hop : ℕ) (own : Slots 64) (s : ℕ) : Type 0 where
-  pub beacons : inBeacons p s ≡ true → kindOf p row hop own s ≡ beaconKind hop s
-  pub controls : inControls p s ≡ true → kindOf p row hop own s ≡ controlKind p row s
-  pub data-slots : inData p s ≡ true → kindOf p row hop own s ≡ dataKind p own s
-  pub discovery : inDiscovery p s ≡ true → kindOf p row hop own s ≡ discoveryKind hop
+  pub beacons : inBeacons p s ≡ true → kindOf p row hop own s ≡ beaconSlotKind hop s
+  pub controls : inControls p s ≡ true → kindOf p row hop own s ≡ controlSlotKind p row s
+  pub data-slots : inData p s ≡ true → kindOf p row hop own s ≡ dataSlotKind p own s
+  pub discovery : inDiscovery p s ≡ true → kindOf p row hop own s ≡ discoverySlotKind hop
   pub behind : sleepAt p ≤ s → kindOf p row hop own s ≡ sleep
 
 abbrev pub KindsByRegion : Type 0

@@ -1,11 +1,12 @@
 -- The site plan: what is computed from its numbers, where each region of its slots begins, and which numbers are refused.
 -- Assumes nothing.
 use Prim.Native.Nat.{ℕ, _+_, _*_, _/_, min, max}
-use mathlib.Core.Bool.{Bool, not, _&&_}
+use mathlib.Core.Bool.{Bool, true, not, _&&_}
 use mathlib.Core.List.{List, [], _∷_}
 use lib.Dec.{leb}
 use Rattle.octets.specs.Answers.{Said, accepted, refused, reason, first, unless}
-use Rattle.frame_kinds.specs.Rules.{address, network}
+use Rattle.octets.specs.Lists.{all}
+use Rattle.octets.specs.Addresses.{address, network}
 use Rattle.site_plan.specs.declared.plan.Plan.{Plan}
 use Rattle.site_plan.specs.declared.plan.Made.{Made}
 
@@ -50,16 +51,27 @@ abbrev pub planNumbers : Plan → List ℕ
 planNumbers p = active p ∷ slots p ∷ superframeMs p ∷ controlAt p ∷ dataAt p ∷ discoveryAt p ∷ sleepAt p ∷ []
 
 -- ---- the rules
+abbrev pub planRules : Plan → List Bool
+planRules p =
+    -- a network, and an address
+    network (p .network) ∷
+    address (p .manager) ∷
+    -- h from 1 to 10
+    (leb 1 (p .«max_hops») && leb (p .«max_hops») 10) ∷
+    -- M of at least 2, the manager and one more
+    leb 2 (p .rows) ∷
+    -- a data slot for each row
+    leb (p .rows) (p .«data_slots») ∷
+    -- at most 50 active slots
+    leb (active p) 50 ∷
+    -- a slot takes time
+    leb 1 (p .«slot_ms») ∷
+    -- the superframe's length fits into two bytes
+    leb (superframeMs p) 65535 ∷
+    []
+
 abbrev pub planRule : Plan → Bool
-planRule p =
-    network (p .network)
-    && address (p .manager)
-    && (leb 1 (p .«max_hops») && leb (p .«max_hops») 10)
-    && leb 2 (p .rows)
-    && leb (p .rows) (p .«data_slots»)
-    && leb (active p) 50
-    && leb 1 (p .«slot_ms»)
-    && leb (superframeMs p) 65535
+planRule p = all (planRules p)
 
 -- ---- making one
 -- the six numbers in the paper's order

@@ -79,23 +79,23 @@ abbrev pub dataSlot : Plan → ℕ → ℕ
 dataSlot p i = dataAt p + i
 
 -- beacon slot k at hop g: TX if k = g, RX if k = g-1, RX for slot 0 when g > 0, else sleep
-abbrev pub beaconKind : ℕ → ℕ → ℕ
-beaconKind hop k = cond (eqb k hop) beaconTx (cond (eqb (k + 1) hop) beaconRx (cond (eqb k 0 && ltb 0 hop) beaconRx sleep))
+abbrev pub beaconSlotKind : ℕ → ℕ → ℕ
+beaconSlotKind hop k = cond (eqb k hop) beaconTx (cond (eqb (k + 1) hop) beaconRx (cond (eqb k 0 && ltb 0 hop) beaconRx sleep))
 
 -- own control and data slots are TX, the others RX
-abbrev pub controlKind : Plan → ℕ → ℕ → ℕ
-controlKind p row s = cond (eqb s (controlSlot p row)) controlTx controlRx
+abbrev pub controlSlotKind : Plan → ℕ → ℕ → ℕ
+controlSlotKind p row s = cond (eqb s (controlSlot p row)) controlTx controlRx
 
-abbrev pub dataKind : Plan → Slots 64 → ℕ → ℕ
-dataKind p own s = cond (has own (s - dataAt p)) tx rx
+abbrev pub dataSlotKind : Plan → Slots 64 → ℕ → ℕ
+dataSlotKind p own s = cond (has own (s - dataAt p)) tx rx
 
 -- discovery is TX for the manager, RX for others
-abbrev pub discoveryKind : ℕ → ℕ
-discoveryKind hop = cond (eqb hop 0) discoveryTx discoveryRx
+abbrev pub discoverySlotKind : ℕ → ℕ
+discoverySlotKind hop = cond (eqb hop 0) discoveryTx discoveryRx
 
 unfoldable pub kindOf : Plan → ℕ → ℕ → Slots 64 → ℕ → ℕ
 kindOf p row hop own s =
-    cond (inBeacons p s) (beaconKind hop s)
-    (cond (inControls p s) (controlKind p row s)
-    (cond (inData p s) (dataKind p own s)
-    (cond (inDiscovery p s) (discoveryKind hop) sleep)))
+    cond (inBeacons p s) (beaconSlotKind hop s)
+    (cond (inControls p s) (controlSlotKind p row s)
+    (cond (inData p s) (dataSlotKind p own s)
+    (cond (inDiscovery p s) (discoverySlotKind hop) sleep)))

@@ -3,6 +3,7 @@ ghost use mathlib.Core.Path.{_≡_};
 ghost use mathlib.Core.Bool.{_&&_};
 ghost use lib.Dec.{leb};
 ghost use Rattle.site_plan.specs.Plans.{planRule, planOf, toldPlan};
+use octets::addresses::is_address;
 use octets::answers::Refusal;
 
 pub struct Plan {
@@ -38,8 +39,9 @@ impl Plan {
     ) -> Made
         ensures { λ r. ⌜ toldPlan r ≡ planOf network manager «max_hops» rows «data_slots» «slot_ms» ⌝ }
     {
+        let number = Refusal::RULE;
         if !fit(max_hops, rows, data_slots, slot_ms) {
-            return Made::Refused(Refusal { number: 14 });
+            return Made::Refused(Refusal { number });
         }
         let plan = Plan {
             network,
@@ -52,7 +54,7 @@ impl Plan {
         if plan.within_rule() {
             return Made::Plan(plan);
         }
-        Made::Refused(Refusal { number: 14 })
+        Made::Refused(Refusal { number })
     }
 
     // Whether it is a plan that could have been made: a stored one may hold any numbers.
@@ -60,7 +62,7 @@ impl Plan {
         ensures { λ r. ⌜ r ≡ planRule self ⌝ }
     {
         (1 <= self.network)
-            & ((1 <= self.manager) & (self.manager <= 0xFFFE))
+            & is_address(self.manager)
             & ((1 <= self.max_hops) & (self.max_hops <= Plan::MOST_HOPS))
             & (Plan::FEWEST_ROWS <= self.rows)
             & (self.rows <= self.data_slots)

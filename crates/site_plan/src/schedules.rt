@@ -2,19 +2,14 @@
 ghost use mathlib.Core.Path.{_≡_};
 ghost use mathlib.Core.Bool.{cond};
 ghost use Rattle.slot_sets.specs.Sets.{slotsOf, has};
-ghost use Rattle.site_plan.specs.Schedules.{tx, rx, beaconKind, controlKind, discoveryKind, kindOf};
+ghost use Rattle.site_plan.specs.Schedules.{tx, rx, beaconSlotKind, controlSlotKind, discoverySlotKind, kindOf};
 use crate::plan::Plan;
+use octets::choices::either;
 use slot_sets::masks::holds;
-
-fn either(test: bool, yes: u8, no: u8) -> u8
-    ensures { λ r. ⌜ r ≡ cond test yes no ⌝ }
-{
-    if test { yes } else { no }
-}
 
 // Each unit sends at its hop and hears the hop before it; all but the manager hear the manager too.
 fn beacon_kind(hop: u8, slot: u8) -> u8
-    ensures { λ r. ⌜ r ≡ beaconKind hop slot ⌝ }
+    ensures { λ r. ⌜ r ≡ beaconSlotKind hop slot ⌝ }
 {
     let kind = either((slot == 0) & (0 < hop), Plan::BEACON_RX, Plan::SLEEP);
     let kind = either(slot as u16 + 1 == hop as u16, Plan::BEACON_RX, kind);
@@ -22,7 +17,7 @@ fn beacon_kind(hop: u8, slot: u8) -> u8
 }
 
 fn control_kind(plan: Plan, row: u8, slot: u8) -> u8
-    ensures { λ r. ⌜ r ≡ controlKind plan row slot ⌝ }
+    ensures { λ r. ⌜ r ≡ controlSlotKind plan row slot ⌝ }
 {
     let own = plan.control_at() + row as u16;
     either(slot as u16 == own, Plan::CONTROL_TX, Plan::CONTROL_RX)
@@ -36,7 +31,7 @@ fn data_kind(own: u64, place: u16) -> u8
 }
 
 fn discovery_kind(hop: u8) -> u8
-    ensures { λ r. ⌜ r ≡ discoveryKind hop ⌝ }
+    ensures { λ r. ⌜ r ≡ discoverySlotKind hop ⌝ }
 {
     either(hop == 0, Plan::DISCOVERY_TX, Plan::DISCOVERY_RX)
 }

@@ -87,15 +87,15 @@ not-both : (a b : Bool) → (a && b) ≡ false → a ≡ true → b ≡ true →
 not-both true b e p q = false≢true (sym e ∙ q)
 not-both false b e p q = false≢true p
 
-neither : (a b : Bool) → (a ≡ true → b ≡ true → ⊥) → (a && b) ≡ false
-neither true true h = absurd (h refl refl)
-neither true false h = refl
-neither false b h = refl
+pub never-both : (a b : Bool) → (a ≡ true → b ≡ true → ⊥) → (a && b) ≡ false
+never-both true true h = absurd (h refl refl)
+never-both true false h = refl
+never-both false b h = refl
 
 pub disjoint-is-apart : DisjointIsApart
 disjoint-is-apart n s t = (
   λ e i. not-both (has s i) (has t i) (sym (meet-has n s t i) ∙ empty-has (meet s t) e i),
-  λ h. has-empty (meet s t) (λ i. meet-has n s t i ∙ neither (has s i) (has t i) (h i)),
+  λ h. has-empty (meet s t) (λ i. meet-has n s t i ∙ never-both (has s i) (has t i) (h i)),
 )
 
 only-with : (a b : Bool) → (a && not b) ≡ false → a ≡ true → b ≡ true

@@ -1,2 +1,2 @@
-// Slots: sets of data slots, as the masks that a member's row keeps.
+// Sets of data slots, as the masks that a member's row keeps.
 pub mod masks;

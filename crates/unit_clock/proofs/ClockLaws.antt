@@ -1,13 +1,9 @@
 -- What holds of every step of the clock: the statements of specs/Laws, proved.
 -- Assumes nothing.
-use mathlib.Core.Path.{_≡_, refl, sym, ap, subst, _∙_}
-use mathlib.Core.Bool.{Bool, true, false, cond}
-use Prim.Native.Nat.{ℕ, zero, suc, _+_, _-_, _%_, _^_, _≤_, _<_}
-use native.Mathlib.Omega.{arith}
-use borrow.Author.Tests.{ltb-true, ltb-false, eq-eqb}
-use lib.Dec.{ltb, le→leb, leb→le}
+use Rattle.octets.proofs.Words.{_≡_, refl, sym, ap, subst, _∙_, ℕ, zero, suc, _+_, _-_, _%_, _^_, _≤_, _<_, arith, ltb-true, ltb-false, eq-eqb, ltb, le→leb, leb→le}
 use lib.IntN.{ℤ, pos, negsuc, natAbs, _-ℤ_, +ℤ-invr}
 use lib.Signed.{mag, ≤ℤ-refl}
+use Rattle.octets.proofs.TestLaws.{of-cond}
 use Rattle.moments.specs.Moments.{ageAt}
 use Rattle.moments.proofs.MomentLaws.{age-bound, leads}
 use Rattle.unit_clock.specs.Clock.{signed, wrapped, drift, correction, corrected, beaconStepOf}
@@ -22,11 +18,10 @@ stays-within-bits offset local original delay = wrapped-bound _
 -- ---- the drift of whole numbers of ms
 difference-mag : (a b : ℕ) → a < b + 2 ^ 31 → b ≤ a + 2 ^ 31 → mag (pos a -ℤ pos b) < 2 ^ 31
 difference-mag a zero h k = omega arith
-difference-mag a (suc b) h k = go (ltb a (suc b)) refl
-  where
-    go : (t : Bool) → ltb a (suc b) ≡ t → mag (cond t (negsuc (suc b - suc a)) (pos (a - suc b))) < 2 ^ 31
-    go true e = omega (arith, ltb-true a (suc b) e)
-    go false e = omega (arith, ltb-false a (suc b) e)
+difference-mag a (suc b) h k =
+    of-cond (λ d. mag d < 2 ^ 31) (ltb a (suc b)) (negsuc (suc b - suc a)) (pos (a - suc b))
+    (λ e. omega (arith, ltb-true a (suc b) e))
+    (λ e. omega (arith, ltb-false a (suc b) e))
 
 pub drift-is-exact : DriftIsExact
 unfolding drift

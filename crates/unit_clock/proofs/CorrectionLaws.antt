@@ -1,11 +1,6 @@
 -- The correction of a drift: on each side of its two limits, and what it leaves of the drift.
 -- Assumes nothing.
-use mathlib.Core.Path.{_≡_, refl, sym, ap, subst}
-use mathlib.Core.Bool.{Bool, true, false}
-use Prim.Native.Nat.{ℕ, zero, suc, _-_, _/_, _≤_, _<_}
-use native.Mathlib.Omega.{arith}
-use borrow.Author.Tests.{lt-ltb, le-ltb, ltb-true, ltb-false}
-use lib.Dec.{ltb}
+use Rattle.octets.proofs.Words.{_≡_, refl, sym, ap, subst, Bool, true, false, ℕ, zero, suc, _-_, _/_, _≤_, _<_, arith, lt-ltb, le-ltb, ltb-true, ltb-false, ltb}
 use lib.IntN.{ℤ, pos, negsuc, negℤ, natAbs, _-ℤ_, negℤ-negℤ, +ℤ-invr, +ℤ-idr}
 use Rattle.unit_clock.specs.Clock.{half, correction}
 

@@ -1,9 +1,6 @@
 -- A step from its parts, as the code finds them one by one.
 -- Assumes nothing.
-use mathlib.Core.Path.{_≡_, ap, _∙_}
-use mathlib.Core.List.{List}
-use Prim.Native.Nat.{ℕ, _+_, _%_, _^_, _<_}
-use native.Mathlib.Omega.{arith}
+use Rattle.octets.proofs.Words.{_≡_, ap, _∙_, List, ℕ, _+_, _%_, _^_, _<_, arith}
 use lib.IntN.{pos}
 use Rattle.octets.specs.Answers.{first}
 use Rattle.frame_kinds.specs.Shape.{valuesIn}

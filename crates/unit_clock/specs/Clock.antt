@@ -8,6 +8,7 @@ use lib.Dec.{eqb, ltb}
 use lib.IntN.{ℤ, pos, negsuc, natAbs, _-ℤ_}
 use lib.Signed.{quotZ}
 use Rattle.octets.specs.Answers.{Reason, reason, first}
+use Rattle.octets.specs.Calls.{after}
 use Rattle.moments.specs.Moments.{ageAt}
 use Rattle.frame_kinds.specs.Shape.{valuesIn}
 use Rattle.frame_kinds.specs.Reading.{refusalAs}
@@ -44,7 +45,7 @@ corrected local offset original delay = wrapped (pos offset -ℤ correction (dri
 
 -- the first refusal with the offset as it was, or the next offset
 abbrev pub stepped : ℕ → ℕ → ℕ → Stepped
-stepped number offset next = record { refused = number; offset = cond (eqb number 0) next offset }
+stepped number offset next = record { refused = number; offset = after number offset next }
 
 -- why a frame that is refused by this number, and has this network, gives no step to a caller of a network: 1, 2, 1, 3, 4 of the frame,
 -- 4 of the caller's network, 15

@@ -7,6 +7,11 @@ ghost use lib.IntN.{natAbs};
 ghost use Rattle.unit_clock.specs.Clock.{signed, wrapped, half, correction};
 use std::num::wrapping_sub_u32;
 
+// A drift over the large one is taken away whole, one over the small one by half.
+const LARGE_MS: u32 = 100;
+
+const SMALL_MS: u32 = 50;
+
 // A number, or 0 less it where the drift is below zero.
 fn signed_by(drift: u32, number: u32) -> u32
     ensures { λ r. ⌜ r ≡ cond (ltb drift (2 ^ 31)) number ((2 ^ 32 - number) % 2 ^ 32) ⌝ }
@@ -37,9 +42,9 @@ pub(crate) fn correction(drift: u32) -> u32
     ensures { λ r. ⌜ r ≡ wrapped (correction (signed drift)) ⌝ }
 {
     let size = size(drift);
-    if 100 < size {
+    if LARGE_MS < size {
         drift
-    } else if 50 < size {
+    } else if SMALL_MS < size {
         half(drift)
     } else {
         0

@@ -4,8 +4,8 @@ ghost use Rattle.octets.specs.Answers.{first};
 ghost use Rattle.unit_clock.specs.Clock.{corrected, stepped, heardReasons, beaconStepOf};
 use crate::drifts::correction;
 use frame_beacons::beacon::Beacon;
-use frame_reading::refusals::beacon;
 use moments::age;
+use octets::answers::Refusal;
 use octets::answers::refuse_if;
 use std::num::wrapping_add_u32;
 use std::num::wrapping_sub_u32;
@@ -29,8 +29,8 @@ pub fn step(offset: u32, local: u32, original_time: u32, delay: u32) -> u32
 fn refusal(unread: u8, heard: u16, network: u16) -> u8
     ensures { λ r. ⌜ r ≡ first (heardReasons unread heard network) ⌝ }
 {
-    let refused = refuse_if(!(network == heard), 15, 0);
-    let refused = refuse_if(network == 0, 4, refused);
+    let refused = refuse_if(!(network == heard), Refusal::NETWORK, 0);
+    let refused = refuse_if(network == 0, Refusal::FIELD, refused);
     refuse_if(!(unread == 0), unread, refused)
 }
 
@@ -52,7 +52,7 @@ fn unless(refused: u8, offset: u32, next: u32) -> Stepped
 pub fn step_by_beacon(offset: u32, local: u32, network: u16, frame: &[u8]) -> Stepped
     ensures { λ r. ⌜ r ≡ beaconStepOf offset local network (now (frame .entry)) ⌝ }
 {
-    let unread = beacon(frame);
+    let unread = Beacon::refusal(frame);
     let heard = Beacon::of(frame);
     let refused = refusal(unread, heard.network, network);
     let next = step(offset, local, heard.original_time, heard.delay);

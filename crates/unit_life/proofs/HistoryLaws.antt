@@ -1,22 +1,16 @@
 -- What holds of calls one after the other: the statements of specs/Laws on lists of calls, proved, but for those on silence and true time.
 -- Assumes nothing.
-use mathlib.Core.Path.{_≡_, refl, sym, ap, subst, _∙_}
-use mathlib.Core.Bool.{Bool, true, false, not, _&&_, false≢true}
-use mathlib.Core.List.{List, [], _∷_}
-use Prim.Native.Nat.{ℕ, zero, suc, _+_, _<_, _≤_, _^_}
-use native.Mathlib.Omega.{arith}
-use borrow.Author.Tests.{eq-eqb, eqb-true, eqb-false}
-use lib.Dec.{eqb}
+use Rattle.octets.proofs.Words.{_≡_, refl, sym, ap, subst, _∙_, Bool, true, false, not, _&&_, false≢true, List, [], _∷_, ℕ, zero, suc, _+_, _<_, _≤_, _^_, arith, eq-eqb, eqb-true, eqb-false, eqb}
 use Rattle.octets.specs.Answers.{Reason, reason, first}
 use Rattle.octets.specs.Lists.{every}
-use Rattle.octets.proofs.AnswerLaws.{numbered, never-given}
+use Rattle.octets.proofs.AnswerLaws.{Where, never-given}
 use Rattle.octets.proofs.CallLaws.{after-refused}
 use Rattle.octets.proofs.TestLaws.{of-cond}
 use Rattle.moments.specs.Elapsed.{Clock, started, nowAt}
 use Rattle.moments.specs.Moments.{ageAt, inOrder}
-use Rattle.unit_life.specs.States.{Discovery, Joining, Normal, Stopped, Nowhere, ready, beacon, accepted, roleChange, recovered, known, leadsTo}
+use Rattle.unit_life.specs.States.{Discovery, Joining, Normal, Stopped, Nowhere, ready, beacon, joinAccepted, roleChange, recovered, known, kindAfter}
 use Rattle.unit_life.specs.declared.state.State.{State}
-use Rattle.unit_life.specs.Calls.{withinRule, freshState, reasons, onEvent, superframeRule, onTick, gone}
+use Rattle.unit_life.specs.Calls.{withinRule, freshState, reasons, onEvent, superframeRule, onTick, movedOn}
 use Rattle.unit_life.specs.Histories.{Call, event, tick, timeOf, answer, run, allAt, sinceTick}
 use Rattle.unit_life.specs.Laws.{Ticking, StaysWithinRule, LeavesRule, wrongSuperframe, OnlyForSuperframes, RefusedKeeps, NoOtherTrap}
 use Rattle.moments.proofs.MomentLaws.{in-order-self, no-age, ages-add, young-in-order}
@@ -36,7 +30,7 @@ refused-stays P s c h e = subst P (sym (refused-keeps s c (eqb-false (answer s c
 
 -- an accepted call goes where the table leads
 pub accepted-kind : (s : State) (c : Call) → answer s c .refused ≡ 0 → answer s c .state .kind ≡ target s c
-unfolding gone
+unfolding movedOn
 accepted-kind s c e = rw (taken s c e .gives)
 
 -- ---- the rule
@@ -56,7 +50,7 @@ entry-age {since} {s} c y t here =
 -- what an accepted call gives, by a clock that shows its time
 taken-young : (since : Clock) {s : State} {c : Call} → Taken s c → withinRule (answer s c .state) ≡ true → since .last ≡ timeOf c
     → (s .kind ≡ Joining → target s c ≡ s .kind → ageAt (timeOf c) (s .entered) ≤ since .elapsed + 10000) → Young since (answer s c .state)
-unfolding gone
+unfolding movedOn
 taken-young since {s} {c} t rule last kept =
     record {
       rule = rule;
@@ -103,20 +97,20 @@ stays-within-rule began cs =
     run-young (started began) (freshState began) cs (record { rule = keeps-rule .0 began; last = refl; joining = λ e. omega (arith, no-age began) })
 
 pub leaves-rule : LeavesRule
-unfolding onEvent leadsTo gone ageAt inOrder
+unfolding onEvent kindAfter movedOn ageAt inOrder
 leaves-rule = refl
 
 -- 14 is then the call's own
-never-fourteen : (s : State) (time : ℕ) (own : Reason) → withinRule s ≡ true → (own .number ≡ 14 → own .holds ≡ false) → first (reasons s time own) ≡ 14 → ⊥
-never-fourteen s time own w h = never-given 14 (reasons s time own) (λ z. omega arith) (λ e. ap not w, (numbered _ 8 (λ z. omega arith), (h, tt)))
+never-fourteen : (s : State) (time : ℕ) (own : Reason) → withinRule s ≡ true → Where (eqb (own .number) 14) (own .holds ≡ false) → first (reasons s time own) ≡ 14 → ⊥
+never-fourteen s time own w h = never-given 14 (reasons s time own) (λ z. omega arith) (ap not w, (_, (h, _)))
 
 only-superframes : (s : State) (c : Call) → withinRule s ≡ true → answer s c .refused ≡ 14 → wrongSuperframe c ≡ true
 unfolding onEvent onTick
-only-superframes s (event number time) w e = absurd (never-fourteen s time (reason (eqb (leadsTo (s .kind) number) Nowhere) 7) w (numbered _ 7 (λ z. omega arith)) e)
+only-superframes s (event number time) w e = absurd (never-fourteen s time (reason (eqb (kindAfter (s .kind) number) Nowhere) 7) w _ e)
 only-superframes s (tick ms time) w e = go (superframeRule ms) refl
   where
     go : (b : Bool) → superframeRule ms ≡ b → not b ≡ true
-    go true q = absurd (never-fourteen s time (reason (not (superframeRule ms)) 14) w (λ z. ap not q) e)
+    go true q = absurd (never-fourteen s time (reason (not (superframeRule ms)) 14) w (ap not q) e)
     go false q = refl
 
 pub only-for-superframes : OnlyForSuperframes
@@ -136,11 +130,11 @@ record Ready (s : State) (time kind : ℕ) : Type 0 where
   pub here : s .kind ≡ kind
 
 -- an event that the table lists leads a ready state to one that is ready at the same time
-led : {s : State} {time kind : ℕ} (number to : ℕ) → leadsTo kind number ≡ to → eqb to Nowhere ≡ false → (eqb kind Joining && eqb number beacon) ≡ false
+led : {s : State} {time kind : ℕ} (number to : ℕ) → kindAfter kind number ≡ to → eqb to Nowhere ≡ false → (eqb kind Joining && eqb number beacon) ≡ false
     → Ready s time kind → Ready (onEvent s number time .state) time to
-unfolding onEvent gone
+unfolding onEvent movedOn
 led {s} {time} {kind} number to e known other r =
-    let leads : leadsTo (s .kind) number ≡ to = rw (r .here) e in
+    let leads : kindAfter (s .kind) number ≡ to = rw (r .here) e in
     let allowed : onEvent s number time .refused ≡ 0 = rw (r .within, r .ordered, leads, known) in
     let taken : eqb (onEvent s number time .refused) 0 ≡ true = eq-eqb (onEvent s number time .refused) 0 allowed in
     record {
@@ -150,15 +144,15 @@ led {s} {time} {kind} number to e known other r =
     }
 
 pub no-other-trap : NoOtherTrap
-unfolding leadsTo every
+unfolding kindAfter every
 no-other-trap s time within running ordered = go (s .kind) (record { within = within; ordered = ordered; here = refl }) running
   where
     go : (kind : ℕ) → Ready s time kind → kind < Stopped → (es : List ℕ) × (every known es ≡ true) × (run s (allAt es time) .kind ≡ Normal)
-    go zero r h = (ready ∷ beacon ∷ accepted ∷ [], refl, led accepted Normal refl refl refl (led beacon Joining refl refl refl (led ready Discovery refl refl refl r)) .here)
-    go (suc zero) r h = (beacon ∷ accepted ∷ [], refl, led accepted Normal refl refl refl (led beacon Joining refl refl refl r) .here)
-    go (suc (suc zero)) r h = (accepted ∷ [], refl, led accepted Normal refl refl refl r .here)
+    go zero r h = (ready ∷ beacon ∷ joinAccepted ∷ [], refl, led joinAccepted Normal refl refl refl (led beacon Joining refl refl refl (led ready Discovery refl refl refl r)) .here)
+    go (suc zero) r h = (beacon ∷ joinAccepted ∷ [], refl, led joinAccepted Normal refl refl refl (led beacon Joining refl refl refl r) .here)
+    go (suc (suc zero)) r h = (joinAccepted ∷ [], refl, led joinAccepted Normal refl refl refl r .here)
     go (suc (suc (suc zero))) r h = ([], refl, r .here)
     go (suc (suc (suc (suc zero)))) r h = (roleChange ∷ [], refl, led roleChange Normal refl refl refl r .here)
     go (suc (suc (suc (suc (suc zero))))) r h =
-        (recovered ∷ beacon ∷ accepted ∷ [], refl, led accepted Normal refl refl refl (led beacon Joining refl refl refl (led recovered Discovery refl refl refl r)) .here)
+        (recovered ∷ beacon ∷ joinAccepted ∷ [], refl, led joinAccepted Normal refl refl refl (led beacon Joining refl refl refl (led recovered Discovery refl refl refl r)) .here)
     go (suc (suc (suc (suc (suc (suc k)))))) r h = absurd (omega arith)

@@ -1,13 +1,10 @@
 -- What holds of every call: the statements of specs/Laws on one call, proved.
 -- Assumes nothing.
-use mathlib.Core.Path.{_≡_, refl}
-use mathlib.Core.Bool.{false, false≢true}
-use borrow.Author.Tests.{eq-eqb, eqb-true}
-use lib.Dec.{eqb}
+use Rattle.octets.proofs.Words.{_≡_, refl, false, false≢true, eq-eqb, eqb-true, eqb}
 use Rattle.octets.proofs.TestLaws.{of-choice}
-use Rattle.unit_life.specs.States.{Stopped, beacon, leadsTo, tickTo}
+use Rattle.unit_life.specs.States.{Stopped, beacon, kindAfter, tickTo}
 use Rattle.unit_life.specs.declared.state.State.{State}
-use Rattle.unit_life.specs.Calls.{onEvent, onTick, gone}
+use Rattle.unit_life.specs.Calls.{onEvent, onTick, movedOn}
 use Rattle.unit_life.specs.Histories.{event, tick}
 use Rattle.unit_life.specs.Laws.{KeepsRule, StaysStopped, StartsAnew}
 use Rattle.unit_life.proofs.TableLaws.{stays-normal}
@@ -27,7 +24,7 @@ keeps-rule = (
 )
 
 pub stays-stopped : StaysStopped
-unfolding onEvent onTick leadsTo tickTo gone
+unfolding onEvent onTick kindAfter tickTo movedOn
 stays-stopped s time stopped = (
   λ event.
       let refused : eqb (onEvent s event time .refused) 0 ≡ false = rw (stopped, refused-anyhow) in

@@ -1,18 +1,12 @@
 -- A unit in Normal that hears no beacon, after any calls: an accepted tick finds out when that is too long.
 -- Assumes nothing.
-use mathlib.Core.Path.{_≡_, refl, sym, subst}
-use mathlib.Core.Bool.{Bool, true, false, not, cond, _||_, false≢true, and-eq-true-iff}
-use mathlib.Core.List.{List, [], _∷_}
-use Prim.Native.Nat.{ℕ, _*_, _<_, _≤_}
-use native.Mathlib.Omega.{arith}
-use borrow.Author.Tests.{lt-ltb, le-ltb, eq-eqb, eqb-true, leb-true}
-use lib.Dec.{eqb, ltb}
+use Rattle.octets.proofs.Words.{_≡_, refl, sym, subst, Bool, true, false, not, cond, _||_, false≢true, and-eq-true-iff, List, [], _∷_, ℕ, _*_, _<_, _≤_, arith, lt-ltb, le-ltb, eq-eqb, eqb-true, leb-true, eqb, ltb}
 use Rattle.moments.specs.Elapsed.{Clock, nowAt, moved, clockAfter}
 use Rattle.moments.specs.Moments.{ageAt, inOrder}
 use Rattle.moments.proofs.MomentLaws.{ages-add, young-in-order}
 use Rattle.unit_life.specs.States.{Normal, Recovery, tickTo}
 use Rattle.unit_life.specs.declared.state.State.{State}
-use Rattle.unit_life.specs.Calls.{onTick, gone}
+use Rattle.unit_life.specs.Calls.{onTick, movedOn}
 use Rattle.unit_life.specs.Histories.{Call, event, tick, timeOf, answer, run, stepOf, stepsOf, early, quiet}
 use Rattle.unit_life.specs.Laws.{NoticesSilence}
 use Rattle.unit_life.proofs.StepLaws.{within, taken, short}
@@ -22,7 +16,7 @@ use Rattle.unit_life.proofs.HistoryLaws.{refused-stays}
 one-tick : (s : State) (ms time : ℕ) → s .kind ≡ Normal → onTick s ms time .refused ≡ 0
     → (3 * ms < ageAt time (s .beacon) → onTick s ms time .state .kind ≡ Recovery)
     × (ageAt time (s .beacon) ≤ 3 * ms → onTick s ms time .state .kind ≡ Normal)
-unfolding onTick tickTo gone
+unfolding onTick tickTo movedOn
 one-tick s ms time normal e =
     let taken : eqb (onTick s ms time .refused) 0 ≡ true = eq-eqb (onTick s ms time .refused) 0 e in
     (λ silent. rw (taken, normal, lt-ltb _ _ silent), λ heard. rw (taken, normal, le-ltb _ _ heard))
@@ -41,7 +35,7 @@ silent-for {since} {s} h time ordered = rw (h .last, h .silent) (omega (arith, a
 -- a tick no more than three superframes after the beacon records nothing but its time
 stays-so : (s : State) (ms time : ℕ) → s .kind ≡ Normal → onTick s ms time .refused ≡ 0 → ageAt time (s .beacon) ≤ 3 * ms
     → (onTick s ms time .state .kind ≡ Normal) × (onTick s ms time .state .last ≡ time) × (onTick s ms time .state .beacon ≡ s .beacon)
-unfolding onTick tickTo gone
+unfolding onTick tickTo movedOn
 stays-so s ms time normal z h =
     let taken : eqb (onTick s ms time .refused) 0 ≡ true = eq-eqb (onTick s ms time .refused) 0 z in
     let in-time : ltb (3 * ms) (ageAt time (s .beacon)) ≡ false = le-ltb (3 * ms) (ageAt time (s .beacon)) h in

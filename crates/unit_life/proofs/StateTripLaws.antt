@@ -1,11 +1,6 @@
 -- The round trips of a state and its bytes.
 -- Assumes nothing.
-use mathlib.Core.Path.{_≡_, refl, sym, ap, _∙_}
-use mathlib.Core.List.{List, [], append-nil}
-use Prim.Native.Nat.{ℕ}
-use native.Mathlib.Omega.{arith}
-use lib.ListN.{length}
-use lib.Seq.{take-all}
+use Rattle.octets.proofs.Words.{_≡_, refl, sym, ap, _∙_, List, [], append-nil, ℕ, arith, length, take-all}
 use Rattle.octets.specs.Layouts.{Bytes}
 use Rattle.octets.proofs.LayoutLaws.{length-bytes, fields-bytes, bytes-fields, fields-fit}
 use Rattle.octets.proofs.StoreLaws.{sets-whole}

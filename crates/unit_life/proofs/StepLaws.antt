@@ -1,31 +1,18 @@
 -- A call that is accepted: what then held of the state before, and when what it gives is within rule.
 -- Assumes nothing.
-use mathlib.Core.Path.{_≡_, refl, sym, _∙_}
-use mathlib.Core.Bool.{Bool, true, false, not, cond, _&&_, _||_, false≢true, and-eq-true-iff}
-use Prim.Native.Nat.{ℕ, _≤_}
-use native.Mathlib.Omega.{arith}
-use borrow.Author.Tests.{eq-eqb, eqb-true, leb-true, not-false}
-use lib.Dec.{eqb, leb}
+use Rattle.octets.proofs.Words.{_≡_, refl, sym, _∙_, Bool, true, false, not, cond, _&&_, _||_, false≢true, and-eq-true-iff, ℕ, _≤_, arith, eq-eqb, eqb-true, leb-true, not-false, eqb, leb}
 use Rattle.octets.specs.Answers.{Reason, reason, first}
-use Rattle.octets.proofs.AnswerLaws.{numbered, none-holds}
-use Rattle.octets.proofs.TestLaws.{of-cond}
+use Rattle.octets.proofs.AnswerLaws.{Where, none-holds}
+use Rattle.octets.proofs.TestLaws.{implied, implies, of-cond}
 use Rattle.moments.specs.Moments.{ageAt, inOrder}
 use Rattle.moments.proofs.MomentLaws.{in-order-self, young-in-order}
 use Rattle.unit_life.specs.declared.state.State.{State}
-use Rattle.unit_life.specs.States.{Joining, Normal, Stopped, Nowhere, beacon, leadsTo, tickTo}
-use Rattle.unit_life.specs.Calls.{runsFromEntry, withinRule, gone, reasons, onEvent, superframeRule, onTick}
+use Rattle.unit_life.specs.States.{Joining, Normal, Stopped, Nowhere, beacon, kindAfter, tickTo}
+use Rattle.unit_life.specs.Calls.{runsFromEntry, withinRule, movedOn, reasons, onEvent, superframeRule, onTick}
 use Rattle.unit_life.specs.Histories.{Call, event, tick, timeOf, answer}
 use Rattle.unit_life.proofs.TableLaws.{leads-known, tick-known, stays-normal, loops, in-time, heard-in-time}
 
 -- ---- the rule
-implied : (a b : Bool) → (not a || b) ≡ true → a ≡ true → b ≡ true
-implied true b e h = e
-implied false b e h = absurd (false≢true h)
-
-implies : (a b : Bool) → (a ≡ true → b ≡ true) → (not a || b) ≡ true
-implies true b f = f refl
-implies false b f = refl
-
 -- what the rule says of a state
 pub record Within (s : State) : Type 0 where
   pub known : leb (s .kind) Stopped ≡ true
@@ -46,8 +33,8 @@ is-within s w = rw (w .known, implies (runsFromEntry (s .kind)) _ (w .entry)) (i
 -- ---- the state that goes to a kind
 -- its entry is the time of going, or was before where the kind stays
 pub entered-by : (P : ℕ → Type 0) (s : State) (to : ℕ) (heard : Bool) (time : ℕ) → P time → (to ≡ s .kind → P (s .entered))
-    → P (gone s to heard time .entered)
-unfolding gone
+    → P (movedOn s to heard time .entered)
+unfolding movedOn
 entered-by P s to heard time p q = of-cond P (not (eqb to (s .kind))) time (s .entered) (λ e. p) (λ e. q (eqb-true to (s .kind) (not-false _ e)))
 
 -- its last beacon is at the time of going, or was before: where it is in Normal then, it stays there and no beacon is heard
@@ -58,8 +45,8 @@ unrecorded false true normal e n = (refl, refl)
 unrecorded false false normal e n = absurd (false≢true (sym e ∙ n))
 
 pub beacon-by : (P : ℕ → Type 0) (s : State) (to : ℕ) (heard : Bool) (time : ℕ) → P time
-    → ((eqb to Normal ≡ true → (to ≡ s .kind) × (heard ≡ false)) → P (s .beacon)) → P (gone s to heard time .beacon)
-unfolding gone
+    → ((eqb to Normal ≡ true → (to ≡ s .kind) × (heard ≡ false)) → P (s .beacon)) → P (movedOn s to heard time .beacon)
+unfolding movedOn
 beacon-by P s to heard time p q =
     of-cond P (heard && not (not (eqb to (s .kind))) || not (eqb to (s .kind)) && eqb to Normal) time (s .beacon) (λ e. p)
     (λ e.
@@ -69,11 +56,11 @@ beacon-by P s to heard time p q =
 keeps : (s : State) (to : ℕ) (heard : Bool) (time : ℕ) → leb to Stopped ≡ true
     → (to ≡ s .kind → runsFromEntry to ≡ true → inOrder (s .entered) time ≡ true)
     → (to ≡ s .kind → eqb to Normal ≡ true → heard ≡ false → inOrder (s .beacon) time ≡ true)
-    → withinRule (gone s to heard time) ≡ true
-unfolding gone
+    → withinRule (movedOn s to heard time) ≡ true
+unfolding movedOn
 keeps s to heard time known entered beacon =
     let past : ℕ → Type 0 = λ t. inOrder t time ≡ true in
-    is-within (gone s to heard time)
+    is-within (movedOn s to heard time)
     (record {
       known = known;
       entry = λ runs. entered-by past s to heard time (in-order-self time) (λ same. entered same runs);
@@ -81,18 +68,18 @@ keeps s to heard time known entered beacon =
     })
 
 -- a state that goes to Normal records a beacon where it was in another kind, and where it stays by a beacon
-pub records : (s : State) (heard : Bool) (time : ℕ) → (Normal ≡ s .kind → heard ≡ true) → gone s Normal heard time .beacon ≡ time
+pub records : (s : State) (heard : Bool) (time : ℕ) → (Normal ≡ s .kind → heard ≡ true) → movedOn s Normal heard time .beacon ≡ time
 records s heard time by =
     beacon-by (λ t. t ≡ time) s Normal heard time refl (λ kept. let (same, unheard) = kept refl in absurd (false≢true (sym unheard ∙ by same)))
 
 -- ---- a call that is accepted
 -- the call's own reason, the kind that it goes to and whether it counts as a beacon
 abbrev pub own : State → Call → Reason
-own s (event number time) = reason (eqb (leadsTo (s .kind) number) Nowhere) 7
+own s (event number time) = reason (eqb (kindAfter (s .kind) number) Nowhere) 7
 own s (tick ms time) = reason (not (superframeRule ms)) 14
 
 abbrev pub target : State → Call → ℕ
-target s (event number time) = leadsTo (s .kind) number
+target s (event number time) = kindAfter (s .kind) number
 target s (tick ms time) = tickTo (s .kind) (ageAt time (s .entered)) (ageAt time (s .beacon)) ms
 
 abbrev pub hears : Call → Bool
@@ -104,14 +91,14 @@ pub record Taken (s : State) (c : Call) : Type 0 where
   pub rule : withinRule s ≡ true
   pub ordered : inOrder (s .last) (timeOf c) ≡ true
   pub right : own s c .holds ≡ false
-  pub gives : answer s c .state ≡ gone s (target s c) (hears c) (timeOf c)
+  pub gives : answer s c .state ≡ movedOn s (target s c) (hears c) (timeOf c)
 
-own-numbered : (s : State) (c : Call) → own s c .number ≡ 0 → own s c .holds ≡ false
-own-numbered s (event number time) = numbered _ 7 (λ z. omega arith)
-own-numbered s (tick ms time) = numbered _ 14 (λ z. omega arith)
+own-numbered : (s : State) (c : Call) → Where (eqb (own s c .number) 0) (own s c .holds ≡ false)
+own-numbered s (event number time) = _
+own-numbered s (tick ms time) = _
 
 given : (s : State) (c : Call) → answer s c .refused ≡ 0
-    → (first (reasons s (timeOf c) (own s c)) ≡ 0) × (answer s c .state ≡ gone s (target s c) (hears c) (timeOf c))
+    → (first (reasons s (timeOf c) (own s c)) ≡ 0) × (answer s c .state ≡ movedOn s (target s c) (hears c) (timeOf c))
 unfolding onEvent onTick
 given s (event number time) z = (z, rw (eq-eqb (onEvent s number time .refused) 0 z))
 given s (tick ms time) z = (z, rw (eq-eqb (onTick s ms time .refused) 0 z))
@@ -120,7 +107,7 @@ pub taken : (s : State) (c : Call) → answer s c .refused ≡ 0 → Taken s c
 taken s c z =
     let (number, gives) = given s c z in
     let (rule, (ordered, (right, _))) =
-    none-holds (reasons s (timeOf c) (own s c)) (numbered _ 14 (λ z. omega arith), (numbered _ 8 (λ z. omega arith), (own-numbered s c, tt))) number in
+    none-holds (reasons s (timeOf c) (own s c)) (_, (_, (own-numbered s c, _))) number in
     record { rule = not-false _ rule; ordered = not-false _ ordered; right = right; gives = gives }
 
 -- a superframe that is named right is not long

@@ -1,14 +1,8 @@
 -- Where the table leads: to a state or nowhere, and on a tick always to a state.
 -- Assumes nothing.
-use mathlib.Core.Path.{_≡_, refl, sym, subst}
-use mathlib.Core.Bool.{Bool, true, false, cond, _&&_, _||_, and-eq-true-iff}
-use mathlib.Core.List.{List, [], _∷_}
-use Prim.Native.Nat.{ℕ, _*_, _≤_}
-use native.Mathlib.Omega.{arith}
-use borrow.Author.Tests.{eqb-true, eqb-false, le-leb, leb-true, leb-false, ltb-false}
-use lib.Dec.{eqb, leb, ltb}
+use Rattle.octets.proofs.Words.{_≡_, refl, sym, subst, Bool, true, false, cond, _&&_, _||_, and-eq-true-iff, List, [], _∷_, ℕ, _*_, _≤_, arith, eqb-true, eqb-false, le-leb, leb-true, leb-false, ltb-false, eqb, leb, ltb}
 use Rattle.octets.proofs.TestLaws.{or-elim, of-cond, of-choice}
-use Rattle.unit_life.specs.States.{Line, Limit, Discovery, Joining, Normal, Manager, Recovery, Stopped, Nowhere, beacon, elected, events, along, leadsTo, limits, runOut, tickTo}
+use Rattle.unit_life.specs.States.{Line, Limit, Discovery, Joining, Normal, Manager, Recovery, Stopped, Nowhere, beacon, elected, events, along, kindAfter, limits, runOut, tickTo}
 use Rattle.unit_life.specs.Calls.{runsFromEntry}
 
 -- every line leads to a state, or nowhere
@@ -22,8 +16,8 @@ along-known (l ∷ ls) state event k =
     let (here, later) = and-eq-true-iff (leb (l .to) Nowhere) (lines-known ls) .0 k in
     of-choice (λ n. n ≤ Nowhere) (eqb state (l .from) && eqb event (l .event)) (leb-true _ _ here) (along-known ls state event later)
 
-pub leads-known : (state event : ℕ) → eqb (leadsTo state event) Nowhere ≡ false → leb (leadsTo state event) Stopped ≡ true
-unfolding leadsTo
+pub leads-known : (state event : ℕ) → eqb (kindAfter state event) Nowhere ≡ false → leb (kindAfter state event) Stopped ≡ true
+unfolding kindAfter
 leads-known state event e =
     le-leb (along events state event) Stopped (omega (arith, along-known events state event refl, eqb-false (along events state event) Nowhere e))
 
@@ -44,8 +38,8 @@ tick-known state age silence ms known =
     of-choice (λ n. leb n Stopped ≡ true) (eqb state Normal && ltb (3 * ms) silence) refl (run-out-known limits state age refl known)
 
 -- an event that keeps Normal is a beacon
-pub stays-normal : (event : ℕ) → leadsTo Normal event ≡ Normal → eqb event beacon ≡ true
-unfolding leadsTo
+pub stays-normal : (event : ℕ) → kindAfter Normal event ≡ Normal → eqb event beacon ≡ true
+unfolding kindAfter
 stays-normal event e = go (eqb event elected) (eqb event beacon) e
   where
     go : (a b : Bool) → cond a Manager (cond b Normal Nowhere) ≡ Normal → b ≡ true
@@ -63,10 +57,10 @@ runs-elim P kind runs d j r =
     (λ e. subst P (sym (eqb-true kind Recovery e)) r)
 
 -- an event that does is a beacon in Joining
-pub loops : (kind event : ℕ) → runsFromEntry kind ≡ true → leadsTo kind event ≡ kind → (kind ≡ Joining) × (eqb event beacon ≡ true)
-unfolding leadsTo
+pub loops : (kind event : ℕ) → runsFromEntry kind ≡ true → kindAfter kind event ≡ kind → (kind ≡ Joining) × (eqb event beacon ≡ true)
+unfolding kindAfter
 loops kind event runs =
-    runs-elim (λ kind. leadsTo kind event ≡ kind → (kind ≡ Joining) × (eqb event beacon ≡ true)) kind runs
+    runs-elim (λ kind. kindAfter kind event ≡ kind → (kind ≡ Joining) × (eqb event beacon ≡ true)) kind runs
     (λ e.
     absurd
     (of-choice (λ n. n ≡ Discovery → ⊥) (eqb event 2) (λ z. omega arith)

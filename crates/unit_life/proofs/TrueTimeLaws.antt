@@ -1,12 +1,6 @@
 -- States in true time: where calls are made as document 02 asks, ticks come often enough in elapsed time as well, which is true time.
 -- Assumes nothing.
-use mathlib.Core.Path.{_≡_, refl}
-use mathlib.Core.Bool.{Bool, true, false, cond, _&&_}
-use mathlib.Core.List.{List, [], _∷_}
-use Prim.Native.Nat.{ℕ, _+_, _≤_, _<_, _^_, _%_}
-use native.Mathlib.Omega.{arith}
-use borrow.Author.Tests.{eqb-true}
-use lib.Dec.{eqb}
+use Rattle.octets.proofs.Words.{_≡_, refl, Bool, true, false, cond, _&&_, List, [], _∷_, ℕ, _+_, _≤_, _<_, _^_, _%_, arith, eqb-true, eqb}
 use Rattle.moments.specs.Elapsed.{Clock, started, nowAt, Timely}
 use Rattle.moments.proofs.ElapsedLaws.{Kept, kept-at-once, passed-at, kept-moved, true-time}
 use Rattle.unit_life.specs.declared.state.State.{State}

@@ -5,10 +5,11 @@ use mathlib.Core.Bool.{Bool, not, _&&_, _||_, cond}
 use mathlib.Core.List.{List, [], _∷_}
 use lib.Dec.{eqb, leb}
 use Rattle.octets.specs.Answers.{Reason, reason, first}
+use Rattle.octets.specs.Calls.{after}
 use Rattle.moments.specs.Moments.{ageAt, inOrder}
 use Rattle.unit_life.specs.declared.state.State.{State}
 use Rattle.unit_life.specs.declared.state.Lived.{Lived}
-use Rattle.unit_life.specs.States.{Initializing, Discovery, Joining, Normal, Recovery, Stopped, Nowhere, beacon, leadsTo, tickTo}
+use Rattle.unit_life.specs.States.{Initializing, Discovery, Joining, Normal, Recovery, Stopped, Nowhere, beacon, kindAfter, tickTo}
 
 -- the kinds whose time runs from their entry
 abbrev pub runsFromEntry : ℕ → Bool
@@ -27,8 +28,8 @@ abbrev pub freshState : ℕ → State
 freshState time = record { kind = Initializing; last = time; entered = time; beacon = time }
 
 -- the state that goes to a kind at a time. A change of kind sets `entered`; `heard` says that a beacon counts, and so does entering Normal
-unfoldable pub gone : State → ℕ → Bool → ℕ → State
-gone s to heard time =
+unfoldable pub movedOn : State → ℕ → Bool → ℕ → State
+movedOn s to heard time =
     let changed = not (eqb to (s .kind)) in
     record {
       kind = to;
@@ -39,7 +40,7 @@ gone s to heard time =
 
 -- the first refusal with the state as it was, or the next state
 abbrev pub lived : List Reason → State → State → Lived
-lived rs s next = record { refused = first rs; state = cond (eqb (first rs) 0) next s }
+lived rs s next = record { refused = first rs; state = after (first rs) s next }
 
 -- why a call is refused: a state out of rule is 14, a time before the last accepted one 8; then the call's own reason
 abbrev pub reasons : State → ℕ → Reason → List Reason
@@ -47,12 +48,12 @@ reasons s time own = reason (not (withinRule s)) 14 ∷ reason (not (inOrder (s 
 
 -- the answer of a call that has its own reason and else goes to a kind
 abbrev pub stepped : State → ℕ → Reason → ℕ → Bool → Lived
-stepped s time own to heard = lived (reasons s time own) s (gone s to heard time)
+stepped s time own to heard = lived (reasons s time own) s (movedOn s to heard time)
 
 -- an event at a time: 14, 8, 7
 unfoldable pub onEvent : State → ℕ → ℕ → Lived
 onEvent s event time =
-    let to = leadsTo (s .kind) event in
+    let to = kindAfter (s .kind) event in
     stepped s time (reason (eqb to Nowhere) 7) to (eqb event beacon)
 
 -- a superframe has 1 to 6,553,500 ms

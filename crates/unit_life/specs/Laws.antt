@@ -11,7 +11,7 @@ use Rattle.moments.specs.Moments.{ageAt, inOrder}
 use Rattle.unit_life.specs.declared.state.State.{State}
 use Rattle.unit_life.specs.Calls.{withinRule, freshState, onEvent, superframeRule, onTick}
 use Rattle.unit_life.specs.Histories.{Call, event, tick, timeOf, isTick, answer, run, allAt, stepsOf, quiet, sinceTick}
-use Rattle.unit_life.specs.States.{Joining, Normal, Recovery, Stopped, ready, beacon, known, leadsTo}
+use Rattle.unit_life.specs.States.{Joining, Normal, Recovery, Stopped, ready, beacon, known, kindAfter}
 
 -- a fresh state is within rule, and so is what every accepted call gives: after a beacon in Joining, where the entry is in order with the beacon's time
 abbrev pub KeepsRule : Type 0
@@ -83,7 +83,7 @@ NoticesSilence =
 -- entering Normal records a beacon, so that three superframes begin again
 abbrev pub StartsAnew : Type 0
 StartsAnew =
-    (s : State) (event time : ℕ) → onEvent s event time .refused ≡ 0 → leadsTo (s .kind) event ≡ Normal → onEvent s event time .state .beacon ≡ time
+    (s : State) (event time : ℕ) → onEvent s event time .refused ≡ 0 → kindAfter (s .kind) event ≡ Normal → onEvent s event time .state .beacon ≡ time
 
 -- ---- true time
 -- document 02's premise, in true time: each call's time is its true time modulo 2^32; accepted calls are made in order, each at most 2^30 ms after the last

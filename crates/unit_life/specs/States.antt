@@ -41,11 +41,11 @@ failed = 1
 abbrev pub beacon : ℕ
 beacon = 2
 
-abbrev pub accepted : ℕ
-accepted = 3
+abbrev pub joinAccepted : ℕ
+joinAccepted = 3
 
-abbrev pub denied : ℕ
-denied = 4
+abbrev pub joinDenied : ℕ
+joinDenied = 4
 
 abbrev pub fault : ℕ
 fault = 5
@@ -79,8 +79,8 @@ events =
     line Initializing failed Stopped ∷
     line Discovery beacon Joining ∷
     line Discovery fault Recovery ∷
-    line Joining accepted Normal ∷
-    line Joining denied Discovery ∷
+    line Joining joinAccepted Normal ∷
+    line Joining joinDenied Discovery ∷
     line Joining beacon Joining ∷
     line Normal elected Manager ∷
     line Normal beacon Normal ∷
@@ -94,8 +94,8 @@ abbrev pub along : List Line → ℕ → ℕ → ℕ
 along [] state event = Nowhere
 along (l ∷ ls) state event = cond (eqb state (l .from) && eqb event (l .event)) (l .to) (along ls state event)
 
-unfoldable pub leadsTo : ℕ → ℕ → ℕ
-leadsTo state event = along events state event
+unfoldable pub kindAfter : ℕ → ℕ → ℕ
+kindAfter state event = along events state event
 
 -- ---- what a time that has run out does on a tick
 pub record Limit : Type 0 where

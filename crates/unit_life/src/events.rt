@@ -1,18 +1,25 @@
 // The events of a unit's life, by number and by name.
 ghost use mathlib.Core.Path.{_≡_};
 ghost use Rattle.unit_life.specs.Calls.{onEvent};
-ghost use Rattle.unit_life.specs.States.{ready, failed, beacon, accepted, denied, fault, elected, roleChange, recovered};
+ghost use Rattle.unit_life.specs.States.{ready, failed, beacon, joinAccepted, joinDenied, fault, elected, roleChange, recovered};
 use crate::state::Lived;
 use crate::state::State;
-use crate::table::leads_to;
+use crate::table::kind_after;
+use octets::answers::Refusal;
 
 impl State {
     // Any number is taken: one that is no event leads nowhere, which is 7.
     pub fn event(self, number: u8, time: u32) -> Lived
         ensures { λ r. ⌜ r ≡ onEvent self number time ⌝ }
     {
-        let to = leads_to(self.kind, number);
-        self.step(time, to == State::NOWHERE, 7, to, number == State::BEACON)
+        let to = kind_after(self.kind, number);
+        self.step(
+            time,
+            to == State::NOWHERE,
+            Refusal::EVENT,
+            to,
+            number == State::BEACON,
+        )
     }
 
     pub fn ready(self, time: u32) -> Lived
@@ -34,13 +41,13 @@ impl State {
     }
 
     pub fn accepted(self, time: u32) -> Lived
-        ensures { λ r. ⌜ r ≡ onEvent self accepted time ⌝ }
+        ensures { λ r. ⌜ r ≡ onEvent self joinAccepted time ⌝ }
     {
         self.event(State::ACCEPTED, time)
     }
 
     pub fn denied(self, time: u32) -> Lived
-        ensures { λ r. ⌜ r ≡ onEvent self denied time ⌝ }
+        ensures { λ r. ⌜ r ≡ onEvent self joinDenied time ⌝ }
     {
         self.event(State::DENIED, time)
     }

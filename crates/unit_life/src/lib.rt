@@ -1,5 +1,4 @@
-// Life: the seven states of a unit, by value; events and ticks hand the next state back; and a state as the bytes that a C caller keeps.
-mod choices;
+// The seven states of a unit, by value; events and ticks hand the next state back; and a state as the bytes that a C caller keeps.
 mod events;
 mod names;
 pub mod state;

@@ -43,5 +43,5 @@ impl State {
 
     pub const RECOVERY_MS: u32 = 60_000;
 
-    pub const LONGEST_SUPERFRAME_MS: u32 = 6_553_500;
+    pub const LONGEST_TICKED_MS: u32 = 6_553_500;
 }

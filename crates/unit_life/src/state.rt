@@ -1,10 +1,11 @@
 // A unit's state: how it begins, when it is within rule, and how a call that is accepted takes it on.
 ghost use mathlib.Core.Path.{_≡_};
 ghost use Rattle.octets.specs.Answers.{reason, first};
-ghost use Rattle.unit_life.specs.Calls.{withinRule, freshState, gone, reasons, stepped};
-use crate::choices::either;
-use crate::choices::either_time;
+ghost use Rattle.unit_life.specs.Calls.{withinRule, freshState, movedOn, reasons, stepped};
 use moments::in_order;
+use octets::answers::Refusal;
+use octets::answers::refuse_if;
+use octets::choices::either32;
 
 // The kind is one of seven numbers; the times are the last accepted one, that of entry into the kind, and that of the last beacon.
 pub struct State {
@@ -47,16 +48,16 @@ impl State {
     }
 
     // The state that goes to a kind: a change of it is an entry, and entry into Normal counts as a beacon.
-    fn gone(self, to: u8, heard: bool, time: u32) -> State
-        ensures { λ r. ⌜ r ≡ gone self to heard time ⌝ }
+    fn moved_on(self, to: u8, heard: bool, time: u32) -> State
+        ensures { λ r. ⌜ r ≡ movedOn self to heard time ⌝ }
     {
         let changed = to != self.kind;
         let beacon = (heard & !changed) | (changed & (to == State::NORMAL));
         State {
             kind: to,
             last: time,
-            entered: either_time(changed, time, self.entered),
-            beacon: either_time(beacon, time, self.beacon),
+            entered: either32(changed, time, self.entered),
+            beacon: either32(beacon, time, self.beacon),
         }
     }
 
@@ -66,7 +67,9 @@ impl State {
     {
         let known = self.within_rule();
         let ordered = in_order(self.last, time);
-        either(!known, 14, either(!ordered, 8, either(wrong, number, 0)))
+        let refused = refuse_if(wrong, number, 0);
+        let refused = refuse_if(!ordered, Refusal::EARLIER, refused);
+        refuse_if(!known, Refusal::RULE, refused)
     }
 
     // What an event and a tick share: a refusal with the state as it was, or the state that goes to a kind.
@@ -82,7 +85,7 @@ impl State {
         }
         Lived {
             refused,
-            state: self.gone(to, heard, time),
+            state: self.moved_on(to, heard, time),
         }
     }
 }

@@ -1,12 +1,12 @@
 // Document 01's table of the seven states, on numbers alone: which event leads where, and which time runs out into what.
 ghost use mathlib.Core.Path.{_≡_};
-ghost use Rattle.unit_life.specs.States.{leadsTo, tickTo};
-use crate::choices::either;
+ghost use Rattle.unit_life.specs.States.{kindAfter, tickTo};
 use crate::state::State;
+use octets::choices::either;
 
 // The kind that an event leads to. A beacon in Joining or in Normal leads nowhere else: it only records its time.
-pub(crate) fn leads_to(kind: u8, event: u8) -> u8
-    ensures { λ r. ⌜ r ≡ leadsTo kind event ⌝ }
+pub(crate) fn kind_after(kind: u8, event: u8) -> u8
+    ensures { λ r. ⌜ r ≡ kindAfter kind event ⌝ }
 {
     match kind {
         State::INITIALIZING => match event {

@@ -1,8 +1,7 @@
 -- `pass`: the first refusal, or the pair and the time recorded over the rows that stand.
 -- Assumes nothing.
-use mathlib.Core.Path.{_∙_}
+use Rattle.octets.proofs.Words.{_∙_, needs}
 use Rattle.route_passing.proofs.PassLaws.{pass-number, passes}
-use borrow.Author.Needs.{needs}
 use Rattle.route_passing.proofs.pass.Statement.{statement}
 use Rattle.route_passing.proofs.pass.Tie as tie
 

@@ -1,8 +1,6 @@
 -- `why_not_passed`: the first reason that holds.
 -- Assumes nothing.
-use mathlib.Core.Path.{ap, _∙_}
-use Rattle.route_table.specs.declared.table.Hop.{Hop}
-use borrow.Author.Needs.{needs}
+use Rattle.octets.proofs.Words.{_∙_, needs}
 use Rattle.route_passing.proofs.why_not_passed.Statement.{statement}
 use Rattle.route_passing.proofs.why_not_passed.Tie as tie
 
@@ -22,11 +20,9 @@ returns c =
       second .refuse-if2 .ensures,
       first .refuse-if .ensures,
       fourth .before .in-order .ensures,
-      third .before .refusal .ensures,
       pair .again .ensures,
-      ap (λ (h : Hop). h .hops) (pair .before .before .before .before .hop .ensures),
     )
 
 pub why-not-passed-spec : {M : Type 1} → statement M
 why-not-passed-spec =
-    tie.close (tie.spec (λ c κs. search needs) (λ c. search needs) (λ c. search needs) (λ c. search needs) (λ c κs. search needs) (λ c. search needs) (λ c. search needs) (λ c κs. search needs) (λ c κs. search needs) (λ c κs. search needs) (λ c κs. search needs) (λ c κs. search needs) (λ c κs. search needs) (λ c κs. search needs) (λ c κs. search needs) returns)
+    tie.close (tie.spec (λ c. search needs) (λ c. search needs) (λ c. search needs) (λ c κs. search needs) (λ c. search needs) (λ c. search needs) (λ c κs. search needs) (λ c κs. search needs) (λ c κs. search needs) (λ c κs. search needs) (λ c κs. search needs) (λ c κs. search needs) (λ c κs. search needs) returns)

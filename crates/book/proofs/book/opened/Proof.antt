@@ -6,9 +6,6 @@ use borrow.Author.Needs.{needs}
 use Rattle.book.proofs.book.opened.Statement.{statement}
 use Rattle.book.proofs.book.opened.Tie as tie
 
-returns : tie.Need-returns
-unfolding rowsOf
-returns c = rw (mask-nothing, c .below .ensures)
-
 pub opened-spec : {M : Type 1} → statement M
-opened-spec = tie.close (tie.spec (λ c κs. search needs) (λ c. search needs) returns)
+unfolding rowsOf
+opened-spec = tie.close (tie.spec (λ c κs. search needs) (λ c. search needs) (λ c. rw (mask-nothing, c .below .ensures)))

@@ -1,15 +1,8 @@
 -- `settled`: the new book, unless a number refuses it.
 -- Assumes nothing.
 use borrow.Author.Tests.{eq-eqb, ne-eqb}
-use borrow.Author.Needs.{needs}
 use Rattle.book.proofs.book.settled.Statement.{statement}
 use Rattle.book.proofs.book.settled.Tie as tie
 
-returns : tie.Need-returns
-returns c = rw (eq-eqb _ 0 (c .if1 .taken))
-
-returns-2 : tie.Need-returns-2
-returns-2 c = rw (ne-eqb _ 0 (c .if1 .left))
-
 pub settled-spec : {M : Type 1} → statement M
-settled-spec = tie.close (tie.spec returns returns-2)
+settled-spec = tie.close (tie.spec (λ c. rw (eq-eqb _ 0 (c .if1 .taken))) (λ c. rw (ne-eqb _ 0 (c .if1 .left))))

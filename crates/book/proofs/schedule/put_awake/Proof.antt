@@ -1,16 +1,11 @@
 -- `put_awake`'s loop: the kinds of the slots passed, and what the buffer held behind them.
 -- Assumes nothing.
-use mathlib.Core.Path.{_≡_}
-use mathlib.Core.List.{_++_}
-use Prim.Native.Nat.{_-_, _≤_}
-use native.Mathlib.Omega.{arith}
-use lib.ListN.{length, length-set, drop}
+use Rattle.octets.proofs.Words.{_≡_, _++_, _-_, _≤_, arith, needs, length, length-set, drop}
 use Rattle.octets.specs.Lists.{tab}
 use Rattle.octets.proofs.ListLaws.{tab-none, tab-more}
 use Rattle.slot_sets.specs.Sets.{slotsOf}
 use Rattle.site_plan.specs.Schedules.{kindOf}
 use Rattle.book.proofs.ScheduleLaws.{all-put}
-use borrow.Author.Needs.{needs}
 use Rattle.book.proofs.schedule.put_awake.Statement.{statement}
 use Rattle.book.proofs.schedule.put_awake.Tie as tie
 

@@ -1,10 +1,8 @@
 -- `put_kinds`: the slots awake, and those asleep behind them.
 -- Assumes nothing.
-use mathlib.Core.Path.{_∙_}
-use denote.Ref.{now}
+use Rattle.octets.proofs.Words.{_∙_, needs, now}
 use Rattle.slot_sets.specs.Sets.{slotsOf}
 use Rattle.book.proofs.ScheduleLaws.{both-put}
-use borrow.Author.Needs.{needs}
 use Rattle.book.proofs.schedule.put_kinds.Statement.{statement}
 use Rattle.book.proofs.schedule.put_kinds.Tie as tie
 

@@ -1,13 +1,8 @@
 -- `put_sleep`'s loop: to store what is left is to store it all.
 -- Assumes nothing.
-use mathlib.Core.Path.{_≡_, refl, sym, _∙_}
-use Prim.Native.Nat.{_-_, _≤_}
-use native.Mathlib.Omega.{arith}
-use lib.ListN.{length, length-set, replicate}
-use lib.Seq.{sets}
+use Rattle.octets.proofs.Words.{_≡_, refl, sym, _∙_, _-_, _≤_, arith, needs, length, length-set, replicate, sets}
 use Rattle.site_plan.specs.Schedules.{sleep}
 use Rattle.book.proofs.ScheduleLaws.{sleep-turn, sleep-end}
-use borrow.Author.Needs.{needs}
 use Rattle.book.proofs.schedule.put_sleep.Statement.{statement}
 use Rattle.book.proofs.schedule.put_sleep.Tie as tie
 

@@ -1,16 +1,11 @@
 -- `book_of`: the rows that its loop passed stand in front; then the plan and the time.
 -- Assumes nothing.
-use mathlib.Core.Path.{_≡_, refl, _∙_}
-use mathlib.Core.List.{_++_}
-use Prim.Native.Nat.{_≤_, _-_}
-use native.Mathlib.Omega.{arith}
-use lib.ListN.{length, drop, replicate}
+use Rattle.octets.proofs.Words.{_≡_, refl, _∙_, _++_, _≤_, _-_, arith, needs, length, drop, replicate}
 use Rattle.octets.specs.Lists.{tab}
 use Rattle.octets.proofs.ListLaws.{tab-none, tab-more, tab-all}
 use Rattle.book_members.specs.Members.{rowsOf}
 use Rattle.book_members.proofs.RowLoopLaws.{nobody, row-written}
 use Rattle.book_bytes.specs.BookBytes.{rowAt, bookIn}
-use borrow.Author.Needs.{needs}
 use Rattle.book_bytes.proofs.books.book_of.Statement.{statement}
 use Rattle.book_bytes.proofs.books.book_of.Tie as tie
 

@@ -1,12 +1,9 @@
 -- `member_at`: the numbers of a row in a part of the bytes are those in all of them.
 -- Assumes nothing.
-use mathlib.Core.Path.{ap, _∙_}
-use Prim.Native.Nat.{_+_, _*_, _-_}
-use native.Mathlib.Omega.{arith}
+use Rattle.octets.proofs.Words.{ap, _∙_, _+_, _*_, _-_, arith, needs}
 use Rattle.octets.specs.Parts.{Lent}
 use Rattle.octets.proofs.LayoutLaws.{fields-part}
 use Rattle.book_bytes.specs.BookBytes.{rowWidths, rowFrom, rowAt}
-use borrow.Author.Needs.{needs}
 use Rattle.book_bytes.proofs.books.member_at.Statement.{statement}
 use Rattle.book_bytes.proofs.books.member_at.Tie as tie
 

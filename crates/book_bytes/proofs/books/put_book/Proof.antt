@@ -1,9 +1,8 @@
 -- `put_book`: the plan, the time behind it, and the rows behind that.
 -- Assumes nothing.
-use mathlib.Core.Path.{_∙_}
-use Rattle.book.specs.Books.{stated}
+use Rattle.octets.proofs.Words.{_∙_, needs}
+use Rattle.book.specs.Books.{contents}
 use Rattle.book_bytes.proofs.BookByteLaws.{plan-first}
-use borrow.Author.Needs.{needs}
 use Rattle.book_bytes.proofs.books.put_book.Statement.{statement}
 use Rattle.book_bytes.proofs.books.put_book.Tie as tie
 
@@ -13,7 +12,7 @@ returns c =
     let time = rows .before .before .before .before in
     let plan = time .before .before .before .before in
     let a = plan .before .before .before .before .args in
-    (rows .put-members .ensures .0 ∙ rw (time .put32 .ensures, plan .put-plan .ensures) (plan-first (a .out .now) (stated (a .book))), rows .put-members .ensures .1)
+    (rows .put-members .ensures .0 ∙ rw (time .put32 .ensures, plan .put-plan .ensures) (plan-first (a .out .now) (contents (a .book))), rows .put-members .ensures .1)
 
 pub put-book-spec : {M : Type 1} → statement M
 put-book-spec = tie.close (tie.spec (λ c κs. search needs) (λ c κs. search needs) (λ c κs. search needs) (λ c. search needs) returns)

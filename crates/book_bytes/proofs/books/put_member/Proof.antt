@@ -1,14 +1,10 @@
 -- `put_member`: the row's numbers, one behind the other from a place on.
 -- Assumes nothing.
-use mathlib.Core.Path.{refl}
-use Prim.Native.Nat.{_^_, _<_}
-use native.Mathlib.Omega.{arith}
-use denote.Ref.{now}
+use Rattle.octets.proofs.Words.{refl, _^_, _<_, arith, needs, now}
 use Rattle.octets.proofs.StoreLaws.{all-put, put, done}
 use Rattle.slot_sets.proofs.MaskLaws.{mask-back}
 use Rattle.book_members.specs.Members.{rowOf}
 use Rattle.book_bytes.specs.BookBytes.{rowWidths, rowValues}
-use borrow.Author.Needs.{needs}
 use Rattle.book_bytes.proofs.books.put_member.Statement.{statement}
 use Rattle.book_bytes.proofs.books.put_member.Tie as tie
 

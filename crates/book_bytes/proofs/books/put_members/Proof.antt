@@ -1,15 +1,10 @@
 -- `put_members`'s loop: to write the rows that are left is to write them all.
 -- Assumes nothing.
-use mathlib.Core.Path.{_≡_, refl, _∙_}
-use Prim.Native.Nat.{_+_, _*_, _≤_, _-_}
-use native.Mathlib.Omega.{arith}
-use lib.ListN.{length, drop, drop-of-length-le}
-use lib.Seq.{sets}
+use Rattle.octets.proofs.Words.{_≡_, refl, _∙_, _+_, _*_, _≤_, _-_, arith, needs, length, drop, drop-of-length-le, sets}
 use Rattle.octets.proofs.RunLaws.{part-turn, cut-turn}
 use Rattle.book_members.specs.Members.{rowsOf}
 use Rattle.book_bytes.specs.BookBytes.{rowsBytes}
 use Rattle.book_bytes.proofs.BookByteLaws.{members-run}
-use borrow.Author.Needs.{needs}
 use Rattle.book_bytes.proofs.books.put_members.Statement.{statement}
 use Rattle.book_bytes.proofs.books.put_members.Tie as tie
 
@@ -21,9 +16,6 @@ abbrev μ-loop : tie.MeasureT-loop
 
 loop-holds : tie.Need-loop-holds Inv-loop μ-loop
 loop-holds c = (search needs, refl, refl)
-
-same-length : tie.Need-same-length Inv-loop μ-loop
-same-length c = search needs
 
 -- the row that the end cuts
 returns : tie.Need-returns Inv-loop μ-loop
@@ -56,4 +48,4 @@ returns-2 c =
 
 pub put-members-spec : {M : Type 1} → statement M
 put-members-spec =
-    tie.close (tie.spec Inv-loop μ-loop loop-holds (λ c. search needs) (λ c. search needs) (λ c. search needs) (λ c. search needs) (λ c. search needs) (λ c. search needs) (λ c. search needs) (λ c. search needs) (λ c κs. search needs) same-length returns (λ c. search needs) (λ c. search needs) (λ c. search needs) (λ c κs. search needs) (λ c. search needs) (λ c. search needs) loop-again (λ c. search needs) returns-2)
+    tie.close (tie.spec Inv-loop μ-loop loop-holds (λ c. search needs) (λ c. search needs) (λ c. search needs) (λ c. search needs) (λ c. search needs) (λ c. search needs) (λ c. search needs) (λ c. search needs) (λ c κs. search needs) (λ c. search needs) returns (λ c. search needs) (λ c. search needs) (λ c. search needs) (λ c κs. search needs) (λ c. search needs) (λ c. search needs) loop-again (λ c. search needs) returns-2)

@@ -1,17 +1,12 @@
 -- `write_back`: nothing is written where a number refuses it, else the book.
 -- Assumes nothing.
-use mathlib.Core.Path.{refl, sym, _∙_}
-use lib.ListN.{length-map}
+use Rattle.octets.proofs.Words.{refl, sym, _∙_, needs, length-map}
 use Rattle.octets.proofs.CallLaws.{after-accepted, after-refused}
 use Rattle.book_members.specs.Members.{rowOf, rowsOf}
-use Rattle.book.specs.Books.{stated}
+use Rattle.book.specs.Books.{contents}
 use Rattle.book_bytes.proofs.BookByteLaws.{length-book}
-use borrow.Author.Needs.{needs}
 use Rattle.book_bytes.proofs.books.write_back.Statement.{statement}
 use Rattle.book_bytes.proofs.books.write_back.Tie as tie
-
-returns : tie.Need-returns
-returns c = (refl, sym (after-refused _ _ _ (c .if1 .taken)), λ z. absurd (c .if1 .taken z))
 
 returns-2 : tie.Need-returns-2
 unfolding rowsOf
@@ -19,8 +14,8 @@ returns-2 c =
     let put = c .before .before .put-book .ensures in
     let a = c .before .before .before .before .before .before .args in
     let z = c .before .before .before .before .if1 .left in
-    (sym z, put .0 ∙ sym (after-accepted _ _ _ z), λ q. length-book (stated (a .next)) (length-map (a .next .rows) rowOf ∙ put .1))
+    (sym z, put .0 ∙ sym (after-accepted _ _ _ z), λ q. length-book (contents (a .next)) (length-map (a .next .rows) rowOf ∙ put .1))
 
 pub write-back-spec : {M : Type 1} → statement M
 write-back-spec =
-    tie.close (tie.spec returns (λ c κs. search needs) (λ c. search needs) returns-2)
+    tie.close (tie.spec (λ c. (refl, sym (after-refused _ _ _ (c .if1 .taken)), λ z. absurd (c .if1 .taken z))) (λ c κs. search needs) (λ c. search needs) returns-2)

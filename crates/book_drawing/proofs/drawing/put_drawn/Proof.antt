@@ -1,20 +1,13 @@
 -- `put_drawn`'s loop: the letters of the slots passed stand from the place on.
 -- Assumes nothing.
-use mathlib.Core.Path.{_≡_, refl, ap, _∙_}
-use Prim.Native.Nat.{ℕ, _+_, _-_, _≤_}
-use native.Mathlib.Omega.{arith}
-use lib.ListN.{length}
-use lib.Seq.{sets}
-use denote.Ref.{now}
-use borrow.Author.Needs.{fits-under}
+use Rattle.octets.proofs.Words.{_≡_, refl, ap, _∙_, ℕ, _+_, _-_, _≤_, arith, fits-under, needs, length, sets, now}
 use Rattle.octets.specs.Lists.{tab}
 use Rattle.slot_sets.specs.Sets.{slotsOf}
 use Rattle.site_plan.specs.Schedules.{kindOf}
-use Rattle.book.proofs.ScheduleLaws.{few-slots}
+use Rattle.site_plan.proofs.PlanLaws.{few-slots}
 use Rattle.book_drawing.specs.Views.{letter}
 use Rattle.book_drawing.proofs.TextLaws.{none-put, one-more}
 use Rattle.book_drawing.proofs.LineLaws.{all-drawn}
-use borrow.Author.Needs.{needs}
 use Rattle.book_drawing.proofs.drawing.put_drawn.Statement.{statement}
 use Rattle.book_drawing.proofs.drawing.put_drawn.Tie as tie
 

@@ -1,27 +1,16 @@
 -- `put_head_line`: the number of slots and that of the active ones, each behind its word, and a newline.
 -- Assumes nothing.
-use mathlib.Core.List.{[], _∷_}
-use Prim.Native.Nat.{_<_}
-use native.Mathlib.Omega.{arith}
-use denote.Ref.{now}
-use borrow.Author.Needs.{fits-under}
-use Rattle.book.proofs.ScheduleLaws.{few-slots}
+use Rattle.octets.proofs.Words.{[], _∷_, _<_, arith, fits-under, needs, now}
 use Rattle.book_drawing.specs.Views.{slotsWord, activeWord, decimal, newline}
 use Rattle.book_drawing.proofs.LineLaws.{head-told}
 use Rattle.book_drawing.proofs.TextLaws.{put, done, all-put}
-use borrow.Author.Needs.{needs}
+use Rattle.site_plan.proofs.PlanLaws.{few-slots}
 use Rattle.book_drawing.proofs.drawing.put_head_line.Statement.{statement}
 use Rattle.book_drawing.proofs.drawing.put_head_line.Tie as tie
 
 -- the number of slots is below 1,000
 few : (d : tie.After-slots) → d .slots .result < 101
 few d = let most = few-slots (d .before .before .args .plan) in omega (arith, d .slots .ensures, most)
-
-cast-slots : tie.Need-cast-slots
-cast-slots c = fits-under _ _ 101 (few c) _
-
-put-decimal-requires : tie.Need-put-decimal-requires
-put-decimal-requires c κs = search (needs, few (c .before .before .before .before .before .before .before))
 
 returns : tie.Need-returns
 returns c =
@@ -41,4 +30,4 @@ returns c =
 
 pub put-head-line-spec : {M : Type 1} → statement M
 put-head-line-spec =
-    tie.close (tie.spec (λ c κs. search needs) cast-slots (λ c κs. search needs) (λ c. search needs) (λ c κs. search needs) put-decimal-requires (λ c. search needs) (λ c κs. search needs) (λ c κs. search needs) (λ c κs. search needs) (λ c. search needs) returns)
+    tie.close (tie.spec (λ c κs. search needs) (λ c. fits-under _ _ 101 (few c) _) (λ c κs. search needs) (λ c. search needs) (λ c κs. search needs) (λ c κs. search (needs, few (c .before .before .before .before .before .before .before))) (λ c. search needs) (λ c κs. search needs) (λ c κs. search needs) (λ c κs. search needs) (λ c. search needs) returns)

@@ -1,12 +1,9 @@
 -- `put_member_line`: the address, a space, a letter per slot, and a newline.
 -- Assumes nothing.
-use mathlib.Core.List.{[], _∷_}
-use native.Mathlib.Omega.{arith}
-use denote.Ref.{now}
+use Rattle.octets.proofs.Words.{[], _∷_, arith, needs, now}
 use Rattle.slot_sets.specs.Sets.{slotsOf}
 use Rattle.book_drawing.specs.Views.{hex, space, drawn, newline}
 use Rattle.book_drawing.proofs.TextLaws.{put, done, all-put}
-use borrow.Author.Needs.{needs}
 use Rattle.book_drawing.proofs.drawing.put_member_line.Statement.{statement}
 use Rattle.book_drawing.proofs.drawing.put_member_line.Tie as tie
 

@@ -1,9 +1,8 @@
 -- `put_row`: an empty row is passed over.
 -- Assumes nothing.
-use denote.Ref.{now}
+use Rattle.octets.proofs.Words.{needs, now}
 use Rattle.book_members.specs.Members.{rowOf}
 use Rattle.book_drawing.proofs.LineLaws.{row-passed, row-drawn}
-use borrow.Author.Needs.{needs}
 use Rattle.book_drawing.proofs.drawing.put_row.Statement.{statement}
 use Rattle.book_drawing.proofs.drawing.put_row.Tie as tie
 

@@ -1,13 +1,7 @@
 -- `put_rows`'s loop: to write the lines that are left is to write them all.
 -- Assumes nothing.
-use mathlib.Core.Path.{_≡_, refl, _∙_}
-use Prim.Native.Nat.{_+_, _*_, _-_, _≤_, min}
-use native.Mathlib.Omega.{arith}
-use lib.ListN.{length}
-use denote.Ref.{now}
-use borrow.Author.Needs.{fits-under}
+use Rattle.octets.proofs.Words.{_≡_, refl, _∙_, _+_, _*_, _-_, _≤_, min, arith, fits-under, needs, length, now}
 use Rattle.book_drawing.proofs.LineLaws.{Left, linesFrom, row-turn, rows-end}
-use borrow.Author.Needs.{needs}
 use Rattle.book_drawing.proofs.drawing.put_rows.Statement.{statement}
 use Rattle.book_drawing.proofs.drawing.put_rows.Tie as tie
 

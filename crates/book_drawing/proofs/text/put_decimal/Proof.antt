@@ -1,8 +1,7 @@
 -- `put_decimal`: one, two or three digits.
 -- Assumes nothing.
-use denote.Ref.{now}
+use Rattle.octets.proofs.Words.{needs, now}
 use Rattle.book_drawing.proofs.TextLaws.{decimal-put, one-digit, two-digits, three-digits}
-use borrow.Author.Needs.{needs}
 use Rattle.book_drawing.proofs.text.put_decimal.Statement.{statement}
 use Rattle.book_drawing.proofs.text.put_decimal.Tie as tie
 

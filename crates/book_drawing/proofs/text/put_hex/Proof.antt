@@ -1,9 +1,7 @@
 -- `put_hex`: four digits.
 -- Assumes nothing.
-use Prim.Native.Nat.{_<_}
-use denote.Ref.{now}
+use Rattle.octets.proofs.Words.{_<_, needs, now}
 use Rattle.book_drawing.proofs.TextLaws.{same-text, hex-digits}
-use borrow.Author.Needs.{needs}
 use Rattle.book_drawing.proofs.text.put_hex.Statement.{statement}
 use Rattle.book_drawing.proofs.text.put_hex.Tie as tie
 

@@ -1,11 +1,8 @@
 -- `member_in`: zeros behind the last row; else the unit, the slots behind it, and a time where there is a unit.
 -- Assumes nothing.
-use mathlib.Core.Path.{sym, _∙_}
-use native.Mathlib.Omega.{arith}
-use borrow.Author.Tests.{eq-eqb, ne-eqb, lt-ltb, le-ltb}
+use Rattle.octets.proofs.Words.{sym, _∙_, arith, needs, eq-eqb, ne-eqb, lt-ltb, le-ltb}
 use Rattle.slot_sets.proofs.MaskLaws.{mask-nothing}
 use Rattle.book_image.specs.Images.{rowIn}
-use borrow.Author.Needs.{needs}
 use Rattle.book_image.proofs.restoring.member_in.Statement.{statement}
 use Rattle.book_image.proofs.restoring.member_in.Tie as tie
 

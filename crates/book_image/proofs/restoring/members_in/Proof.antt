@@ -1,16 +1,11 @@
 -- `members_in`'s loop: the rows passed stand in front.
 -- Assumes nothing.
-use mathlib.Core.Path.{_≡_, refl, _∙_}
-use mathlib.Core.List.{_++_}
-use Prim.Native.Nat.{_≤_, _-_}
-use native.Mathlib.Omega.{arith}
-use lib.ListN.{length, drop, replicate}
+use Rattle.octets.proofs.Words.{_≡_, refl, _∙_, _++_, _≤_, _-_, arith, needs, length, drop, replicate}
 use Rattle.octets.specs.Lists.{tab}
 use Rattle.octets.proofs.ListLaws.{tab-none, tab-more, tab-all}
 use Rattle.book_members.specs.Members.{rowsOf}
 use Rattle.book_members.proofs.RowLoopLaws.{nobody, row-written}
 use Rattle.book_image.proofs.RestoringLaws.{placeIn}
-use borrow.Author.Needs.{needs}
 use Rattle.book_image.proofs.restoring.members_in.Statement.{statement}
 use Rattle.book_image.proofs.restoring.members_in.Tie as tie
 

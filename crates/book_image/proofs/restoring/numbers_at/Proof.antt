@@ -1,12 +1,8 @@
 -- `numbers_at`: the numbers of a row in a part of the image are those in all of it.
 -- Assumes nothing.
-use mathlib.Core.Path.{ap, _∙_}
-use Prim.Native.Nat.{_+_, _*_, _-_}
-use native.Mathlib.Nat.{add-zero}
-use native.Mathlib.Omega.{arith}
+use Rattle.octets.proofs.Words.{ap, _∙_, _+_, _*_, _-_, add-zero, arith, needs}
 use Rattle.octets.specs.Parts.{Lent}
 use Rattle.octets.proofs.NumberLaws.{num-part}
-use borrow.Author.Needs.{needs}
 use Rattle.book_image.proofs.restoring.numbers_at.Statement.{statement}
 use Rattle.book_image.proofs.restoring.numbers_at.Tie as tie
 

@@ -1,9 +1,8 @@
 -- `restore`: the book that the bytes say where they fit and it is within rule, else zeros.
 -- Assumes nothing.
-use mathlib.Core.Path.{_∙_}
+use Rattle.octets.proofs.Words.{_∙_, needs}
 use Rattle.book_members.specs.Members.{rowsOf}
 use Rattle.book_image.proofs.RestoringLaws.{restores}
-use borrow.Author.Needs.{needs}
 use Rattle.book_image.proofs.restoring.restore.Statement.{statement}
 use Rattle.book_image.proofs.restoring.restore.Tie as tie
 

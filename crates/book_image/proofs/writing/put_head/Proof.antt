@@ -1,11 +1,9 @@
 -- `put_head`: how many sections, and of each its number, its offset and its length.
 -- Assumes nothing.
-use mathlib.Core.Path.{refl}
-use denote.Ref.{now}
+use Rattle.octets.proofs.Words.{refl, needs, now}
 use Rattle.octets.proofs.StoreLaws.{all-put, put, done}
 use Rattle.book_image.specs.Forms.{headWidths, headValues}
 use Rattle.book_image.specs.Images.{sections}
-use borrow.Author.Needs.{needs}
 use Rattle.book_image.proofs.writing.put_head.Statement.{statement}
 use Rattle.book_image.proofs.writing.put_head.Tie as tie
 

@@ -1,15 +1,10 @@
 -- `put_row`: the unit, and the slots behind it.
 -- Assumes nothing.
-use mathlib.Core.Path.{refl}
-use Prim.Native.Nat.{_^_, _<_}
-use native.Mathlib.Omega.{arith}
-use denote.Ref.{now}
+use Rattle.octets.proofs.Words.{refl, _^_, _<_, arith, needs, now}
 use Rattle.octets.proofs.StoreLaws.{all-put, put, done}
 use Rattle.slot_sets.proofs.MaskLaws.{mask-back}
 use Rattle.book_members.specs.Members.{rowOf}
-use Rattle.book_image.specs.Images.{rowWidths}
-use Rattle.book_image.proofs.ImageLaws.{rowValues}
-use borrow.Author.Needs.{needs}
+use Rattle.book_image.specs.Images.{rowWidths, rowValues}
 use Rattle.book_image.proofs.writing.put_row.Statement.{statement}
 use Rattle.book_image.proofs.writing.put_row.Tie as tie
 

@@ -1,15 +1,10 @@
 -- `put_rows`'s loop: to write the rows that are left is to write them all.
 -- Assumes nothing.
-use mathlib.Core.Path.{_≡_, refl, _∙_}
-use Prim.Native.Nat.{_+_, _*_, _≤_, _-_, min}
-use native.Mathlib.Omega.{arith}
-use lib.ListN.{length, take, drop}
-use lib.Seq.{sets}
+use Rattle.octets.proofs.Words.{_≡_, refl, _∙_, _+_, _*_, _≤_, _-_, min, arith, needs, length, take, drop, sets}
 use Rattle.book_members.specs.Members.{rowsOf}
 use Rattle.book_members.proofs.RowLoopLaws.{none-left}
 use Rattle.book_image.specs.Images.{rowsBytes}
 use Rattle.book_image.proofs.ImageLaws.{rows-turn, rows-cut}
-use borrow.Author.Needs.{needs}
 use Rattle.book_image.proofs.writing.put_rows.Statement.{statement}
 use Rattle.book_image.proofs.writing.put_rows.Tie as tie
 

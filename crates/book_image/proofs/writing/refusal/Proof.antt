@@ -1,7 +1,6 @@
 -- `refusal`: the first reason that holds.
 -- Assumes nothing.
-use mathlib.Core.Path.{_∙_}
-use borrow.Author.Needs.{needs}
+use Rattle.octets.proofs.Words.{_∙_, needs}
 use Rattle.book_image.proofs.writing.refusal.Statement.{statement}
 use Rattle.book_image.proofs.writing.refusal.Tie as tie
 

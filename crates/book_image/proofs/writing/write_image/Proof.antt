@@ -1,20 +1,17 @@
 -- `write_image`: refused, or the head, the plan behind it, and the rows behind that.
 -- Assumes nothing.
-use mathlib.Core.Path.{ap, _∙_}
-use native.Mathlib.Omega.{arith}
-use lib.ListN.{take}
+use Rattle.octets.proofs.Words.{ap, _∙_, arith, needs, take}
 use Rattle.book_members.specs.Members.{rowsOf}
-use Rattle.book.specs.Books.{stated}
+use Rattle.book.specs.Books.{contents}
 use Rattle.book.proofs.VisitLaws.{take-current}
 use Rattle.book_image.proofs.WritingLaws.{unwritten, written}
-use borrow.Author.Needs.{needs}
 use Rattle.book_image.proofs.writing.write_image.Statement.{statement}
 use Rattle.book_image.proofs.writing.write_image.Tie as tie
 
 returns : tie.Need-returns
 returns c =
     let a = c .before .before .before .args in
-    unwritten (stated (a .book)) (a .time) _ (a .out .now) (c .before .refusal .ensures) (c .if1 .taken)
+    unwritten (contents (a .book)) (a .time) _ (a .out .now) (c .before .refusal .ensures) (c .if1 .taken)
 
 returns-2 : tie.Need-returns-2
 returns-2 c =
@@ -25,7 +22,7 @@ returns-2 c =
     let test = live .before .before .before in
     let a = test .before .before .before .args in
     let count = a .book .plan .rows in
-    written (stated (a .book)) (a .time) _ (a .out .now) (test .before .refusal .ensures) _ (take count (rowsOf (live .current .result))) _
+    written (contents (a .book)) (a .time) _ (a .out .now) (test .before .refusal .ensures) _ (take count (rowsOf (live .current .result))) _
     (omega (arith, test .if1 .left))
     (c .size-for .ensures)
     (ap (take count) (live .current .ensures) ∙ take-current (a .time) count (rowsOf (a .book .rows)))

@@ -1,15 +1,10 @@
 -- `ask`: a member's slots after its request, or the number that refuses it.
 -- Assumes nothing.
-use mathlib.Core.Path.{_∙_}
-use native.Mathlib.Omega.{arith}
-use borrow.Author.Needs.{fits-under}
-use denote.Ref.{now}
-use lib.ListN.{take}
+use Rattle.octets.proofs.Words.{_∙_, arith, fits-under, needs, ltb, take, now}
 use Rattle.slot_sets.specs.Sets.{slotsOf}
 use Rattle.book_members.specs.Members.{rowsOf}
-use Rattle.book_joins.proofs.AnswerLaws.{asked}
+use Rattle.book_joins.proofs.AnswerLaws.{Asking, asking}
 use Rattle.book_joins.proofs.GrantLaws.{row-within, is-asked}
-use borrow.Author.Needs.{needs}
 use Rattle.book_joins.proofs.asking.ask.Statement.{statement}
 use Rattle.book_joins.proofs.asking.ask.Tie as tie
 
@@ -22,11 +17,12 @@ cast-settle c =
     let (own, place, spaces, empty, few, long) = census .counted .ensures in
     fits-under _ _ 22 (omega (arith, own, long, row-within (request .of .result .node) rows)) _
 
-returns : tie.Need-returns
-returns c =
-    let settled = c .before .before in
-    let refused = settled .before .before in
-    let bytes = refused .before in
+-- what is known before it is judged
+known : (bytes : tie.After-bytes-for) → let own = bytes .before in let used = own .before .before in let request = used .before .before .before .before .before in
+    let a = request .before .before .before .args in
+    Asking (a .book) (a .time) (now (a .frame)) (request .of .result .node) (used .before .counted .result .own) (slotsOf (own .asks .result))
+    (ltb (used .before .counted .result .own) (used .in-use .result)) (bytes .bytes-for .result)
+known bytes =
     let own = bytes .before in
     let held = own .before in
     let used = held .before in
@@ -37,11 +33,16 @@ returns c =
     let (found, place, spaces, empty, few, long) = census .counted .ensures in
     let rows = take (a .book .plan .rows) (rowsOf (current .current .result)) in
     let slots = is-asked (a .book .plan .«data_slots») rows _ (slotsOf (held .slots-in .result)) _ _ (request .of .result .slots) spaces empty (own .asks .ensures) in
-    settled .settle .ensures ∙
-    asked (a .book) (a .time) (current .current .result) (current .current .ensures) (census .counted .result .own) (used .in-use .result) (used .in-use .ensures) long
-    (now (a .frame)) (now (a .out)) (slotsOf (own .asks .result)) (bytes .bytes-for .result) (refused .refusal .result) (bytes .bytes-for .ensures)
-    (request .of .result) (slotsOf (held .slots-in .result)) (request .of .ensures) found (held .slots-in .ensures) slots (refused .refusal .ensures)
+    asking (a .book) (a .time) (current .current .result) (current .current .ensures) (census .counted .result .own) (used .in-use .result) (used .in-use .ensures) long
+    (now (a .frame)) (slotsOf (own .asks .result)) (bytes .bytes-for .result) (bytes .bytes-for .ensures)
+    (request .of .result) (slotsOf (held .slots-in .result)) (request .of .ensures) found (held .slots-in .ensures) slots
+
+returns : tie.Need-returns
+returns c =
+    let settled = c .before .before in
+    let refused = settled .before .before in
+    settled .settle .ensures ∙ known (refused .before) .gives _ _ (refused .refusal .ensures)
 
 pub ask-spec : {M : Type 1} → statement M
 ask-spec =
-    tie.close (tie.spec (λ c κs. search needs) (λ c κs. search needs) (λ c κs. search needs) (λ c κs. search needs) (λ c κs. search needs) (λ c κs. search needs) (λ c κs. search needs) (λ c κs. search needs) cast-settle (λ c κs. search needs) (λ c. search needs) returns)
+    tie.close (tie.spec (λ c κs. search needs) (λ c κs. search needs) (λ c κs. search needs) (λ c κs. search needs) (λ c κs. search needs) (λ c κs. search needs) (λ c κs. search needs) (λ c κs. (known c .member, known c .long)) cast-settle (λ c κs. search needs) (λ c. search needs) returns)

@@ -1,10 +1,8 @@
 -- `asks`: the numbers of the definition, one after the other.
 -- Assumes nothing.
-use mathlib.Core.Path.{_∙_}
-use native.Mathlib.Omega.{arith}
+use Rattle.octets.proofs.Words.{_∙_, arith, needs, fits-under}
 use Rattle.slot_sets.specs.Sets.{slotsOf}
 use Rattle.slot_sets.proofs.CountLaws.{count-fits}
-use borrow.Author.Needs.{needs, fits-under}
 use Rattle.book_joins.proofs.asking.asks.Statement.{statement}
 use Rattle.book_joins.proofs.asking.asks.Tie as tie
 

@@ -1,8 +1,7 @@
 -- `refusal`: the first reason that holds.
 -- Assumes nothing.
-use mathlib.Core.Path.{ap, _∙_}
+use Rattle.octets.proofs.Words.{ap, _∙_, needs}
 use Rattle.frame_requests.specs.Requests.{slotRequestFrom}
-use borrow.Author.Needs.{needs}
 use Rattle.book_joins.proofs.asking.refusal.Statement.{statement}
 use Rattle.book_joins.proofs.asking.refusal.Tie as tie
 
@@ -20,8 +19,10 @@ returns c =
       first .refuse-if .ensures,
       c .before .within-rule .ensures,
       third .before .in-order .ensures,
-      request .before .slot-request .ensures,
+      request .before .refusal .ensures,
       ap slotRequestFrom (request .of .ensures),
+      request .before .before .before .pre .0,
+      request .before .before .before .pre .1,
     )
 
 pub refusal-spec : {M : Type 1} → statement M

@@ -1,12 +1,8 @@
 -- `granted`: the numbers of the definition, one after the other.
 -- Assumes nothing.
-use mathlib.Core.Path.{_∙_}
-use borrow.Author.Needs.{needs}
+use Rattle.octets.proofs.Words.{_∙_, needs}
 use Rattle.book_joins.proofs.joining.granted.Statement.{statement}
 use Rattle.book_joins.proofs.joining.granted.Tie as tie
 
-returns : tie.Need-returns
-returns c = c .lowest .ensures ∙ rw (c .before .fewer .ensures, c .before .before .wish .ensures, c .before .before .before .spare .ensures .0)
-
 pub granted-spec : {M : Type 1} → statement M
-granted-spec = tie.close (tie.spec (λ c κs. search needs) (λ c. search needs) (λ c κs. search needs) (λ c κs. search needs) (λ c κs. search needs) returns)
+granted-spec = tie.close (tie.spec (λ c κs. search needs) (λ c. search needs) (λ c κs. search needs) (λ c κs. search needs) (λ c κs. search needs) (λ c. c .lowest .ensures ∙ rw (c .before .fewer .ensures, c .before .before .wish .ensures, c .before .before .before .spare .ensures .0)))

@@ -1,8 +1,7 @@
 -- `refusal`: the first reason that holds.
 -- Assumes nothing.
-use mathlib.Core.Path.{ap, _∙_}
+use Rattle.octets.proofs.Words.{ap, _∙_, needs}
 use Rattle.frame_requests.specs.Requests.{joinRequestFrom}
-use borrow.Author.Needs.{needs}
 use Rattle.book_joins.proofs.joining.refusal.Statement.{statement}
 use Rattle.book_joins.proofs.joining.refusal.Tie as tie
 
@@ -21,8 +20,10 @@ returns c =
       second .before .refuse-if .ensures,
       c .before .within-rule .ensures,
       fourth .before .before .in-order .ensures,
-      request .before .join-request .ensures,
+      request .before .refusal .ensures,
       ap joinRequestFrom (request .of .ensures),
+      request .before .before .before .pre .0,
+      request .before .before .before .pre .1,
     )
 
 pub refusal-spec : {M : Type 1} → statement M

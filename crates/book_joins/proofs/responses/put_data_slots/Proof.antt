@@ -1,16 +1,8 @@
 -- `put_data_slots`'s loop: to store the frames that are left is to store them all.
 -- Assumes nothing.
-use mathlib.Core.Path.{_≡_, refl, sym, ap, _∙_}
-use mathlib.Core.Bool.{and-eq-true-iff}
-use Prim.Native.Nat.{_+_, _*_, _-_, _≤_, _<_}
-use native.Mathlib.Omega.{arith}
-use borrow.Author.Tests.{not-true, not-false, ltb-true}
-use lib.Dec.{ltb}
-use lib.ListN.{length}
-use lib.Seq.{sets}
+use Rattle.octets.proofs.Words.{_≡_, refl, sym, ap, _∙_, and-eq-true-iff, _+_, _*_, _-_, _≤_, _<_, arith, needs, fits-under, not-true, not-false, ltb-true, ltb, length, sets}
 use Rattle.slot_sets.specs.Sets.{slotsOf}
 use Rattle.book_joins.proofs.ResponseLaws.{left, left-all, left-over, left-told, later, none-later, passed-over, told}
-use borrow.Author.Needs.{needs, fits-under}
 use Rattle.book_joins.proofs.responses.put_data_slots.Statement.{statement}
 use Rattle.book_joins.proofs.responses.put_data_slots.Tie as tie
 

@@ -1,24 +1,19 @@
 -- `counted`'s loop goes down from the last row: what the rows from i on hold, how many are free, and where among them the unit and the lowest free row are.
 -- Assumes nothing.
-use mathlib.Core.Path.{_≡_, _∙_}
-use Prim.Native.Nat.{_+_}
-use native.Mathlib.Omega.{arith}
-use native.Mathlib.Nat.{zero-add}
-use lib.ListN.{length, take}
+use Rattle.octets.proofs.Words.{_≡_, _∙_, _+_, zero-add, arith, needs, fits-under, length, take}
 use Rattle.slot_sets.specs.Sets.{slotsOf}
-use Rattle.book_members.specs.Members.{rowsOf, rowFor, held}
+use Rattle.book_members.specs.Members.{rowsOf, placeFor, heldSlots}
 use Rattle.book_members.proofs.RowLoopLaws.{rows-length}
 use Rattle.book_members.proofs.CensusLaws.{from, Counted, counted-start, found-start, counted-fits, counted-turn, found-turn}
-use borrow.Author.Needs.{needs, fits-under}
 use Rattle.book_members.proofs.census.counted.Statement.{statement}
 use Rattle.book_members.proofs.census.counted.Tie as tie
 
 abbrev Inv-loop : tie.InvT-loop
-Inv-loop count data-slots unit rows used own₀ place₀ held₀ vacant₀ i₀ own place held vacant i =
-    Counted rows count i held vacant × (own ≡ i + rowFor unit (from rows count i)) × (place ≡ i + rowFor 0 (from rows count i))
+Inv-loop count data-slots unit rows used own₀ place₀ held₀ vacant₀ i₀ own place heldSlots vacant i =
+    Counted rows count i heldSlots vacant × (own ≡ i + placeFor unit (from rows count i)) × (place ≡ i + placeFor 0 (from rows count i))
 
 abbrev μ-loop : tie.MeasureT-loop
-μ-loop count data-slots unit rows used own₀ place₀ held₀ vacant₀ i₀ own place held vacant i = i
+μ-loop count data-slots unit rows used own₀ place₀ held₀ vacant₀ i₀ own place heldSlots vacant i = i
 
 loop-holds : tie.Need-loop-holds Inv-loop μ-loop
 loop-holds c =
@@ -41,8 +36,8 @@ loop-again c =
     let l = turn .before .loop in
     let more = turn .loop-test .taken in (
       counted-turn (l .inv .0) more _ (c .before .joined .ensures),
-      found-turn (l .inv .0) more _ _ _ (l .inv .1) (c .before .before .before .before .either .ensures),
-      found-turn (l .inv .0) more 0 _ _ (l .inv .2) (c .before .before .either2 .ensures),
+      found-turn (l .inv .0) more _ _ _ (l .inv .1) (c .before .before .before .before .either-size .ensures),
+      found-turn (l .inv .0) more 0 _ _ (l .inv .2) (c .before .before .either-size2 .ensures),
     )
 
 returns : tie.Need-returns Inv-loop μ-loop
@@ -52,7 +47,7 @@ returns c =
     let a = after .before .before .before .args in
     let k = l .inv .0 in
     let z : l .i ≡ 0 = omega arith in
-    let all : slotsOf (l .held) ≡ held (take (a .count) (rowsOf (a .t1))) = rw z at (k .holds) in (
+    let all : slotsOf (l .held) ≡ heldSlots (take (a .count) (rowsOf (a .t1))) = rw z at (k .holds) in (
       l .inv .1 ∙ rw z (zero-add _),
       l .inv .2 ∙ rw z (zero-add _),
       c .without .ensures ∙ rw (c .before .below .ensures, all),

@@ -1,13 +1,8 @@
 -- `current`'s loop changes each row but the first: what is done, with what is left to do, is the whole.
 -- Assumes nothing.
-use mathlib.Core.Path.{_≡_}
-use mathlib.Core.List.{_++_, map}
-use Prim.Native.Nat.{_-_, _≤_}
-use native.Mathlib.Omega.{arith}
-use lib.ListN.{length, length-set, take, drop}
+use Rattle.octets.proofs.Words.{_≡_, _++_, map, _-_, arith, needs, length, length-set, take, drop}
 use Rattle.book_members.specs.Members.{rowsOf, kept, current}
 use Rattle.book_members.proofs.RowLoopLaws.{current-start, current-turn, current-end}
-use borrow.Author.Needs.{needs}
 use Rattle.book_members.proofs.rows.current.Statement.{statement}
 use Rattle.book_members.proofs.rows.current.Tie as tie
 

@@ -1,12 +1,10 @@
 -- `kept`: the member as it was, or an empty row.
 -- Assumes nothing.
-use mathlib.Core.Path.{ap, _∙_}
-use native.Mathlib.Omega.{arith}
+use Rattle.octets.proofs.Words.{ap, _∙_, arith, needs}
 use Rattle.slot_sets.specs.Sets.{Slots}
 use Rattle.slot_sets.proofs.MaskLaws.{mask-nothing}
-use Rattle.book_members.specs.Members.{Row, rowOf}
+use Rattle.book_members.specs.Members.{rowOf, memberWith}
 use Rattle.book_members.proofs.RowLoopLaws.{live-kept, silent-dropped}
-use borrow.Author.Needs.{needs}
 use Rattle.book_members.proofs.rows.kept.Statement.{statement}
 use Rattle.book_members.proofs.rows.kept.Tie as tie
 
@@ -18,7 +16,7 @@ returns c =
 returns-2 : tie.Need-returns-2
 returns-2 c =
     let a = c .before .before .args in
-    ap (λ (s : Slots 64). record { unit = 0; slots = s; time = 0 }) mask-nothing ∙
+    ap (λ (s : Slots 64). memberWith 0 s 0) mask-nothing ∙
     silent-dropped (a .time) (rowOf (a .member)) (c .before .age .result) (c .before .age .ensures) (omega (arith, c .if1 .left))
 
 pub kept-spec : {M : Type 1} → statement M

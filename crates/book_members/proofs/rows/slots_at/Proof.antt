@@ -1,10 +1,7 @@
 -- `slots_at`: the slots of a row, or none.
 -- Assumes nothing.
-use native.Mathlib.Omega.{arith}
-use mathlib.Core.Path.{_≡_}
-use lib.ListN.{length}
+use Rattle.octets.proofs.Words.{_≡_, arith, needs, length}
 use Rattle.book_members.proofs.RowLoopLaws.{slots-of-row, slots-of-none}
-use borrow.Author.Needs.{needs}
 use Rattle.book_members.proofs.rows.slots_at.Statement.{statement}
 use Rattle.book_members.proofs.rows.slots_at.Tie as tie
 

@@ -1,15 +1,9 @@
 -- `with_row`: one row written, or none.
 -- Assumes nothing.
-use native.Mathlib.Omega.{arith}
-use mathlib.Core.Path.{_≡_}
-use lib.ListN.{length}
+use Rattle.octets.proofs.Words.{_≡_, arith, needs, length}
 use Rattle.book_members.proofs.RowLoopLaws.{row-written, row-unwritten}
-use borrow.Author.Needs.{needs}
 use Rattle.book_members.proofs.rows.with_row.Statement.{statement}
 use Rattle.book_members.proofs.rows.with_row.Tie as tie
-
-returns : tie.Need-returns
-returns c = row-written (c .before .args .rows) (c .before .args .at) (c .before .args .member)
 
 returns-2 : tie.Need-returns-2
 returns-2 c =
@@ -18,4 +12,4 @@ returns-2 c =
     row-unwritten (a .rows) (a .at) (a .member) (omega (arith, l, c .if1 .left))
 
 pub with-row-spec : {M : Type 1} → statement M
-with-row-spec = tie.close (tie.spec (λ c. search needs) (λ c. search needs) returns returns-2)
+with-row-spec = tie.close (tie.spec (λ c. search needs) (λ c. search needs) (λ c. row-written (c .before .args .rows) (c .before .args .at) (c .before .args .member)) returns-2)

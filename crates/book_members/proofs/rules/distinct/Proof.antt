@@ -1,9 +1,7 @@
 -- `distinct`'s loop: `Compared` holds before each turn, and each of the ways through it keeps it.
 -- Assumes nothing.
-use Prim.Native.Nat.{_-_, _*_}
-use native.Mathlib.Omega.{arith}
+use Rattle.octets.proofs.Words.{_-_, _*_, arith, needs, fits-under}
 use Rattle.book_members.proofs.DistinctLaws.{Compared, compared-start, compared-next, compared-there, compared-on, less-next, less-on, compared-stop, compared-end}
-use borrow.Author.Needs.{needs, fits-under}
 use Rattle.book_members.proofs.rules.distinct.Statement.{statement}
 use Rattle.book_members.proofs.rules.distinct.Tie as tie
 

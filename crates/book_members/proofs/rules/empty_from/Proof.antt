@@ -1,15 +1,10 @@
 -- `empty_from`'s loop: whether the rows from i on are zeros is whether all from the start on are.
 -- Assumes nothing.
-use mathlib.Core.Path.{_≡_, refl, sym, _∙_}
-use Prim.Native.Nat.{_-_}
-use native.Mathlib.Omega.{arith}
-use borrow.Author.Tests.{not-true, not-false}
-use lib.ListN.{length, drop}
+use Rattle.octets.proofs.Words.{_≡_, refl, sym, _∙_, _-_, needs, not-true, not-false, length, drop}
 use Rattle.octets.specs.Lists.{every}
 use Rattle.book_members.specs.Members.{rowsOf}
 use Rattle.book_members.specs.Rules.{emptyIs}
 use Rattle.book_members.proofs.RowLoopLaws.{empty-stop, empty-on, empty-end}
-use borrow.Author.Needs.{needs}
 use Rattle.book_members.proofs.rules.empty_from.Statement.{statement}
 use Rattle.book_members.proofs.rules.empty_from.Tie as tie
 

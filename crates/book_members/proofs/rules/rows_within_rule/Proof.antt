@@ -1,10 +1,8 @@
 -- `rows_within_rule`: the manager first, each row judged, no two of one unit, and room for the free ones.
 -- Assumes nothing.
-use mathlib.Core.Path.{_≡_, ap, _∙_}
-use lib.ListN.{length}
+use Rattle.octets.proofs.Words.{_≡_, ap, _∙_, needs, length}
 use Rattle.slot_sets.specs.Sets.{count}
 use Rattle.book_members.proofs.RowLoopLaws.{rows-ruled}
-use borrow.Author.Needs.{needs}
 use Rattle.book_members.proofs.rules.rows_within_rule.Statement.{statement}
 use Rattle.book_members.proofs.rules.rows_within_rule.Tie as tie
 

@@ -1,10 +1,9 @@
 -- `braidlark_book_fresh`: the book of a stored plan, over as many bytes as it has.
 -- Assumes nothing.
-use mathlib.Core.Path.{ap, _∙_}
-use Rattle.book.specs.Books.{leftBy, freshOf}
+use Rattle.octets.proofs.Words.{ap, _∙_, needs}
+use Rattle.book.specs.Books.{changeOf, freshOf}
 use Rattle.c_book.specs.BookCalls.{leaves, freshCall}
 use Rattle.c_book.proofs.BookCallLaws.{opened}
-use borrow.Author.Needs.{needs}
 use Rattle.c_book.proofs.book_calls.braidlark_book_fresh.Statement.{statement}
 use Rattle.c_book.proofs.book_calls.braidlark_book_fresh.Tie as tie
 
@@ -15,7 +14,7 @@ returns c =
     let refuse = k .before .before in
     let call = refuse .before .before in
     let a = call .before .before .before .before .args in
-    k .keep .ensures ∙ ap (leaves (a .book .now)) (opened (a .plan .now) (leftBy (call .fresh .result)) _ _
+    k .keep .ensures ∙ ap (leaves (a .book .now)) (opened (a .plan .now) (changeOf (call .fresh .result)) _ _
     (call .fresh .ensures ∙ ap (λ p. freshOf p (a .time)) (call .before .plan-of .ensures)) (refuse .refuse-if .ensures))
 
 pub braidlark-book-fresh-spec : {M : Type 1} → statement M

@@ -1,9 +1,8 @@
 -- `braidlark_heard`: a live member's time renewed in the stored book.
 -- Assumes nothing.
-use mathlib.Core.Path.{ap, _∙_}
+use Rattle.octets.proofs.Words.{ap, _∙_, needs}
 use Rattle.book.specs.Books.{heardOf}
 use Rattle.c_book.specs.BookCalls.{leaves, heardCall}
-use borrow.Author.Needs.{needs}
 use Rattle.c_book.proofs.book_calls.braidlark_heard.Statement.{statement}
 use Rattle.c_book.proofs.book_calls.braidlark_heard.Tie as tie
 

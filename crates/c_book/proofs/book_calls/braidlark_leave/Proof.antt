@@ -1,9 +1,8 @@
 -- `braidlark_leave`: a live member gone from the stored book.
 -- Assumes nothing.
-use mathlib.Core.Path.{ap, _∙_}
+use Rattle.octets.proofs.Words.{ap, _∙_, needs}
 use Rattle.book.specs.Books.{leaveOf}
 use Rattle.c_book.specs.BookCalls.{leaves, leaveCall}
-use borrow.Author.Needs.{needs}
 use Rattle.c_book.proofs.book_calls.braidlark_leave.Statement.{statement}
 use Rattle.c_book.proofs.book_calls.braidlark_leave.Tie as tie
 

@@ -1,14 +1,11 @@
 -- `braidlark_schedule`: bytes that are no book's, the schedule that was written, or why none was.
 -- Assumes nothing.
-use mathlib.Core.Path.{_≡_, sym, ap, _∙_}
-use native.Mathlib.Omega.{arith}
-use denote.Ref.{now}
+use Rattle.octets.proofs.Words.{_≡_, sym, ap, _∙_, arith, needs, now}
 use Rattle.octets.specs.Told.{wrote}
 use Rattle.book.specs.Schedules.{scheduleOf}
 use Rattle.book_bytes.specs.BookBytes.{bookIn}
 use Rattle.c_book.specs.BookCalls.{scheduleCall}
 use Rattle.c_book.proofs.BookCallLaws.{schedule-answered, schedule-size, no-book, filled, unfilled}
-use borrow.Author.Needs.{needs}
 use Rattle.c_book.proofs.book_calls.braidlark_schedule.Statement.{statement}
 use Rattle.c_book.proofs.book_calls.braidlark_schedule.Tie as tie
 
@@ -51,5 +48,4 @@ returns-3 c =
 
 pub braidlark-schedule-spec : {M : Type 1} → statement M
 braidlark-schedule-spec =
-    tie.close
-    (tie.spec returns (λ c κs. search needs) (λ c κs. search needs) (λ c. search needs) cast-written (λ c. search needs) (λ c. search needs) returns-2 (λ c. search needs) returns-3)
+    tie.close (tie.spec returns (λ c κs. search needs) (λ c κs. search needs) (λ c. search needs) cast-written (λ c. search needs) (λ c. search needs) returns-2 (λ c. search needs) returns-3)

@@ -1,14 +1,11 @@
 -- `braidlark_image`: bytes that are no book's, the image that was written, or why none was.
 -- Assumes nothing.
-use mathlib.Core.Path.{_≡_, sym, ap, _∙_}
-use native.Mathlib.Omega.{arith}
-use denote.Ref.{now}
+use Rattle.octets.proofs.Words.{_≡_, sym, ap, _∙_, arith, needs, now}
 use Rattle.octets.specs.Told.{wrote}
 use Rattle.book_image.specs.Images.{imageWritten}
 use Rattle.book_bytes.specs.BookBytes.{bookIn}
 use Rattle.c_book.specs.BookCalls.{imageCall}
 use Rattle.c_book.proofs.BookCallLaws.{image-answered, image-size, no-book, filled, unfilled}
-use borrow.Author.Needs.{needs}
 use Rattle.c_book.proofs.image_calls.braidlark_image.Statement.{statement}
 use Rattle.c_book.proofs.image_calls.braidlark_image.Tie as tie
 

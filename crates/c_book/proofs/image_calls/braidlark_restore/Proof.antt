@@ -1,8 +1,7 @@
 -- `braidlark_restore`: the book of an image, over as many bytes as it has.
 -- Assumes nothing.
-use mathlib.Core.Path.{ap, _∙_}
+use Rattle.octets.proofs.Words.{ap, _∙_, needs}
 use Rattle.c_book.specs.BookCalls.{leaves, restoreCall}
-use borrow.Author.Needs.{needs}
 use Rattle.c_book.proofs.image_calls.braidlark_restore.Statement.{statement}
 use Rattle.c_book.proofs.image_calls.braidlark_restore.Tie as tie
 

@@ -1,9 +1,7 @@
 -- `braidlark_plan_numbers`: why the numbers are not told, or the numbers.
 -- Assumes nothing.
-use mathlib.Core.Path.{_≡_}
-use denote.Ref.{now}
+use Rattle.octets.proofs.Words.{_≡_, needs, now}
 use Rattle.c_book.proofs.PlanCallLaws.{numbersStatus, numbers-status, not-told, all-told, places}
-use borrow.Author.Needs.{needs}
 use Rattle.c_book.proofs.plan_calls.braidlark_plan_numbers.Statement.{statement}
 use Rattle.c_book.proofs.plan_calls.braidlark_plan_numbers.Tie as tie
 
@@ -17,9 +15,6 @@ number d =
     let a = held .before .before .before .args in
     numbers-status (now (a .plan)) (now (a .numbers)) (held .plan-of .result) (ruled .before .within-rule .result) (few .refuse-if .result) (ruled .refuse-if2 .result) (d .refuse-if3 .result)
     (held .plan-of .ensures) (ruled .before .within-rule .ensures) (few .refuse-if .ensures) (ruled .refuse-if2 .ensures) (d .refuse-if3 .ensures)
-
-returns : tie.Need-returns
-returns c = not-told _ _ _ (number (c .before)) (c .if1 .taken)
 
 put-numbers-requires : tie.Need-put-numbers-requires
 put-numbers-requires c κs =
@@ -36,5 +31,4 @@ returns-2 c =
 
 pub braidlark-plan-numbers-spec : {M : Type 1} → statement M
 braidlark-plan-numbers-spec =
-    tie.close
-    (tie.spec (λ c κs. search needs) (λ c κs. search needs) (λ c κs. search needs) (λ c κs. search needs) (λ c κs. search needs) returns put-numbers-requires (λ c. search needs) returns-2)
+    tie.close (tie.spec (λ c κs. search needs) (λ c κs. search needs) (λ c κs. search needs) (λ c κs. search needs) (λ c κs. search needs) (λ c. not-told _ _ _ (number (c .before)) (c .if1 .taken)) put-numbers-requires (λ c. search needs) returns-2)

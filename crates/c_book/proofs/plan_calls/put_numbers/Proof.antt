@@ -1,11 +1,7 @@
 -- `put_numbers`: seven places, one after the other.
 -- Assumes nothing.
-use Prim.Native.Nat.{_≤_}
-use native.Mathlib.Omega.{arith}
-use lib.ListN.{length, length-set}
-use denote.Ref.{now}
+use Rattle.octets.proofs.Words.{_≤_, arith, needs, length, length-set, now}
 use Rattle.c_book.proofs.PlanCallLaws.{numbers-put}
-use borrow.Author.Needs.{needs}
 use Rattle.c_book.proofs.plan_calls.put_numbers.Statement.{statement}
 use Rattle.c_book.proofs.plan_calls.put_numbers.Tie as tie
 
@@ -26,7 +22,4 @@ returns c =
 
 pub put-numbers-spec : {M : Type 1} → statement M
 put-numbers-spec =
-    tie.close
-    (tie.spec (λ c κs. search needs) (λ c. search needs) (λ c κs. search needs) (λ c κs. search needs) (λ c κs. search needs) (λ c. search needs) (λ c κs. search needs) (λ c. search needs) (λ c κs. search needs) (λ c. search needs) (λ c κs. search needs) (λ c. search needs) (λ c. search needs)
-    (λ c. simp length-set (omega (arith, room c))) (λ c. simp length-set (omega (arith, room c))) (λ c. simp length-set (omega (arith, room c))) (λ c. simp length-set (omega (arith, room c))) (λ c. simp length-set (omega (arith, room c))) (λ c. simp length-set (room c))
-    (λ c. search needs) returns)
+    tie.close (tie.spec (λ c κs. search needs) (λ c. search needs) (λ c κs. search needs) (λ c κs. search needs) (λ c κs. search needs) (λ c. search needs) (λ c κs. search needs) (λ c. search needs) (λ c κs. search needs) (λ c. search needs) (λ c κs. search needs) (λ c. search needs) (λ c. search needs) (λ c. simp length-set (omega (arith, room c))) (λ c. simp length-set (omega (arith, room c))) (λ c. simp length-set (omega (arith, room c))) (λ c. simp length-set (omega (arith, room c))) (λ c. simp length-set (omega (arith, room c))) (λ c. simp length-set (room c)) (λ c. search needs) returns)

@@ -1,11 +1,9 @@
 -- `braidlark_entry`: an entry with room for it or without, the end, or why the bytes are no update.
 -- Assumes nothing.
-use native.Mathlib.Omega.{arith}
-use mathlib.Core.Path.{sym, ap, _∙_}
+use Rattle.octets.proofs.Words.{sym, ap, _∙_, arith, needs}
 use Rattle.frame_entries.proofs.WalkLaws.{next-few}
 use Rattle.frame_entries.specs.Walks.{toldWalked}
 use Rattle.c_frames.proofs.EntryCallLaws.{entry-short, entry-met, entry-end, entry-refused}
-use borrow.Author.Needs.{needs}
 use Rattle.c_frames.proofs.entry_calls.braidlark_entry.Statement.{statement}
 use Rattle.c_frames.proofs.entry_calls.braidlark_entry.Tie as tie
 

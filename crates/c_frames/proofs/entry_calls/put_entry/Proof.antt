@@ -1,8 +1,6 @@
 -- `put_entry`: five places, one after the other.
 -- Assumes nothing.
-use Prim.Native.Nat.{ℕ, _≤_}
-use native.Mathlib.Omega.{arith}
-use borrow.Author.Needs.{needs}
+use Rattle.octets.proofs.Words.{ℕ, _≤_, arith, needs}
 use Rattle.c_frames.proofs.entry_calls.put_entry.Statement.{statement}
 use Rattle.c_frames.proofs.entry_calls.put_entry.Tie as tie
 

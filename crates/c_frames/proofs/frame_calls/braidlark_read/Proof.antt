@@ -1,16 +1,11 @@
 -- `braidlark_read`: what `show` refuses, or the place behind the fields that it showed.
 -- Assumes nothing.
-use mathlib.Core.Path.{_≡_, sym, ap, _∙_}
-use Prim.Native.Nat.{_≤_, _<_}
-use native.Mathlib.Omega.{arith}
-use denote.Ref.{now}
-use lib.ListN.{length}
+use Rattle.octets.proofs.Words.{_≡_, sym, ap, _∙_, _≤_, _<_, arith, needs, length, now}
 use Rattle.frames.specs.Layout.{layoutOf}
 use Rattle.frames.proofs.LayoutLaws.{laid-out}
 use Rattle.frames.proofs.TripLaws.{read-size}
 use Rattle.c_frames.specs.FrameCalls.{placeIn}
 use Rattle.c_frames.proofs.FrameCallLaws.{unread, read-left, shown-read}
-use borrow.Author.Needs.{needs}
 use Rattle.c_frames.proofs.frame_calls.braidlark_read.Statement.{statement}
 use Rattle.c_frames.proofs.frame_calls.braidlark_read.Tie as tie
 
@@ -32,15 +27,6 @@ size d =
     let z = read-size s (shown-read s _ (sym (h .ensures .0) ∙ d .before .before .if1 .left)) in
     (z .0, rw (place d) (z .1))
 
-sub-part-length : tie.Need-sub-part-length
-sub-part-length c = omega (arith, size c)
-
-sub-part-length-2 : tie.Need-sub-part-length-2
-sub-part-length-2 c = omega (arith, size c)
-
-cast-part-length-2 : tie.Need-cast-part-length-2
-cast-part-length-2 c = omega (arith, size c)
-
 returns-2 : tie.Need-returns-2
 returns-2 c =
     let a = c .before .before .before .before .before .before .before .before .before .args in
@@ -49,4 +35,4 @@ returns-2 c =
 
 pub braidlark-read-spec : {M : Type 1} → statement M
 braidlark-read-spec =
-    tie.close (tie.spec (λ c κs. search needs) (λ c. search needs) returns (λ c κs. search needs) (λ c κs. search needs) (λ c. search needs) sub-part-length (λ c. search needs) sub-part-length-2 cast-part-length-2 (λ c. search needs) returns-2)
+    tie.close (tie.spec (λ c κs. search needs) (λ c. search needs) returns (λ c κs. search needs) (λ c κs. search needs) (λ c. search needs) (λ c. omega (arith, size c)) (λ c. search needs) (λ c. omega (arith, size c)) (λ c. omega (arith, size c)) (λ c. search needs) returns-2)

@@ -1,11 +1,9 @@
 -- `braidlark_write`: what the writer answers.
 -- Assumes nothing.
-use native.Mathlib.Omega.{arith}
-use mathlib.Core.Path.{sym, ap, _∙_}
+use Rattle.octets.proofs.Words.{sym, ap, _∙_, arith, needs}
 use Rattle.octets.specs.declared.answers.Written.{Written}
 use Rattle.octets.specs.Told.{wrote}
 use Rattle.c_frames.proofs.FrameCallLaws.{written-short, done, undone}
-use borrow.Author.Needs.{needs}
 use Rattle.c_frames.proofs.frame_calls.braidlark_write.Statement.{statement}
 use Rattle.c_frames.proofs.frame_calls.braidlark_write.Tie as tie
 

@@ -1,12 +1,10 @@
 -- `braidlark_slot_request`: bytes that are no book's, or what a request for slots gives.
 -- Assumes nothing.
-use mathlib.Core.Path.{_≡_, ap, _∙_}
-use denote.Ref.{now}
+use Rattle.octets.proofs.Words.{_≡_, ap, _∙_, needs, now}
 use Rattle.book_joins.specs.Joins.{answeredBy, askOf}
 use Rattle.book_bytes.specs.BookBytes.{bookIn}
 use Rattle.c_requests.specs.RequestCalls.{slotRequestCall}
 use Rattle.c_requests.proofs.RequestCallLaws.{ask-short, no-book, few-written, settled}
-use borrow.Author.Needs.{needs}
 use Rattle.c_requests.proofs.request_calls.braidlark_slot_request.Statement.{statement}
 use Rattle.c_requests.proofs.request_calls.braidlark_slot_request.Tie as tie
 
@@ -24,9 +22,6 @@ told d =
     let a = d .before .before .before .before .before .before .before .before .args in
     d .ask .ensures ∙ ap (λ b. askOf b (a .frame .now) (a .time) (a .out .now)) (d .before .before .book-of .ensures)
 
-settle-requires : tie.Need-settle-requires
-settle-requires c κs = few-written _ _ (ask-short _ _ _ _) _ _ (told (c .before .before .before .before))
-
 returns-2 : tie.Need-returns-2
 unfolding slotRequestCall
 returns-2 c =
@@ -38,4 +33,4 @@ returns-2 c =
 
 pub braidlark-slot-request-spec : {M : Type 1} → statement M
 braidlark-slot-request-spec =
-    tie.close (tie.spec returns (λ c κs. search needs) (λ c κs. search needs) settle-requires (λ c. search needs) (λ c. search needs) returns-2)
+    tie.close (tie.spec returns (λ c κs. search needs) (λ c κs. search needs) (λ c κs. few-written _ _ (ask-short _ _ _ _) _ _ (told (c .before .before .before .before))) (λ c. search needs) (λ c. search needs) returns-2)

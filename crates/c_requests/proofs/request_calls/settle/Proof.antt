@@ -1,8 +1,7 @@
 -- `settle`: the book that was granted, or why none is.
 -- Assumes nothing.
-use mathlib.Core.Path.{sym, _∙_}
+use Rattle.octets.proofs.Words.{sym, _∙_, needs}
 use Rattle.octets.proofs.CallLaws.{after-accepted, after-refused}
-use borrow.Author.Needs.{needs}
 use Rattle.c_requests.proofs.request_calls.settle.Statement.{statement}
 use Rattle.c_requests.proofs.request_calls.settle.Tie as tie
 

@@ -5,9 +5,6 @@ use borrow.Author.Needs.{needs}
 use Rattle.c_routes.proofs.table_calls.braidlark_forget.Statement.{statement}
 use Rattle.c_routes.proofs.table_calls.braidlark_forget.Tie as tie
 
-returns : tie.Need-returns
-unfolding forgetCall
-returns c = c .before .before .forget .ensures
-
 pub braidlark-forget-spec : {M : Type 1} → statement M
-braidlark-forget-spec = tie.close (tie.spec (λ c κs. search needs) (λ c. search needs) returns)
+unfolding forgetCall
+braidlark-forget-spec = tie.close (tie.spec (λ c κs. search needs) (λ c. search needs) (λ c. c .before .before .forget .ensures))

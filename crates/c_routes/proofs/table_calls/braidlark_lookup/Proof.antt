@@ -7,15 +7,15 @@ use Rattle.c_routes.proofs.table_calls.braidlark_lookup.Tie as tie
 
 returns : tie.Need-returns
 returns c =
-    let d = c .before .before .before in
+    let d = c .before .before in
     let a = d .before .before .args in
-    hop-found (a .table .now) (a .destination) (a .time) _ _ (d .lookup .result) (d .lookup .ensures) (c .before .hop .given .0 .0) (c .before .hop .given .1)
+    none-found (a .destination) (a .time) _ _ (a .table .now) (d .lookup .result) (d .lookup .ensures) (c .if1 .taken)
 
 returns-2 : tie.Need-returns-2
 returns-2 c =
-    let d = c .before .before .before in
+    let d = c .before .before in
     let a = d .before .before .args in
-    none-found (a .table .now) (a .destination) (a .time) _ _ (d .lookup .result) (d .lookup .ensures) (c .before .refusal .given .0 .0) (c .before .refusal .given .1)
+    hop-found (a .destination) (a .time) _ _ (a .table .now) (d .lookup .result) (d .lookup .ensures) (c .if1 .left)
 
 pub braidlark-lookup-spec : {M : Type 1} → statement M
-braidlark-lookup-spec = tie.close (tie.spec (λ c κs. search needs) (λ c. search needs) (λ c. search needs) returns returns-2)
+braidlark-lookup-spec = tie.close (tie.spec (λ c κs. search needs) returns returns-2)

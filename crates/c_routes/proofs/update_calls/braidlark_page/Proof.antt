@@ -1,8 +1,7 @@
 -- `braidlark_page`: the page that was written, or why none was.
 -- Assumes nothing.
-use native.Mathlib.Omega.{arith}
+use Rattle.octets.proofs.Words.{arith, needs}
 use Rattle.c_routes.proofs.UpdateCallLaws.{page-size, page-done, page-undone}
-use borrow.Author.Needs.{needs}
 use Rattle.c_routes.proofs.update_calls.braidlark_page.Statement.{statement}
 use Rattle.c_routes.proofs.update_calls.braidlark_page.Tie as tie
 

@@ -1,7 +1,6 @@
 -- `braidlark_clock_step`: what is left is what the step gives.
 -- Assumes nothing.
-use borrow.Author.Needs.{needs}
-use denote.Ref.{now}
+use Rattle.octets.proofs.Words.{needs, now}
 use Rattle.c_unit.proofs.ClockCallLaws.{stepped-left}
 use Rattle.c_unit.proofs.clock_calls.braidlark_clock_step.Statement.{statement}
 use Rattle.c_unit.proofs.clock_calls.braidlark_clock_step.Tie as tie

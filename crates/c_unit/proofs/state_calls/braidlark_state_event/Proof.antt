@@ -1,7 +1,6 @@
 -- `braidlark_state_event`: the event of the state in the buffer, kept.
 -- Assumes nothing.
-use borrow.Author.Needs.{needs}
-use mathlib.Core.Path.{_∙_}
+use Rattle.octets.proofs.Words.{_∙_, needs}
 use Rattle.c_unit.specs.StateCalls.{eventCall}
 use Rattle.c_unit.proofs.state_calls.braidlark_state_event.Statement.{statement}
 use Rattle.c_unit.proofs.state_calls.braidlark_state_event.Tie as tie

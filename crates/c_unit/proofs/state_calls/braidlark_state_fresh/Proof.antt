@@ -1,7 +1,6 @@
 -- `braidlark_state_fresh`: a fresh state, kept.
 -- Assumes nothing.
-use borrow.Author.Needs.{needs}
-use mathlib.Core.Path.{_∙_}
+use Rattle.octets.proofs.Words.{_∙_, needs}
 use Rattle.c_unit.specs.StateCalls.{freshCall}
 use Rattle.c_unit.proofs.state_calls.braidlark_state_fresh.Statement.{statement}
 use Rattle.c_unit.proofs.state_calls.braidlark_state_fresh.Tie as tie

@@ -1,7 +1,6 @@
 -- `braidlark_state_tick`: the tick of the state in the buffer, kept.
 -- Assumes nothing.
-use borrow.Author.Needs.{needs}
-use mathlib.Core.Path.{_∙_}
+use Rattle.octets.proofs.Words.{_∙_, needs}
 use Rattle.c_unit.specs.StateCalls.{tickCall}
 use Rattle.c_unit.proofs.state_calls.braidlark_state_tick.Statement.{statement}
 use Rattle.c_unit.proofs.state_calls.braidlark_state_tick.Tie as tie

@@ -1,24 +1,11 @@
 -- `number`: each width has its reader.
 -- Assumes nothing.
-use mathlib.Core.Path.{sym, ap, _∙_}
-use Prim.Native.Nat.{ℕ}
-use borrow.Author.Tests.{ne-eqb}
-use denote.Ref.{now}
+use Rattle.octets.proofs.Words.{sym, ap, _∙_, ℕ, needs, ne-eqb, now}
 use Rattle.octets.specs.Numbers.{num}
 use Rattle.frame_reading.specs.Seen.{seenWidth}
-use borrow.Author.Needs.{needs}
 use Rattle.frame_reading.proofs.numbers.number.Statement.{statement}
 use Rattle.frame_reading.proofs.numbers.number.Tie as tie
 
-returns : tie.Need-returns
-returns c = c .number8 .ensures ∙ sym (ap (λ (w : ℕ). num (seenWidth w) (now (c .before .before .before .args .s)) (c .before .before .before .args .at)) (c .before .match .keys1))
-
-returns-2 : tie.Need-returns-2
-returns-2 c = c .number16 .ensures ∙ sym (ap (λ (w : ℕ). num (seenWidth w) (now (c .before .before .before .args .s)) (c .before .before .before .args .at)) (c .before .match .keys2))
-
-returns-3 : tie.Need-returns-3
-returns-3 c = c .number32 .ensures ∙ simp (ne-eqb _ _ (c .before .match .rest .0 .1), ne-eqb _ _ (c .before .match .rest .1))
-
 pub number-spec : {M : Type 1} → statement M
 number-spec =
-    tie.close (tie.spec (λ c κs. search needs) (λ c. search needs) (λ c κs. search needs) (λ c. search needs) (λ c κs. search needs) returns returns-2 returns-3)
+    tie.close (tie.spec (λ c κs. search needs) (λ c. search needs) (λ c κs. search needs) (λ c. search needs) (λ c κs. search needs) (λ c. c .number8 .ensures ∙ sym (ap (λ (w : ℕ). num (seenWidth w) (now (c .before .before .before .args .s)) (c .before .before .before .args .at)) (c .before .match .keys1))) (λ c. c .number16 .ensures ∙ sym (ap (λ (w : ℕ). num (seenWidth w) (now (c .before .before .before .args .s)) (c .before .before .before .args .at)) (c .before .match .keys2))) (λ c. c .number32 .ensures ∙ simp (ne-eqb _ _ (c .before .match .rest .0 .1), ne-eqb _ _ (c .before .match .rest .1))))

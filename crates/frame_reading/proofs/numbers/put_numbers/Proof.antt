@@ -1,13 +1,8 @@
 -- `put_numbers`'s loop: to store the numbers that are left is to store them all.
 -- Assumes nothing.
-use mathlib.Core.Path.{_≡_, refl, sym, _∙_}
-use Prim.Native.Nat.{_*_, _≤_, _<_, _-_}
-use native.Mathlib.Omega.{arith}
-use lib.ListN.{length, drop, length-set, drop-of-length-le}
-use lib.Seq.{sets}
+use Rattle.octets.proofs.Words.{_≡_, refl, sym, _∙_, _*_, _≤_, _<_, _-_, arith, needs, length, drop, length-set, drop-of-length-le, sets}
 use Rattle.frame_reading.specs.Seen.{seenFields}
 use Rattle.frame_reading.proofs.ShowLaws.{seen-turn}
-use borrow.Author.Needs.{needs}
 use Rattle.frame_reading.proofs.numbers.put_numbers.Statement.{statement}
 use Rattle.frame_reading.proofs.numbers.put_numbers.Tie as tie
 

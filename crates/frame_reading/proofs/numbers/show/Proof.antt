@@ -1,61 +1,44 @@
 -- `show`: what reading refuses, then a short buffer; else the numbers where the layout says.
 -- Assumes nothing.
-use mathlib.Core.List.{List}
-use Prim.Native.Nat.{ℕ}
-use native.Mathlib.Omega.{arith}
-use denote.Ref.{now}
-use lib.ListN.{length}
-use lib.Seq.{sets}
+use Rattle.octets.proofs.Words.{_≡_, sym, ap, _∙_, List, ℕ, arith, needs, length, sets, now}
 use Rattle.octets.specs.Numbers.{num}
 use Rattle.octets.proofs.LayoutLaws.{length-fields}
 use Rattle.frames.specs.Layout.{widthsOf, layoutOf}
 use Rattle.frames.specs.Frames.{readFrame}
-use Rattle.frames.proofs.LayoutLaws.{Laid, laid-out}
+use Rattle.frames.proofs.LayoutLaws.{Laid, laid-out, laid-count}
 use Rattle.frames.proofs.TripLaws.{values-read}
 use Rattle.frame_reading.specs.Seen.{seenFields}
-use mathlib.Core.Path.{_≡_, sym, ap, _∙_}
-use Rattle.octets.specs.Answers.{Said}
 use Rattle.frame_reading.proofs.ShowLaws.{refused-shown, short-shown, whole-shown, seen-fields}
-use borrow.Author.Needs.{needs}
 use Rattle.frame_reading.proofs.numbers.show.Statement.{statement}
 use Rattle.frame_reading.proofs.numbers.show.Tie as tie
 
 returns : tie.Need-returns
 returns c =
-    let a = c .before .before .before .before .before .args in
-    refused-shown (a .s .now) (a .out .now) (c .before .number .result) (c .before .number .ensures ∙ ap (λ (r : Said). r .refusal) (c .before .before .read .ensures)) (c .if1 .taken)
+    let a = c .before .before .before .before .args in
+    refused-shown (a .s .now) (a .out .now) (c .before .refusal .result) (c .before .refusal .ensures) (c .if1 .taken)
 
 -- the layout of the frame's type
-here : (c : tie.After-layout-of) → Laid (c .layout-of .result) (widthsOf (num 1 (now (c .before .before .before .before .before .before .before .args .s)) 0))
+here : (c : tie.After-layout-of) → Laid (c .layout-of .result) (widthsOf (num 1 (now (c .before .before .before .before .before .before .args .s)) 0))
 here c = laid-out (c .layout-of .result) _ (c .layout-of .ensures ∙ ap layoutOf (c .before .number8 .ensures))
 
-unrefused : (c : tie.After-layout-of) → readFrame (now (c .before .before .before .before .before .before .before .args .s)) .refusal ≡ 0
-unrefused c = sym (c .before .before .before .number .ensures ∙ ap (λ (r : Said). r .refusal) (c .before .before .before .before .read .ensures)) ∙ c .before .before .if1 .left
+unrefused : (c : tie.After-layout-of) → readFrame (now (c .before .before .before .before .before .before .args .s)) .refusal ≡ 0
+unrefused c = sym (c .before .before .before .refusal .ensures) ∙ c .before .before .if1 .left
 
-values-length : (c : tie.After-layout-of) → length (readFrame (now (c .before .before .before .before .before .before .before .args .s)) .values) ≡ c .layout-of .result .count
+values-length : (c : tie.After-layout-of) → length (readFrame (now (c .before .before .before .before .before .before .args .s)) .values) ≡ c .layout-of .result .count
 values-length c =
-    let s = now (c .before .before .before .before .before .before .before .args .s) in
+    let s = now (c .before .before .before .before .before .before .args .s) in
     ap length (values-read s (unrefused c)) ∙ (length-fields (widthsOf (num 1 s 0)) s 0 ∙ sym (here c .counted))
 
 returns-2 : tie.Need-returns-2
 returns-2 c =
     let d = c .before .before .before in
-    let a = c .before .before .before .before .before .before .before .before .before .before .args in
+    let a = c .before .before .before .before .before .before .before .before .before .args in
     short-shown (a .s .now) (a .out .now) (unrefused d) (omega (arith, values-length d))
-
-array-share-prefix-widths : tie.Need-array-share-prefix-widths
-array-share-prefix-widths c = here (c .before .before .before) .within
-
-slice-aggregate-put-numbers : tie.Need-slice-aggregate-put-numbers
-slice-aggregate-put-numbers c = let l = here (c .before .before .before .before) in l .counted ∙ sym (ap length (l .firsts))
-
-put-numbers-requires : tie.Need-put-numbers-requires
-put-numbers-requires c κs = let l = here (c .before .before .before .before .before) in let e = ap length (l .firsts) in (omega (arith, l, e), omega (arith, l, e))
 
 returns-3 : tie.Need-returns-3
 returns-3 c =
     let d = c .before .before .before .before .before .before .before .before in
-    let a = c .before .before .before .before .before .before .before .before .before .before .before .before .before .before .before .args in
+    let a = c .before .before .before .before .before .before .before .before .before .before .before .before .before .before .args in
     let t = num 1 (a .s .now) 0 in
     whole-shown (a .s .now) (a .out .now) (unrefused d) _ (omega (arith, values-length d))
     (c .before .before .put-numbers .ensures ∙
@@ -64,4 +47,4 @@ returns-3 c =
 
 pub show-spec : {M : Type 1} → statement M
 show-spec =
-    tie.close (tie.spec (λ c κs. search needs) (λ c κs. search needs) returns (λ c κs. search needs) (λ c κs. search needs) (λ c. search needs) returns-2 array-share-prefix-widths slice-aggregate-put-numbers put-numbers-requires (λ c. search needs) returns-3)
+    tie.close (tie.spec (λ c κs. search needs) returns (λ c κs. search needs) (λ c κs. search needs) (λ c. search needs) returns-2 (λ c. here (c .before .before .before) .within) (λ c. laid-count (here (c .before .before .before .before))) (λ c κs. let l = here (c .before .before .before .before .before) in let e = ap length (l .firsts) in (omega (arith, l, e), omega (arith, l, e))) (λ c. search needs) returns-3)

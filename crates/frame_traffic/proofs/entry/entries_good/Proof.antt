@@ -1,12 +1,9 @@
 -- `entries_good`'s loop: whether the entries passed keep their rules.
 -- Assumes nothing.
-use mathlib.Core.Path.{_≡_, refl}
-use Prim.Native.Nat.{_≤_, _-_}
-use native.Mathlib.Omega.{arith}
+use Rattle.octets.proofs.Words.{_≡_, refl, _≤_, _-_, arith, needs}
 use Rattle.octets.specs.Lists.{every, tab}
 use Rattle.octets.proofs.ListLaws.{tab-snoc, every-snoc}
 use Rattle.frame_traffic.specs.Traffic.{entryRule, entryAt, entriesOf}
-use borrow.Author.Needs.{needs}
 use Rattle.frame_traffic.proofs.entry.entries_good.Statement.{statement}
 use Rattle.frame_traffic.proofs.entry.entries_good.Tie as tie
 

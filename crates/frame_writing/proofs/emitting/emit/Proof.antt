@@ -1,15 +1,8 @@
 -- `emit`: nothing is written where a reason holds, else the whole frame.
 -- Assumes nothing.
-use Prim.Native.Nat.{ℕ}
-use mathlib.Core.List.{List}
-use lib.Seq.{sets}
-use mathlib.Core.Path.{sym, ap, _∙_}
-use Prim.Native.Nat.{_+_}
-use native.Mathlib.Omega.{arith}
-use lib.ListN.{length, length-set}
+use Rattle.octets.proofs.Words.{sym, ap, _∙_, List, ℕ, _+_, arith, needs, length, length-set, sets}
 use Rattle.frame_kinds.proofs.WritingLaws.{put}
-use Rattle.frame_writing.proofs.WritingLaws.{frame-length, unwritten, stored, sealed-stored}
-use borrow.Author.Needs.{needs}
+use Rattle.frame_kinds.proofs.StoredLaws.{frame-length, unwritten, stored, sealed-stored}
 use Rattle.frame_writing.proofs.emitting.emit.Statement.{statement}
 use Rattle.frame_writing.proofs.emitting.emit.Tie as tie
 
@@ -25,9 +18,6 @@ slice-write-out c =
     let a = c .before .before .before .before .before .before .before .before .before .before .before .before .before .before .before .before .args in
     omega (arith, put (a .due) (a .head + length (a .part .now) + 1) (a .good) (length (a .out .now)) (sym (c .before .before .before .before .before .before .before .before .before .before .before .why-unwritten .ensures) ∙ c .before .before .before .before .before .before .before .before .before .before .if1 .left) .fits, c .before .before .before .before .put-bytes .kept .0, c .before .before .before .before .before .before .before .before .put-layout .kept .0)
 
-same-length : tie.Need-same-length
-same-length c = simp length-set (c .before .before .before .before .put-bytes .kept .0 ∙ c .before .before .before .before .before .before .before .before .put-layout .kept .0)
-
 returns-2 : tie.Need-returns-2
 returns-2 c =
     let a = c .before .before .before .before .before .before .before .before .before .before .before .before .before .before .before .before .args in
@@ -39,4 +29,4 @@ returns-2 c =
 
 pub emit-spec : {M : Type 1} → statement M
 emit-spec =
-    tie.close (tie.spec (λ c. search needs) (λ c. search needs) (λ c κs. search needs) returns (λ c κs. search needs) (λ c κs. search needs) (λ c κs. search needs) slice-write-out (λ c. search needs) same-length returns-2)
+    tie.close (tie.spec (λ c. search needs) (λ c. search needs) (λ c κs. search needs) returns (λ c κs. search needs) (λ c κs. search needs) (λ c κs. search needs) slice-write-out (λ c. search needs) (λ c. simp length-set (c .before .before .before .before .put-bytes .kept .0 ∙ c .before .before .before .before .before .before .before .before .put-layout .kept .0)) returns-2)

@@ -1,13 +1,8 @@
 -- `all_fit`'s loop: whether the numbers that are left fit.
 -- Assumes nothing.
-use mathlib.Core.Path.{_≡_, refl, sym, _∙_}
-use Prim.Native.Nat.{_≤_, _-_}
-use native.Mathlib.Omega.{arith}
-use borrow.Author.Tests.{lt-ltb, le-ltb, not-true, not-false}
-use lib.ListN.{length, drop, drop-of-length-le}
+use Rattle.octets.proofs.Words.{_≡_, refl, sym, _∙_, _≤_, _-_, arith, needs, lt-ltb, le-ltb, not-true, not-false, length, drop, drop-of-length-le}
 use Rattle.frames.specs.Listed.{fitting}
 use Rattle.frame_writing.proofs.ListedLaws.{fitting-turn}
-use borrow.Author.Needs.{needs}
 use Rattle.frame_writing.proofs.numbers.all_fit.Statement.{statement}
 use Rattle.frame_writing.proofs.numbers.all_fit.Tie as tie
 

@@ -1,17 +1,10 @@
 -- `listed`: numbers that do not fit are refused, the others are written as their kind.
 -- Assumes nothing.
-use mathlib.Core.Path.{_≡_, sym, ap, _∙_}
-use mathlib.Core.Bool.{true}
-use mathlib.Core.List.{List, _∷_}
-use Prim.Native.Nat.{ℕ, _≤_}
-use native.Mathlib.Omega.{arith}
-use borrow.Author.Tests.{not-true, not-false}
-use lib.ListN.{length, take, length-take}
+use Rattle.octets.proofs.Words.{_≡_, sym, ap, _∙_, true, List, _∷_, ℕ, _≤_, arith, needs, not-true, not-false, length, take, length-take}
 use Rattle.octets.specs.Layouts.{total}
 use Rattle.frames.specs.Listed.{fitting}
 use Rattle.frame_writing.proofs.KnownLaws.{Known, known, unfit, fit}
 use Rattle.frame_writing.proofs.ListedLaws.{fitting-within}
-use borrow.Author.Needs.{needs}
 use Rattle.frame_writing.proofs.numbers.listed.Statement.{statement}
 use Rattle.frame_writing.proofs.numbers.listed.Tie as tie
 
@@ -40,12 +33,6 @@ asks d =
     let k = here (d .before .before .before .before .before .before .before .before .before .before) in
     (sym (widths-count (d .before .before .before .before .before .before .before .before .before .before)) ∙ numbers-count d, ap total (k .widths) ∙ sym (k .head), k .small)
 
-array-share-prefix-widths : tie.Need-array-share-prefix-widths
-array-share-prefix-widths c = here (c .before .before .before .before .before .before .before) .within
-
-slice-aggregate-all-fit : tie.Need-slice-aggregate-all-fit
-slice-aggregate-all-fit c = widths-count (c .before .before .before .before .before .before .before .before)
-
 returns : tie.Need-returns
 returns c =
     let a = c .before .before .before .before .before .before .before .before .before .before .before in
@@ -53,30 +40,6 @@ returns c =
     let f = sym (c .before .before .all-fit .ensures ∙ ap (λ (ws : List ℕ). fitting ws (a .args .numbers .now) 0) (k .widths)) ∙ not-true (c .before .before .all-fit .result) (c .before .if1 .taken) in
     unfit (a .args .code) (a .args .layout) k (a .args .numbers .now) (a .args .part .now) (a .args .out .now) (a .pre .2) (c .why-unwritten .result) f
     (rw (← c .before .before .before .before .extent .ensures .0) (c .why-unwritten .ensures))
-
-array-share-prefix-widths-2 : tie.Need-array-share-prefix-widths-2
-array-share-prefix-widths-2 c = here (c .before .before .before .before .before .before .before .before .before .before) .within
-
-slice-aggregate-taken : tie.Need-slice-aggregate-taken
-slice-aggregate-taken c = widths-count (c .before .before .before .before .before .before .before .before .before .before .before)
-
-slice-aggregate-taken-2 : tie.Need-slice-aggregate-taken-2
-slice-aggregate-taken-2 c = numbers-count (c .before .before)
-
-taken-requires : tie.Need-taken-requires
-taken-requires c κs = asks (c .before .before)
-
-array-share-prefix-widths-3 : tie.Need-array-share-prefix-widths-3
-array-share-prefix-widths-3 c = here (c .before .before .before .before .before .before .before .before .before .before .before .before .before) .within
-
-slice-aggregate-emit : tie.Need-slice-aggregate-emit
-slice-aggregate-emit c = widths-count (c .before .before .before .before .before .before .before .before .before .before .before .before .before .before)
-
-slice-aggregate-emit-2 : tie.Need-slice-aggregate-emit-2
-slice-aggregate-emit-2 c = numbers-count (c .before .before .before .before .before)
-
-emit-requires : tie.Need-emit-requires
-emit-requires c κs = asks (c .before .before .before .before .before .before)
 
 returns-2 : tie.Need-returns-2
 returns-2 c =
@@ -87,4 +50,4 @@ returns-2 c =
 
 pub listed-spec : {M : Type 1} → statement M
 listed-spec =
-    tie.close (tie.spec (λ c. search needs) (λ c. search needs) (λ c. search needs) (λ c κs. search needs) (λ c. search needs) array-share-prefix-widths slice-aggregate-all-fit (λ c κs. search needs) (λ c. search needs) (λ c. search needs) (λ c κs. search needs) returns array-share-prefix-widths-2 slice-aggregate-taken slice-aggregate-taken-2 taken-requires array-share-prefix-widths-3 slice-aggregate-emit slice-aggregate-emit-2 emit-requires (λ c. search needs) returns-2)
+    tie.close (tie.spec (λ c. search needs) (λ c. search needs) (λ c. search needs) (λ c κs. search needs) (λ c. search needs) (λ c. here (c .before .before .before .before .before .before .before) .within) (λ c. widths-count (c .before .before .before .before .before .before .before .before)) (λ c κs. search needs) (λ c. search needs) (λ c. search needs) (λ c κs. search needs) returns (λ c. here (c .before .before .before .before .before .before .before .before .before .before) .within) (λ c. widths-count (c .before .before .before .before .before .before .before .before .before .before .before)) (λ c. numbers-count (c .before .before)) (λ c κs. asks (c .before .before)) (λ c. here (c .before .before .before .before .before .before .before .before .before .before .before .before .before) .within) (λ c. widths-count (c .before .before .before .before .before .before .before .before .before .before .before .before .before .before)) (λ c. numbers-count (c .before .before .before .before .before)) (λ c κs. asks (c .before .before .before .before .before .before)) (λ c. search needs) returns-2)

@@ -1,19 +1,12 @@
 -- `taken`: the frame that was written apart is read, unless it was too long to be written.
 -- Assumes nothing.
-use mathlib.Core.Path.{_≡_, sym, ap, _∙_}
-use mathlib.Core.List.{List, [], _++_}
-use Prim.Native.Nat.{ℕ, _+_, _≤_}
-use native.Mathlib.Omega.{arith}
-use borrow.Author.Tests.{le-leb, lt-leb}
-use lib.ListN.{length, take}
-use Rattle.octets.specs.Answers.{Said}
+use Rattle.octets.proofs.Words.{_≡_, sym, ap, _∙_, List, [], _++_, ℕ, _+_, _≤_, arith, needs, le-leb, lt-leb, length, take}
 use Rattle.octets.specs.Layouts.{bytes}
 use Rattle.frames.specs.Frames.{readFrame}
 use Rattle.frame_kinds.specs.Shape.{sealed}
 use Rattle.frame_writing.specs.Taking.{takes}
 use Rattle.frame_writing.proofs.ListedLaws.{apart-done, apart-refused}
-use Rattle.frame_writing.proofs.WritingLaws.{frame-length}
-use borrow.Author.Needs.{needs}
+use Rattle.frame_kinds.proofs.StoredLaws.{frame-length}
 use Rattle.frame_writing.proofs.numbers.taken.Statement.{statement}
 use Rattle.frame_writing.proofs.numbers.taken.Tie as tie
 
@@ -29,17 +22,11 @@ here d =
     let a = d .before .before .before .before .before .before .before .before .before in
     apart-done _ (frame a) (d .before .before .before .before .before .room .result) _ _ (d .before .before .before .before .before .room .ensures) (sized a) (d .before .before .before .emit .ensures) (d .n .given .0 .0) (d .n .given .1)
 
-array-share-prefix-apart : tie.Need-array-share-prefix-apart
-array-share-prefix-apart c = let h = here (c .before) in omega (arith, h, c .before .before .before .before .before .before .room .ensures, c .before .before .before .before .emit .kept .1 .1 .1 .1 .1 .1 .0)
-
-slice-aggregate-read : tie.Need-slice-aggregate-read
-slice-aggregate-read c = let h = here (c .before .before) in h .0 ∙ sym (ap length (h .2))
-
 returns : tie.Need-returns
 unfolding takes
 returns c =
-    let h = here (c .before .before .before .before) in
-    let e = c .number .ensures ∙ (ap (λ (r : Said). r .refusal) (c .before .read .ensures) ∙ ap (λ (s : List ℕ). readFrame s .refusal) (h .2)) in
+    let h = here (c .before .before .before) in
+    let e = c .refusal .ensures ∙ ap (λ (s : List ℕ). readFrame s .refusal) (h .2) in
     rw (e, le-leb _ _ (h .1))
 
 returns-2 : tie.Need-returns-2
@@ -51,4 +38,4 @@ returns-2 c =
 
 pub taken-spec : {M : Type 1} → statement M
 taken-spec =
-    tie.close (tie.spec (λ c κs. search needs) (λ c. search needs) (λ c. search needs) (λ c. search needs) (λ c κs. search needs) (λ c. search needs) array-share-prefix-apart slice-aggregate-read (λ c κs. search needs) (λ c κs. search needs) (λ c. search needs) returns returns-2)
+    tie.close (tie.spec (λ c κs. search needs) (λ c. search needs) (λ c. search needs) (λ c. search needs) (λ c κs. search needs) (λ c. search needs) (λ c. let h = here (c .before) in omega (arith, h, c .before .before .before .before .before .before .room .ensures, c .before .before .before .before .emit .kept .1 .1 .1 .1 .1 .1 .0)) (λ c. let h = here (c .before .before) in h .0 ∙ sym (ap length (h .2))) (λ c κs. search needs) (λ c. search needs) returns returns-2)

@@ -1,12 +1,9 @@
 -- `write`: no numbers are refused, and so is a type that no kind has.
 -- Assumes nothing.
-use mathlib.Core.Path.{_≡_, ap, _∙_}
-use Prim.Native.Nat.{ℕ, _%_, _≤_}
-use native.Mathlib.Omega.{arith}
+use Rattle.octets.proofs.Words.{_≡_, ap, _∙_, ℕ, _%_, _≤_, arith, needs}
 use Rattle.frames.specs.Layout.{layoutOf}
 use Rattle.frames.proofs.ListedLaws.{none-listed}
 use Rattle.frame_writing.proofs.KnownLaws.{too-large, unknown}
-use borrow.Author.Needs.{needs}
 use Rattle.frame_writing.proofs.numbers.write.Statement.{statement}
 use Rattle.frame_writing.proofs.numbers.write.Tie as tie
 

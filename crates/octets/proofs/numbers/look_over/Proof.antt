@@ -1,10 +1,7 @@
 -- `look_over`'s loop: the bytes passed are below 256.
 -- Assumes nothing.
-use Prim.Native.Nat.{ℕ, _-_, _<_}
-use native.Mathlib.Omega.{arith}
-use lib.ListN.{length, getD}
+use Rattle.octets.proofs.Words.{ℕ, _-_, _<_, arith, needs, length, getD}
 use Rattle.octets.proofs.NumberLaws.{small-on, small-all}
-use borrow.Author.Needs.{needs}
 use Rattle.octets.proofs.numbers.look_over.Statement.{statement}
 use Rattle.octets.proofs.numbers.look_over.Tie as tie
 

@@ -1,15 +1,9 @@
 -- `put_zeros`'s loop: to store the zeros that are left is to store them all.
 -- Assumes nothing.
 use Rattle.octets.proofs.StoreLaws.{copied}
-use mathlib.Core.Path.{_≡_, refl, sym, _∙_}
-use Prim.Native.Nat.{ℕ, _+_, _≤_, _<_, _-_, min}
-use native.Mathlib.Nat.{add-zero}
-use native.Mathlib.Omega.{arith}
-use lib.ListN.{length, drop, replicate, length-set, length-replicate}
-use lib.Seq.{sets}
+use Rattle.octets.proofs.Words.{_≡_, refl, sym, _∙_, ℕ, _+_, _≤_, _-_, min, add-zero, arith, needs, length, drop, replicate, length-set, length-replicate, sets}
 use Rattle.octets.proofs.StoreLaws.{sets-past}
 use Rattle.octets.proofs.ZeroLaws.{zero-turn}
-use borrow.Author.Needs.{needs}
 use Rattle.octets.proofs.zeros.put_zeros.Statement.{statement}
 use Rattle.octets.proofs.zeros.put_zeros.Tie as tie
 

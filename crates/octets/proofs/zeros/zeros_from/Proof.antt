@@ -1,12 +1,8 @@
 -- `zeros_from`'s loop: what was passed and what is left are zeros exactly if all is.
 -- Assumes nothing.
-use mathlib.Core.Path.{_≡_, refl}
-use mathlib.Core.Bool.{_&&_}
-use Prim.Native.Nat.{_-_}
-use lib.ListN.{length}
+use Rattle.octets.proofs.Words.{_≡_, refl, _&&_, _-_, needs, length}
 use Rattle.octets.specs.Zeros.{zerosFrom}
 use Rattle.octets.proofs.ZeroLaws.{zeros-turn, zeros-end}
-use borrow.Author.Needs.{needs}
 use Rattle.octets.proofs.zeros.zeros_from.Statement.{statement}
 use Rattle.octets.proofs.zeros.zeros_from.Tie as tie
 

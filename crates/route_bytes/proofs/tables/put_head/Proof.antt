@@ -1,10 +1,8 @@
 -- `put_head`: the numbers of the head, one behind the other.
 -- Assumes nothing.
-use mathlib.Core.Path.{refl}
-use denote.Ref.{now}
+use Rattle.octets.proofs.Words.{refl, needs, now}
 use Rattle.octets.proofs.StoreLaws.{all-put, put, done}
 use Rattle.route_bytes.specs.TableBytes.{headWidths, headValues}
-use borrow.Author.Needs.{needs}
 use Rattle.route_bytes.proofs.tables.put_head.Statement.{statement}
 use Rattle.route_bytes.proofs.tables.put_head.Tie as tie
 

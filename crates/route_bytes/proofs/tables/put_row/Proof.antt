@@ -1,11 +1,8 @@
 -- `put_row`: the row's numbers, one behind the other from a place on.
 -- Assumes nothing.
-use mathlib.Core.Path.{refl}
-use native.Mathlib.Omega.{arith}
-use denote.Ref.{now}
+use Rattle.octets.proofs.Words.{refl, arith, needs, now}
 use Rattle.octets.proofs.StoreLaws.{all-put, put, done}
 use Rattle.route_bytes.specs.TableBytes.{rowWidths, rowValues}
-use borrow.Author.Needs.{needs}
 use Rattle.route_bytes.proofs.tables.put_row.Statement.{statement}
 use Rattle.route_bytes.proofs.tables.put_row.Tie as tie
 

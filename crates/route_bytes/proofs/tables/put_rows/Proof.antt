@@ -1,10 +1,7 @@
 -- `put_rows`'s loop: to store the rows in use that are left is to store them all.
 -- Assumes nothing.
-use mathlib.Core.Path.{refl, sym, _∙_}
-use Prim.Native.Nat.{_-_}
-use native.Mathlib.Omega.{arith}
+use Rattle.octets.proofs.Words.{refl, sym, _∙_, _-_, arith, needs}
 use Rattle.route_bytes.proofs.TableByteLaws.{Storing, stored-end, stored-last, stored-on}
-use borrow.Author.Needs.{needs}
 use Rattle.route_bytes.proofs.tables.put_rows.Statement.{statement}
 use Rattle.route_bytes.proofs.tables.put_rows.Tie as tie
 

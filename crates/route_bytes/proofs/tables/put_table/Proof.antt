@@ -1,22 +1,14 @@
 -- `put_table`: the head, the rows in use behind it, and zeros up to the end.
 -- Assumes nothing.
-use mathlib.Core.Path.{_∙_}
-use native.Mathlib.Omega.{arith}
+use Rattle.octets.proofs.Words.{_∙_, arith, needs}
 use Rattle.route_bytes.proofs.TableByteLaws.{other-length, whole-stored}
-use borrow.Author.Needs.{needs}
 use Rattle.route_bytes.proofs.tables.put_table.Statement.{statement}
 use Rattle.route_bytes.proofs.tables.put_table.Tie as tie
-
-returns : tie.Need-returns
-returns c = other-length _ _ (c .if1 .taken)
 
 put-rows-requires : tie.Need-put-rows-requires
 put-rows-requires c κs =
     let head = c .before .before .before in
     head .put-head .kept .0 ∙ head .before .before .if1 .left
-
-sub-put-zeros : tie.Need-sub-put-zeros
-sub-put-zeros c = omega (arith, c .before .before .before .put-rows .ensures .2)
 
 returns-2 : tie.Need-returns-2
 returns-2 c =
@@ -30,4 +22,4 @@ returns-2 c =
 
 pub put-table-spec : {M : Type 1} → statement M
 put-table-spec =
-    tie.close (tie.spec returns (λ c κs. search needs) put-rows-requires (λ c. search needs) (λ c. search needs) (λ c. search needs) (λ c. search needs) sub-put-zeros (λ c κs. search needs) (λ c. search needs) returns-2)
+    tie.close (tie.spec (λ c. other-length _ _ (c .if1 .taken)) (λ c κs. search needs) put-rows-requires (λ c. search needs) (λ c. search needs) (λ c. search needs) (λ c. search needs) (λ c. omega (arith, c .before .before .before .put-rows .ensures .2)) (λ c κs. search needs) (λ c. search needs) returns-2)

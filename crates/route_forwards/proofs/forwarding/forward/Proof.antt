@@ -1,14 +1,11 @@
 -- `forward`: as it was where it is refused, else the copy and its pair recorded.
 -- Assumes nothing.
-use mathlib.Core.Path.{_≡_, sym, ap, _∙_}
-use denote.Ref.{now}
-use lib.ListN.{length}
+use Rattle.octets.proofs.Words.{_≡_, sym, ap, _∙_, needs, length, now}
 use Rattle.route_table.specs.declared.table.Changed.{Changed}
 use Rattle.route_table.specs.Tables.{settled}
 use Rattle.route_passing.specs.Passes.{recorded}
 use Rattle.route_forwards.specs.Forwards.{passingOf, beaconIn, forwardRefusal}
-use Rattle.route_forwards.proofs.ForwardLaws.{beacon-in, passed-as, sums-fit, room-fits, forwarded-off, forwarded-on}
-use borrow.Author.Needs.{needs}
+use Rattle.route_forwards.proofs.ForwardLaws.{beacon-in, passed-as, copy-fits, forwarded-off, forwarded-on}
 use Rattle.route_forwards.proofs.forwarding.forward.Statement.{statement}
 use Rattle.route_forwards.proofs.forwarding.forward.Tie as tie
 
@@ -32,32 +29,24 @@ returns c =
     let a = d .before .before .before .before .before .before .before .args in
     forwarded-off (a .table) (a .network) (a .frame .now) (a .delay) (a .time) (a .out .now) (d .pass .result) (asked d) (c .if1 .taken)
 
-passed-by-requires : tie.Need-passed-by-requires
-passed-by-requires c κs =
+put-copy-requires : tie.Need-put-copy-requires
+put-copy-requires c κs =
     let test = c .before in
     let d = test .before .before .before in
     let read = d .before .before .before .before in
     let a = read .before .before .before .args in
-    sums-fit (a .table) (a .network) (a .frame .now) (a .delay) (a .time) (a .out .now) (sym (ap (λ (x : Changed). x .refused) (asked d)) ∙ test .if1 .left) (read .of .result) (read .of .ensures)
-
-put-beacon-requires : tie.Need-put-beacon-requires
-put-beacon-requires c κs =
-    let test = c .before .before in
-    let d = test .before .before .before in
-    let a = d .before .before .before .before .before .before .before .args in
-    room-fits (a .table) (a .network) (a .frame .now) (a .delay) (a .time) (a .out .now) (sym (ap (λ (x : Changed). x .refused) (asked d)) ∙ test .if1 .left)
+    copy-fits (a .table) (a .network) (a .frame .now) (a .delay) (a .time) (a .out .now) (sym (ap (λ (x : Changed). x .refused) (asked d)) ∙ test .if1 .left) (read .of .result) (read .of .ensures)
 
 returns-2 : tie.Need-returns-2
 returns-2 c =
-    let put = c .before .before in
-    let copy = put .before in
+    let copy = c .before .before in
     let test = copy .before .before in
     let d = test .before .before .before in
     let read = d .before .before .before .before in
     let a = read .before .before .before .args in
     forwarded-on (a .table) (a .network) (a .frame .now) (a .delay) (a .time) (a .out .now) (d .pass .result) (asked d) _ (test .if1 .left)
-    (put .put-beacon .ensures ∙ rw (copy .passed-by .ensures, beacon-in (read .of .result) (a .frame .now) (read .of .ensures)))
+    (copy .put-copy .ensures ∙ rw (beacon-in (read .of .result) (a .frame .now) (read .of .ensures)))
 
 pub forward-spec : {M : Type 1} → statement M
 forward-spec =
-    tie.close (tie.spec (λ c κs. search needs) (λ c κs. search needs) (λ c κs. search needs) (λ c κs. search needs) (λ c κs. search needs) returns passed-by-requires put-beacon-requires (λ c. search needs) returns-2)
+    tie.close (tie.spec (λ c κs. search needs) (λ c κs. search needs) (λ c κs. search needs) (λ c κs. search needs) (λ c κs. search needs) returns put-copy-requires (λ c. search needs) returns-2)

@@ -1,15 +1,12 @@
 -- `forward_in`: as it was where it is refused, else the copy and its pair recorded in the bytes.
 -- Assumes nothing.
-use mathlib.Core.Path.{_≡_, ap, _∙_}
-use denote.Ref.{now}
-use lib.ListN.{length}
+use Rattle.octets.proofs.Words.{_≡_, ap, _∙_, needs, length, now}
 use Rattle.route_table.specs.declared.table.Table.{Table}
 use Rattle.route_table.specs.Tables.{settled}
 use Rattle.route_passing.specs.Passes.{recorded, passOf}
 use Rattle.route_bytes.specs.TableBytes.{tableIn}
 use Rattle.route_forwards.specs.Forwards.{passingOf, beaconIn, forwardRefusal}
-use Rattle.route_forwards.proofs.ForwardLaws.{beacon-in, passed-as, sums-fit, room-fits, stored-off, stored-none, stored-on}
-use borrow.Author.Needs.{needs}
+use Rattle.route_forwards.proofs.ForwardLaws.{beacon-in, passed-as, copy-fits, stored-off, stored-none, stored-on}
 use Rattle.route_forwards.proofs.forwarding.forward_in.Statement.{statement}
 use Rattle.route_forwards.proofs.forwarding.forward_in.Tie as tie
 
@@ -33,36 +30,27 @@ returns c =
     let a = d .before .before .before .before .before .before .before .before .before .before .before .args in
     stored-off (a .table .now) (a .network) (a .frame .now) (a .delay) (a .time) (a .out .now) _ _ _ (d .pass .ensures) (asks d) (c .if1 .taken)
 
-passed-by-requires : tie.Need-passed-by-requires
-passed-by-requires c κs =
+put-copy-requires : tie.Need-put-copy-requires
+put-copy-requires c κs =
     let test = c .before in
     let d = test .before .before .before in
     let read = d .before .before .before .before .before in
     let a = read .before .before .before .before .before .before .args in
-    sums-fit (tableIn (a .table .now)) (a .network) (a .frame .now) (a .delay) (a .time) (a .out .now)
+    copy-fits (tableIn (a .table .now)) (a .network) (a .frame .now) (a .delay) (a .time) (a .out .now)
     (stored-none (a .table .now) (a .network) (a .frame .now) (a .delay) (a .time) (a .out .now) _ _ _ (d .pass .ensures) (asks d) (test .if1 .left)) (read .of .result) (read .of .ensures)
-
-put-beacon-requires : tie.Need-put-beacon-requires
-put-beacon-requires c κs =
-    let test = c .before .before in
-    let d = test .before .before .before in
-    let a = d .before .before .before .before .before .before .before .before .before .before .before .args in
-    room-fits (tableIn (a .table .now)) (a .network) (a .frame .now) (a .delay) (a .time) (a .out .now)
-    (stored-none (a .table .now) (a .network) (a .frame .now) (a .delay) (a .time) (a .out .now) _ _ _ (d .pass .ensures) (asks d) (test .if1 .left))
 
 returns-2 : tie.Need-returns-2
 unfolding tableIn
 returns-2 c =
-    let put = c .before .before in
-    let copy = put .before in
+    let copy = c .before .before in
     let test = copy .before .before in
     let d = test .before .before .before in
     let read = d .before .before .before .before .before in
     let own = read .before in
     let a = own .before .before .before .before .before .args in
     stored-on (a .table .now) (a .network) (a .frame .now) (a .delay) (a .time) (a .out .now) _ _ _ (d .pass .ensures) (asks d) _ (test .if1 .left)
-    (put .put-beacon .ensures ∙ rw (copy .passed-by .ensures, beacon-in (read .of .result) (a .frame .now) (read .of .ensures), own .number16 .ensures))
+    (copy .put-copy .ensures ∙ rw (beacon-in (read .of .result) (a .frame .now) (read .of .ensures), own .number16 .ensures))
 
 pub forward-in-spec : {M : Type 1} → statement M
 forward-in-spec =
-    tie.close (tie.spec (λ c κs. search needs) (λ c κs. search needs) (λ c κs. search needs) (λ c κs. search needs) (λ c κs. search needs) (λ c κs. search needs) (λ c. search needs) returns passed-by-requires put-beacon-requires (λ c. search needs) (λ c. search needs) returns-2)
+    tie.close (tie.spec (λ c κs. search needs) (λ c κs. search needs) (λ c κs. search needs) (λ c κs. search needs) (λ c κs. search needs) (λ c κs. search needs) (λ c. search needs) returns put-copy-requires (λ c. search needs) (λ c. search needs) returns-2)

@@ -1,12 +1,8 @@
 -- `unread`: the first reason that holds.
 -- Assumes nothing.
-use mathlib.Core.Path.{_∙_}
-use borrow.Author.Needs.{needs}
+use Rattle.octets.proofs.Words.{_∙_, needs}
 use Rattle.route_forwards.proofs.forwarding.unread.Statement.{statement}
 use Rattle.route_forwards.proofs.forwarding.unread.Tie as tie
 
-returns : tie.Need-returns
-returns c = c .refuse-if2 .ensures ∙ rw (c .before .refuse-if .ensures, c .before .before .beacon .ensures)
-
 pub unread-spec : {M : Type 1} → statement M
-unread-spec = tie.close (tie.spec (λ c κs. search needs) (λ c κs. search needs) (λ c κs. search needs) returns)
+unread-spec = tie.close (tie.spec (λ c κs. search needs) (λ c κs. search needs) (λ c κs. search needs) (λ c. c .refuse-if2 .ensures ∙ rw (c .before .refuse-if .ensures, c .before .before .refusal .ensures)))

@@ -1,13 +1,9 @@
 -- `forget`: no table, the number that refuses it, or the table without the unit.
 -- Assumes nothing.
-use mathlib.Core.Path.{_≡_, sym, ap, _∙_}
-use mathlib.Core.Bool.{true}
-use denote.Ref.{now}
-use borrow.Author.Tests.{not-true, not-false}
+use Rattle.octets.proofs.Words.{_≡_, sym, ap, _∙_, true, needs, not-true, not-false, now}
 use Rattle.route_table.specs.Tables.{forgetOf}
 use Rattle.route_bytes.specs.TableBytes.{tableIn, tableBytes, holdsTable}
 use Rattle.route_in_place.proofs.ChangeLaws.{changed-none, changed-refused, changed-accepted, forget-number, forget-table, unforgotten}
-use borrow.Author.Needs.{needs}
 use Rattle.route_in_place.proofs.changing.forget.Statement.{statement}
 use Rattle.route_in_place.proofs.changing.forget.Tie as tie
 
@@ -34,9 +30,6 @@ returns-2 c =
     let a = d .before .before .before .before .before .before .before .args in
     changed-refused (a .table .now) (λ t. forgetOf t (a .unit) (a .time)) _ (holds d) (number d) (c .if2 .taken)
 
-renew-requires : tie.Need-renew-requires
-renew-requires c κs = holds (c .before .before)
-
 returns-3 : tie.Need-returns-3
 returns-3 c =
     let new = c .before .before in
@@ -49,4 +42,4 @@ returns-3 c =
 
 pub forget-spec : {M : Type 1} → statement M
 forget-spec =
-    tie.close (tie.spec (λ c κs. search needs) (λ c. search needs) returns (λ c κs. search needs) (λ c κs. search needs) (λ c. search needs) returns-2 renew-requires (λ c. search needs) returns-3)
+    tie.close (tie.spec (λ c κs. search needs) (λ c. search needs) returns (λ c κs. search needs) (λ c κs. search needs) (λ c. search needs) returns-2 (λ c κs. holds (c .before .before)) (λ c. search needs) returns-3)

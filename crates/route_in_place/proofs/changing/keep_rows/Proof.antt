@@ -1,12 +1,8 @@
 -- `keep_rows`'s loop: the rows kept, with those that are left stored behind them, are all.
 -- Assumes nothing.
-use mathlib.Core.Path.{refl, sym, _∙_}
-use Prim.Native.Nat.{_-_}
-use native.Mathlib.Omega.{arith}
-use borrow.Author.Tests.{not-true, not-false}
+use Rattle.octets.proofs.Words.{refl, sym, _∙_, _-_, arith, needs, not-true, not-false}
 use Rattle.route_in_place.proofs.JudgedLaws.{judged-length}
 use Rattle.route_in_place.proofs.KeepLaws.{Keeping, keep-first, keep-end, keep-last, keep-skip, keep-stay, keep-put}
-use borrow.Author.Needs.{needs}
 use Rattle.route_in_place.proofs.changing.keep_rows.Statement.{statement}
 use Rattle.route_in_place.proofs.changing.keep_rows.Tie as tie
 
@@ -43,9 +39,6 @@ loop-again c =
     let start = at .before .before .before .before in
     let a = start .args in
     keep-skip (a .table .now) (start .pre) (at .before .look-over .ensures) (at .loop .table) (a .unit) (a .time) (at .loop .count) (at .loop .place) (at .loop .inv) (search needs) (row .row-in .result) (row .row-in .ensures) (first .if1 .left) (sym (c .before .stands .ensures) ∙ not-true _ (c .if2 .taken))
-
-add-count : tie.Need-add-count Inv-loop μ-loop
-add-count c = search needs
 
 loop-again-2 : tie.Need-loop-again-2 Inv-loop μ-loop
 loop-again-2 c =
@@ -91,4 +84,4 @@ returns-2 c =
 
 pub keep-rows-spec : {M : Type 1} → statement M
 keep-rows-spec =
-    tie.close (tie.spec Inv-loop μ-loop (λ c κs. search needs) loop-holds (λ c. search needs) (λ c. search needs) (λ c. search needs) (λ c. search needs) (λ c. search needs) (λ c. search needs) part-row-in-end (λ c κs. search needs) same-length returns (λ c. search needs) (λ c κs. search needs) (λ c. search needs) loop-again (λ c. search needs) (λ c. search needs) (λ c. search needs) (λ c. search needs) add-count (λ c κs. search needs) (λ c. search needs) loop-again-2 (λ c. search needs) (λ c. search needs) part-put-row-end (λ c κs. search needs) (λ c κs. search needs) (λ c. search needs) loop-again-3 same-length-2 returns-2)
+    tie.close (tie.spec Inv-loop μ-loop (λ c κs. search needs) loop-holds (λ c. search needs) (λ c. search needs) (λ c. search needs) (λ c. search needs) (λ c. search needs) (λ c. search needs) part-row-in-end (λ c κs. search needs) same-length returns (λ c. search needs) (λ c κs. search needs) (λ c. search needs) loop-again (λ c. search needs) (λ c. search needs) (λ c. search needs) (λ c. search needs) (λ c. search needs) (λ c κs. search needs) (λ c. search needs) loop-again-2 (λ c. search needs) (λ c. search needs) part-put-row-end (λ c κs. search needs) (λ c κs. search needs) (λ c. search needs) loop-again-3 same-length-2 returns-2)

@@ -1,14 +1,10 @@
 -- `pass`: no table, the number that refuses it, or the table with the pair recorded.
 -- Assumes nothing.
-use mathlib.Core.Path.{sym, ap, _∙_}
-use denote.Ref.{now}
-use borrow.Author.Tests.{not-true, not-false}
+use Rattle.octets.proofs.Words.{sym, ap, _∙_, needs, not-true, not-false, now}
 use Rattle.route_passing.specs.Passes.{passedHead, passOf}
 use Rattle.route_table.specs.declared.table.Head.{Head}
-use Rattle.route_table.specs.Told.{toldFound}
 use Rattle.route_bytes.specs.TableBytes.{tableBytes}
 use Rattle.route_in_place.proofs.ChangeLaws.{changed-none, changed-refused, changed-accepted, Asked, pass-refusal, pass-table, unpassed}
-use borrow.Author.Needs.{needs}
 use Rattle.route_in_place.proofs.changing.pass.Statement.{statement}
 use Rattle.route_in_place.proofs.changing.pass.Tie as tie
 
@@ -30,7 +26,7 @@ asked d =
       holds = sym (test .before .holds-table .ensures) ∙ not-false _ (test .if1 .left);
       head = head .head-of .result;
       row = row .row-for .result;
-      found = toldFound (found .found-by .result);
+      found = found .found-by .result;
       why = why .why-not-passed .result;
       headed = head .head-of .ensures;
       looked = row .row-for .ensures;
@@ -43,9 +39,6 @@ returns-2 : tie.Need-returns-2
 returns-2 c =
     let k = asked (c .before) in
     changed-refused _ (λ t. passOf t _ _ _ _ _ _) _ (k .holds) (pass-refusal _ _ _ _ _ _ _ _ k) (c .if2 .taken)
-
-renew-requires : tie.Need-renew-requires
-renew-requires c κs = asked (c .before .before .before) .holds
 
 returns-3 : tie.Need-returns-3
 returns-3 c =
@@ -60,4 +53,4 @@ returns-3 c =
 
 pub pass-spec : {M : Type 1} → statement M
 pass-spec =
-    tie.close (tie.spec (λ c κs. search needs) (λ c. search needs) returns (λ c κs. search needs) (λ c κs. search needs) (λ c κs. search needs) (λ c κs. search needs) (λ c κs. search needs) (λ c κs. search needs) (λ c. search needs) returns-2 (λ c κs. search needs) renew-requires (λ c. search needs) returns-3)
+    tie.close (tie.spec (λ c κs. search needs) (λ c. search needs) returns (λ c κs. search needs) (λ c κs. search needs) (λ c κs. search needs) (λ c κs. search needs) (λ c κs. search needs) (λ c κs. search needs) (λ c. search needs) returns-2 (λ c κs. search needs) (λ c κs. asked (c .before .before .before) .holds) (λ c. search needs) returns-3)

@@ -1,14 +1,10 @@
 -- `renew`: the rows kept, zeros behind them, and the head.
 -- Assumes nothing.
-use native.Mathlib.Omega.{arith}
+use Rattle.octets.proofs.Words.{arith, needs}
 use Rattle.route_in_place.proofs.ChangeLaws.{renewed}
 use Rattle.route_in_place.proofs.JudgedLaws.{judged-length}
-use borrow.Author.Needs.{needs}
 use Rattle.route_in_place.proofs.changing.renew.Statement.{statement}
 use Rattle.route_in_place.proofs.changing.renew.Tie as tie
-
-sub-put-zeros : tie.Need-sub-put-zeros
-sub-put-zeros c = omega (arith, c .before .before .before .keep-rows .ensures .2)
 
 returns : tie.Need-returns
 returns c =
@@ -22,4 +18,4 @@ returns c =
 
 pub renew-spec : {M : Type 1} → statement M
 renew-spec =
-    tie.close (tie.spec (λ c κs. search needs) (λ c. search needs) (λ c. search needs) (λ c. search needs) (λ c. search needs) sub-put-zeros (λ c κs. search needs) (λ c κs. search needs) (λ c. search needs) returns)
+    tie.close (tie.spec (λ c κs. search needs) (λ c. search needs) (λ c. search needs) (λ c. search needs) (λ c. search needs) (λ c. omega (arith, c .before .before .before .keep-rows .ensures .2)) (λ c κs. search needs) (λ c κs. search needs) (λ c. search needs) returns)

@@ -1,11 +1,8 @@
 -- `row_for`'s loop: the row that is looked for is that of the places from here on.
 -- Assumes nothing.
-use mathlib.Core.Path.{_≡_, refl, _∙_}
-use Prim.Native.Nat.{_≤_, _-_}
-use lib.ListN.{drop}
+use Rattle.octets.proofs.Words.{_≡_, refl, _∙_, _≤_, _-_, needs, drop}
 use Rattle.route_table.specs.Rows.{inUse, rowFor}
 use Rattle.route_in_place.proofs.FindLaws.{places, find-none, find-here, find-on, find-end}
-use borrow.Author.Needs.{needs}
 use Rattle.route_in_place.proofs.finding.row_for.Statement.{statement}
 use Rattle.route_in_place.proofs.finding.row_for.Tie as tie
 

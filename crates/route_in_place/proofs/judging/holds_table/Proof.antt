@@ -5,9 +5,6 @@ use borrow.Author.Needs.{needs}
 use Rattle.route_in_place.proofs.judging.holds_table.Statement.{statement}
 use Rattle.route_in_place.proofs.judging.holds_table.Tie as tie
 
-returns : tie.Need-returns
-returns c = no-length _ (c .if1 .taken)
-
 returns-2 : tie.Need-returns-2
 returns-2 c =
     let rows = c .before in
@@ -18,13 +15,14 @@ returns-2 c =
 returns-3 : tie.Need-returns-3
 returns-3 c =
     let flag = c .before in
-    let pair = flag .before .before .before in
+    let pair = flag .before .before in
     let test = pair .before in
     let rows = test .before in
     let head = rows .before in
     let s = head .before .before .before .args .s .now in
-    all-judged s (head .before .if1 .left) (head .head-of .result) (head .head-of .ensures) (rows .rows-used .result) (rows .rows-used .ensures .1) (test .if2 .left) _ _ _ (flag .number8 .ensures) (pair .pair-ok .ensures) (c .zeros-from .ensures)
+    rw (flag .before .is-address .ensures)
+    (all-judged s (head .before .if1 .left) (head .head-of .result) (head .head-of .ensures) (rows .rows-used .result) (rows .rows-used .ensures .1) (test .if2 .left) _ _ _ (flag .number8 .ensures) (pair .pair-ok .ensures) (c .zeros-from .ensures))
 
 pub holds-table-spec : {M : Type 1} → statement M
 holds-table-spec =
-    tie.close (tie.spec returns (λ c κs. search needs) (λ c κs. search needs) returns-2 (λ c κs. search needs) (λ c κs. search needs) (λ c. search needs) (λ c. search needs) (λ c. search needs) (λ c κs. search needs) returns-3)
+    tie.close (tie.spec (λ c. no-length _ (c .if1 .taken)) (λ c κs. search needs) (λ c κs. search needs) returns-2 (λ c κs. search needs) (λ c κs. search needs) (λ c κs. search needs) (λ c. search needs) (λ c. search needs) (λ c. search needs) (λ c κs. search needs) returns-3)

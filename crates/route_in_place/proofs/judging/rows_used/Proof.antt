@@ -1,9 +1,7 @@
 -- `rows_used`'s loop: the rows passed are right, and the rest is exactly if the whole is.
 -- Assumes nothing.
-use Prim.Native.Nat.{_-_}
-use native.Mathlib.Omega.{arith}
+use Rattle.octets.proofs.Words.{_-_, arith, needs}
 use Rattle.route_in_place.proofs.JudgedLaws.{Judging, judging, none-left, empty-here, row-bad, row-kept}
-use borrow.Author.Needs.{needs}
 use Rattle.route_in_place.proofs.judging.rows_used.Statement.{statement}
 use Rattle.route_in_place.proofs.judging.rows_used.Tie as tie
 

@@ -1,12 +1,9 @@
 -- `standing_rows`'s loop: the rows that stand among the places passed are at the front.
 -- Assumes nothing.
-use mathlib.Core.Path.{sym, _∙_}
-use Prim.Native.Nat.{_-_}
-use borrow.Author.Tests.{not-true, not-false}
+use Rattle.octets.proofs.Words.{sym, _∙_, _-_, needs, not-true, not-false}
 use Rattle.route_table.specs.Rows.{pad}
 use Rattle.route_table.proofs.RowLaws.{Gathered}
 use Rattle.route_in_place.proofs.FindLaws.{places, gather-first, gather-end, gather-skip, gather-push, gather-last}
-use borrow.Author.Needs.{needs}
 use Rattle.route_in_place.proofs.standing.standing_rows.Statement.{statement}
 use Rattle.route_in_place.proofs.standing.standing_rows.Tie as tie
 
@@ -35,9 +32,6 @@ loop-again c =
     let a = at .before .before .args in
     gather-skip (a .s .now) (at .loop .place) (search needs) (row .row-at .result) (row .row-at .ensures) (a .time) (at .loop .n) (at .loop .out) (at .loop .inv) (first .if1 .left) (sym (c .before .stands .ensures) ∙ not-true _ (c .if2 .taken))
 
-array-set-from-out : tie.Need-array-set-from-out Inv-loop μ-loop
-array-set-from-out c = search needs
-
 loop-again-2 : tie.Need-loop-again-2 Inv-loop μ-loop
 loop-again-2 c =
     let first = c .before .before in
@@ -54,4 +48,4 @@ returns-2 c =
 
 pub standing-rows-spec : {M : Type 1} → statement M
 standing-rows-spec =
-    tie.close (tie.spec Inv-loop μ-loop loop-holds (λ c κs. search needs) returns (λ c. search needs) (λ c κs. search needs) (λ c. search needs) loop-again (λ c. search needs) array-set-from-out (λ c. search needs) (λ c. search needs) loop-again-2 returns-2)
+    tie.close (tie.spec Inv-loop μ-loop loop-holds (λ c κs. search needs) returns (λ c. search needs) (λ c κs. search needs) (λ c. search needs) loop-again (λ c. search needs) (λ c. search needs) (λ c. search needs) (λ c. search needs) loop-again-2 returns-2)

@@ -1,15 +1,12 @@
 -- `learn_all`'s loops: `Merging` holds before each turn, a place further on or past a candidate; within one, `Moving` while a row is stored.
 -- Assumes nothing.
-use mathlib.Core.Path.{refl}
-use Prim.Native.Nat.{_+_, _-_, _*_}
-use native.Mathlib.Omega.{arith}
+use Rattle.octets.proofs.Words.{refl, _+_, _-_, _*_, arith, needs, fits-under}
 use Rattle.route_table.specs.Rows.{inUse}
 use Rattle.route_merges.specs.Offering.{candidateNo}
 use Rattle.route_table.proofs.StandingLaws.{in-use-used, in-use-fits}
 use Rattle.route_merges.proofs.StepLaws.{Sound}
 use Rattle.route_merges.proofs.MoveLaws.{storedAt, Moving, moving-on, moving-end, moving-less}
 use Rattle.route_merges.proofs.LoopLaws.{Merging, merging-start, merging-on, merging-end, less-on, less-next, done-fits, skipped-fits, turned}
-use borrow.Author.Needs.{needs, fits-under}
 use Rattle.route_merges.proofs.merging.learn_all.Statement.{statement}
 use Rattle.route_merges.proofs.merging.learn_all.Tie as tie
 

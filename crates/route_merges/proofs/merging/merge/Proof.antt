@@ -1,14 +1,11 @@
 -- `merge`: the table as it was, or every candidate learned over the rows that stand.
 -- Assumes nothing.
-use mathlib.Core.Path.{_≡_, refl, sym, ap, _∙_}
-use native.Mathlib.Omega.{arith}
-use denote.Ref.{now}
+use Rattle.octets.proofs.Words.{_≡_, refl, sym, ap, _∙_, arith, needs, now}
 use Rattle.octets.specs.Parts.{Lent}
 use Rattle.route_table.specs.Rows.{pad, standing}
 use Rattle.route_table.specs.Tables.{rowsOf}
 use Rattle.route_merges.specs.Merges.{updateIn, mergeRefusal}
 use Rattle.route_merges.proofs.MergeLaws.{Mergeable, mergeable, header-in, stand-places, learnable, merged-by, refused-by, unmerged, merges}
-use borrow.Author.Needs.{needs}
 use Rattle.route_merges.proofs.merging.merge.Statement.{statement}
 use Rattle.route_merges.proofs.merging.merge.Tie as tie
 
@@ -41,9 +38,6 @@ header d = header-in (d .before .before .before .of .result) _ (d .before .befor
 stand : (d : tie.After-entries) → d .before .standing-places .result ≡ pad (standing (d .before .before .before .before .before .before .before .before .before .args .time) (rowsOf (d .before .before .before .before .before .before .before .before .before .args .table)))
 stand d = stand-places _ _ (d .before .standing-places .ensures .1) (able d .rule) _ (d .before .standing-places .ensures .0)
 
-learn-all-requires : tie.Need-learn-all-requires
-learn-all-requires c κs = learnable _ _ _ _ (able c) _ (stand c) _ (c .before .before .before .of .result) _ refl (header c) (ap (λ (l : Lent). l .bytes) (c .entries .ensures))
-
 returns-2 : tie.Need-returns-2
 returns-2 c =
     let learn = c .before in
@@ -54,4 +48,4 @@ returns-2 c =
 
 pub merge-spec : {M : Type 1} → statement M
 merge-spec =
-    tie.close (tie.spec (λ c κs. search needs) (λ c κs. search needs) (λ c κs. search needs) returns (λ c κs. search needs) (λ c κs. search needs) (λ c κs. search needs) learn-all-requires returns-2)
+    tie.close (tie.spec (λ c κs. search needs) (λ c κs. search needs) (λ c κs. search needs) returns (λ c κs. search needs) (λ c κs. search needs) (λ c κs. search needs) (λ c κs. learnable _ _ _ _ (able c) _ (stand c) _ (c .before .before .before .of .result) _ refl (header c) (ap (λ (l : Lent). l .bytes) (c .entries .ensures))) returns-2)

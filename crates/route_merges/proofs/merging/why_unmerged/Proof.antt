@@ -1,9 +1,8 @@
 -- `why_unmerged`: the first reason that holds.
 -- Assumes nothing.
-use mathlib.Core.Path.{ap, _∙_}
+use Rattle.octets.proofs.Words.{ap, _∙_, needs}
 use Rattle.frame_traffic.specs.declared.update.UpdateHeader.{UpdateHeader}
 use Rattle.route_merges.proofs.MergeLaws.{header-in}
-use borrow.Author.Needs.{needs}
 use Rattle.route_merges.proofs.merging.why_unmerged.Statement.{statement}
 use Rattle.route_merges.proofs.merging.why_unmerged.Tie as tie
 
@@ -19,7 +18,7 @@ returns c =
       third .refuse-if3 .ensures,
       second .refuse-if2 .ensures,
       first .refuse-if .ensures,
-      first .before .update .ensures,
+      first .before .refusal .ensures,
       second .before .in-order .ensures,
       ap (λ (h : UpdateHeader). h .origin) (header-in (of .of .result) (a .frame .now) (of .of .ensures)),
     )

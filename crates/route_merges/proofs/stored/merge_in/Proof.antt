@@ -1,8 +1,6 @@
 -- `merge_in`: the bytes as they were, or every candidate learned over the rows that stand, and all of the table stored.
 -- Assumes nothing.
-use mathlib.Core.Path.{_≡_, ap}
-use native.Mathlib.Omega.{arith}
-use denote.Ref.{now}
+use Rattle.octets.proofs.Words.{_≡_, ap, arith, needs, now}
 use Rattle.octets.specs.Parts.{Lent}
 use Rattle.route_table.specs.declared.table.Head.{Head}
 use Rattle.route_table.specs.Rows as rows
@@ -12,12 +10,8 @@ use Rattle.route_bytes.specs.TableBytes.{tableIn}
 use Rattle.route_merges.specs.Merges.{updateIn}
 use Rattle.route_merges.proofs.MergeLaws.{Mergeable, header-in, learnable, merged-by}
 use Rattle.route_merges.proofs.StoredLaws.{bytes-stay, stored-able, stored-standing, bytes-written}
-use borrow.Author.Needs.{needs}
 use Rattle.route_merges.proofs.stored.merge_in.Statement.{statement}
 use Rattle.route_merges.proofs.stored.merge_in.Tie as tie
-
-returns : tie.Need-returns
-returns c = bytes-stay _ _ _ _ (c .before .why-unmerged-in .result) (c .before .why-unmerged-in .ensures) (omega (arith, c .if1 .taken))
 
 -- none of the reasons holds behind the test
 accepted : (d : tie.Else1) → d .before .why-unmerged-in .result ≡ 0
@@ -57,4 +51,4 @@ returns-2 c =
 
 pub merge-in-spec : {M : Type 1} → statement M
 merge-in-spec =
-    tie.close (tie.spec (λ c κs. search needs) (λ c. search needs) returns (λ c κs. search needs) (λ c κs. search needs) (λ c κs. search needs) (λ c κs. search needs) learn-all-requires (λ c κs. search needs) (λ c. search needs) returns-2)
+    tie.close (tie.spec (λ c κs. search needs) (λ c. search needs) (λ c. bytes-stay _ _ _ _ (c .before .why-unmerged-in .result) (c .before .why-unmerged-in .ensures) (omega (arith, c .if1 .taken))) (λ c κs. search needs) (λ c κs. search needs) (λ c κs. search needs) (λ c κs. search needs) learn-all-requires (λ c κs. search needs) (λ c. search needs) returns-2)

@@ -1,14 +1,9 @@
 -- `why_unmerged_in`: no table, or the first reason that holds of the one that is there.
 -- Assumes nothing.
-use mathlib.Core.Path.{sym, _∙_}
-use borrow.Author.Tests.{not-true, not-false}
+use Rattle.octets.proofs.Words.{sym, _∙_, needs, not-true, not-false}
 use Rattle.route_merges.proofs.StoredLaws.{none-held, one-held}
-use borrow.Author.Needs.{needs}
 use Rattle.route_merges.proofs.stored.why_unmerged_in.Statement.{statement}
 use Rattle.route_merges.proofs.stored.why_unmerged_in.Tie as tie
-
-returns : tie.Need-returns
-returns c = none-held _ _ _ _ (sym (c .before .holds-table .ensures) ∙ not-true _ (c .if1 .taken))
 
 returns-2 : tie.Need-returns-2
 returns-2 c =
@@ -17,4 +12,4 @@ returns-2 c =
     one-held _ _ _ _ (sym (test .before .holds-table .ensures) ∙ not-false _ (test .if1 .left)) (head .head-of .result) (head .head-of .ensures) _ (c .why-unmerged .ensures)
 
 pub why-unmerged-in-spec : {M : Type 1} → statement M
-why-unmerged-in-spec = tie.close (tie.spec (λ c κs. search needs) returns (λ c κs. search needs) (λ c κs. search needs) returns-2)
+why-unmerged-in-spec = tie.close (tie.spec (λ c κs. search needs) (λ c. none-held _ _ _ _ (sym (c .before .holds-table .ensures) ∙ not-true _ (c .if1 .taken))) (λ c κs. search needs) (λ c κs. search needs) returns-2)

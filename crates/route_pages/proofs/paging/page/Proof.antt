@@ -1,17 +1,11 @@
 -- `page`: no table within rule, the number that refuses it, or the page in bytes.
 -- Assumes nothing.
-use mathlib.Core.Path.{_≡_, refl, sym, _∙_}
-use Prim.Native.Nat.{_*_}
-use native.Mathlib.Omega.{arith}
-use denote.Ref.{now}
-use lib.ListN.{take, drop}
-use borrow.Author.Tests.{not-true, not-false}
+use Rattle.octets.proofs.Words.{_≡_, refl, sym, _∙_, _*_, arith, needs, not-true, not-false, take, drop, now}
 use Rattle.route_table.specs.Rows.{standing}
 use Rattle.route_table.specs.Tables.{rowsOf}
 use Rattle.route_pages.specs.Pages.{onPage}
 use Rattle.route_pages.proofs.PageLaws.{page-none, Paged, page-unwritten, page-room, page-written}
 use Rattle.route_pages.proofs.PlaceLaws.{page-places, page-count}
-use borrow.Author.Needs.{needs}
 use Rattle.route_pages.proofs.paging.page.Statement.{statement}
 use Rattle.route_pages.proofs.paging.page.Tie as tie
 
@@ -44,25 +38,12 @@ here d =
       why = d .refusal .ensures;
     }
 
-refusal-requires : tie.Need-refusal-requires
-refusal-requires c κs = omega (arith, c .between .ensures .0, c .before .smaller .ensures)
-
-returns-2 : tie.Need-returns-2
-returns-2 c = page-unwritten (here (c .before)) (c .if2 .taken)
-
 put-entries-requires : tie.Need-put-entries-requires
 put-entries-requires c κs =
     let header = c .before .before .before in
     let test = header .before .before in
     let d = test .before in
-    (omega (arith, d .before .before .smaller .ensures, d .before .before .before .rows-in .ensures .1), omega (arith, page-room (here d) (test .if2 .left), d .before .between .ensures .0, header .put-header .kept .0))
-
-seal-requires : tie.Need-seal-requires
-seal-requires c κs =
-    let entries = c .before .before .before in
-    let header = entries .before .before .before .before in
-    let test = header .before .before in
-    omega (arith, page-room (here (test .before)) (test .if2 .left), entries .put-entries .kept .0, header .put-header .kept .0)
+    (omega (arith, d .before .before .smaller .ensures, d .before .before .before .rows-in .ensures .1), omega (arith, page-room (here d) (test .if2 .left), d .before .between .ensures .0, header .put .kept .1))
 
 returns-3 : tie.Need-returns-3
 returns-3 c =
@@ -71,8 +52,8 @@ returns-3 c =
     let header = entries .before .before .before .before in
     let test = header .before .before in
     let d = test .before in
-    page-written (here d) (test .if2 .left) (start d .args .table .own) refl _ (rows-are d) _ _ _ (header .put-header .ensures) (entries .put-entries .ensures) (sum .seal .ensures)
+    page-written (here d) (test .if2 .left) (start d .args .table .own) refl _ (rows-are d) _ _ _ (header .put .ensures) (entries .put-entries .ensures) (sum .seal .ensures)
 
 pub page-spec : {M : Type 1} → statement M
 page-spec =
-    tie.close (tie.spec (λ c κs. search needs) returns (λ c κs. search needs) (λ c. search needs) (λ c. search needs) (λ c κs. search needs) (λ c κs. search needs) (λ c κs. search needs) refusal-requires returns-2 (λ c. search needs) (λ c κs. search needs) put-entries-requires seal-requires (λ c. search needs) (λ c. search needs) (λ c. search needs) returns-3)
+    tie.close (tie.spec (λ c κs. search needs) returns (λ c κs. search needs) (λ c. search needs) (λ c. search needs) (λ c κs. search needs) (λ c κs. search needs) (λ c κs. search needs) (λ c κs. omega (arith, c .between .ensures .0, c .before .smaller .ensures)) (λ c. page-unwritten (here (c .before)) (c .if2 .taken)) (λ c. search needs) (λ c κs. search needs) put-entries-requires (λ c. search needs) (λ c. search needs) (λ c κs. search needs) (λ c. search needs) (λ c. search needs) (λ c. search needs) returns-3)

@@ -1,12 +1,8 @@
 -- `rows_in`'s loop: the places passed, with the rows behind them, are all.
 -- Assumes nothing.
-use mathlib.Core.Path.{_≡_}
-use Prim.Native.Nat.{_+_, _-_, _≤_}
-use native.Mathlib.Omega.{arith}
-use lib.ListN.{length, drop}
+use Rattle.octets.proofs.Words.{_≡_, _+_, _-_, _≤_, arith, needs, length, drop}
 use Rattle.route_table.specs.Rows.{inUse}
 use Rattle.route_pages.proofs.PlaceLaws.{count-end, count-turn, count-all}
-use borrow.Author.Needs.{needs}
 use Rattle.route_pages.proofs.paging.rows_in.Statement.{statement}
 use Rattle.route_pages.proofs.paging.rows_in.Tie as tie
 

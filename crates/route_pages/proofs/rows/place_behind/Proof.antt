@@ -1,11 +1,7 @@
 -- `place_behind`'s loop: what is left to pass of the rows left, and what stands behind.
 -- Assumes nothing.
-use mathlib.Core.Path.{refl, sym, _∙_}
-use Prim.Native.Nat.{_-_}
-use native.Mathlib.Omega.{arith}
-use borrow.Author.Tests.{not-true, not-false}
+use Rattle.octets.proofs.Words.{refl, sym, _∙_, _-_, arith, needs, not-true, not-false}
 use Rattle.route_pages.proofs.WalkLaws.{none-past, none-left, Passed, pass-done, pass-none, pass-gone, pass-one}
-use borrow.Author.Needs.{needs}
 use Rattle.route_pages.proofs.rows.place_behind.Statement.{statement}
 use Rattle.route_pages.proofs.rows.place_behind.Tie as tie
 

@@ -1,11 +1,7 @@
 -- `standing_from`'s loop: the rows counted, with those that are left, are all, up to 24.
 -- Assumes nothing.
-use mathlib.Core.Path.{sym, _∙_}
-use Prim.Native.Nat.{_-_}
-use native.Mathlib.Omega.{arith}
-use borrow.Author.Tests.{not-true, not-false}
+use Rattle.octets.proofs.Words.{sym, _∙_, _-_, arith, needs, not-true, not-false}
 use Rattle.route_pages.proofs.WalkLaws.{none-past, none-left, Counted, count-full, count-none, count-gone, count-one}
-use borrow.Author.Needs.{needs}
 use Rattle.route_pages.proofs.rows.standing_from.Statement.{statement}
 use Rattle.route_pages.proofs.rows.standing_from.Tie as tie
 

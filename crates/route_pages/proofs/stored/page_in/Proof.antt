@@ -1,16 +1,11 @@
 -- `page_in`: no table, the number that refuses it, or the page in bytes.
 -- Assumes nothing.
-use mathlib.Core.Path.{_≡_, sym, ap, _∙_}
-use mathlib.Core.Bool.{true}
-use native.Mathlib.Omega.{arith}
-use denote.Ref.{now}
-use borrow.Author.Tests.{not-true, not-false}
+use Rattle.octets.proofs.Words.{_≡_, sym, ap, _∙_, true, arith, needs, not-true, not-false, now}
 use Rattle.route_table.specs.declared.table.Head.{Head}
 use Rattle.route_bytes.specs.TableBytes.{tableIn, holdsTable}
 use Rattle.route_in_place.proofs.JudgedLaws.{judged-rule}
 use Rattle.route_pages.proofs.PageLaws.{Paged, page-unwritten, page-room, page-written}
 use Rattle.route_pages.proofs.StoredLaws.{in-none, in-held, from-count, from-enough, from-rows}
-use borrow.Author.Needs.{needs}
 use Rattle.route_pages.proofs.stored.page_in.Statement.{statement}
 use Rattle.route_pages.proofs.stored.page_in.Tie as tie
 
@@ -56,16 +51,9 @@ put-standing-requires c κs =
     let count = d .before in
     let place = count .before in
     let a = start d .args in (
-      omega (arith, page-room (here d) (test .if2 .left), header .put-header .kept .0),
+      omega (arith, page-room (here d) (test .if2 .left), header .put .kept .1),
       from-enough (a .table .now) (holds d) (a .number) (a .time) (place .place-behind .result) (count .standing-from .result) (place .place-behind .ensures .0) (count .standing-from .ensures .0),
     )
-
-seal-requires : tie.Need-seal-requires
-seal-requires c κs =
-    let entries = c .before .before .before in
-    let header = entries .before .before .before .before in
-    let test = header .before .before in
-    omega (arith, page-room (here (test .before)) (test .if2 .left), entries .put-standing .kept .0, header .put-header .kept .0)
 
 returns-3 : tie.Need-returns-3
 returns-3 c =
@@ -78,9 +66,9 @@ returns-3 c =
     let place = count .before in
     let a = start d .args in
     let rows = from-rows (a .table .now) (holds d) (a .number) (a .time) (place .place-behind .result) (count .standing-from .result) (place .place-behind .ensures .0) (count .standing-from .ensures .0) in
-    page-written (here d) (test .if2 .left) _ (ap (λ (h : Head). h .own) (place .before .head-of .ensures)) _ rows _ _ _ (header .put-header .ensures) (entries .put-standing .ensures) (sum .seal .ensures)
+    page-written (here d) (test .if2 .left) _ (ap (λ (h : Head). h .own) (place .before .head-of .ensures)) _ rows _ _ _ (header .put .ensures) (entries .put-standing .ensures) (sum .seal .ensures)
     ∙ in-held (a .table .now) (a .number) (a .time) (a .out .now) (holds d)
 
 pub page-in-spec : {M : Type 1} → statement M
 page-in-spec =
-    tie.close (tie.spec (λ c κs. search needs) returns (λ c κs. search needs) (λ c. search needs) (λ c κs. search needs) (λ c κs. search needs) (λ c κs. search needs) returns-2 (λ c. search needs) (λ c κs. search needs) put-standing-requires seal-requires (λ c. search needs) (λ c. search needs) (λ c. search needs) returns-3)
+    tie.close (tie.spec (λ c κs. search needs) returns (λ c κs. search needs) (λ c. search needs) (λ c κs. search needs) (λ c κs. search needs) (λ c κs. search needs) returns-2 (λ c. search needs) (λ c κs. search needs) put-standing-requires (λ c. search needs) (λ c. search needs) (λ c κs. search needs) (λ c. search needs) (λ c. search needs) (λ c. search needs) returns-3)

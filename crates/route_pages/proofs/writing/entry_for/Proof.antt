@@ -5,10 +5,7 @@ use borrow.Author.Needs.{needs}
 use Rattle.route_pages.proofs.writing.entry_for.Statement.{statement}
 use Rattle.route_pages.proofs.writing.entry_for.Tie as tie
 
-returns : tie.Need-returns
-unfolding entryFor
-returns c = rw (c .either2 .ensures, c .before .either .ensures, c .before .before .usable .ensures)
-
 pub entry-for-spec : {M : Type 1} → statement M
+unfolding entryFor
 entry-for-spec =
-    tie.close (tie.spec (λ c κs. search needs) (λ c κs. search needs) (λ c κs. search needs) returns)
+    tie.close (tie.spec (λ c κs. search needs) (λ c κs. search needs) (λ c κs. search needs) (λ c. rw (c .either2 .ensures, c .before .either .ensures, c .before .before .usable .ensures)))

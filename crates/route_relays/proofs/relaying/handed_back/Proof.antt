@@ -1,10 +1,8 @@
 -- `handed_back`: the payload where it is relayed to this unit.
 -- Assumes nothing.
-use mathlib.Core.Path.{sym, _∙_}
-use borrow.Author.Tests.{not-true, not-false}
+use Rattle.octets.proofs.Words.{sym, _∙_, needs, not-true, not-false}
 use Rattle.octets.specs.Parts.{lent}
 use Rattle.route_relays.proofs.RelayLaws.{handed-to-none, handed-part, handed-none}
-use borrow.Author.Needs.{needs}
 use Rattle.route_relays.proofs.relaying.handed_back.Statement.{statement}
 use Rattle.route_relays.proofs.relaying.handed_back.Tie as tie
 

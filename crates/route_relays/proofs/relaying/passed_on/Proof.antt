@@ -4,8 +4,5 @@ use borrow.Author.Needs.{needs}
 use Rattle.route_relays.proofs.relaying.passed_on.Statement.{statement}
 use Rattle.route_relays.proofs.relaying.passed_on.Tie as tie
 
-returns : tie.Need-returns
-returns c = rw (c .one-less .ensures)
-
 pub passed-on-spec : {M : Type 1} → statement M
-passed-on-spec = tie.close (tie.spec (λ c κs. search needs) returns)
+passed-on-spec = tie.close (tie.spec (λ c κs. search needs) (λ c. rw (c .one-less .ensures)))

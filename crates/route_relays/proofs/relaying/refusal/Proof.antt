@@ -1,11 +1,8 @@
 -- `refusal`: the first reason that holds.
 -- Assumes nothing.
-use mathlib.Core.Path.{_∙_, ap}
-use Prim.Native.Nat.{_+_}
-use lib.ListN.{length}
+use Rattle.octets.proofs.Words.{_∙_, ap, _+_, needs, length}
 use Rattle.octets.specs.Parts.{Lent}
 use Rattle.route_relays.proofs.RelayLaws.{header-in, copy-length}
-use borrow.Author.Needs.{needs}
 use Rattle.route_relays.proofs.relaying.refusal.Statement.{statement}
 use Rattle.route_relays.proofs.relaying.refusal.Tie as tie
 
@@ -28,12 +25,11 @@ returns c =
       second .refuse-if2 .ensures,
       first .refuse-if .ensures,
       fourth .before .in-order .ensures,
-      second .before .refusal .ensures,
-      unread .data-frame .ensures,
+      unread .refusal .ensures,
       ap (λ (l : Lent). length (l .bytes) + 10) (size .payload .ensures) ∙ copy-length (a .frame .now),
       header-in (header .of .result) (a .frame .now) (header .of .ensures),
     )
 
 pub refusal-spec : {M : Type 1} → statement M
 refusal-spec =
-    tie.close (tie.spec (λ c κs. search needs) (λ c κs. search needs) (λ c κs. search needs) (λ c. search needs) (λ c κs. search needs) (λ c κs. search needs) (λ c κs. search needs) (λ c κs. search needs) (λ c κs. search needs) (λ c κs. search needs) (λ c κs. search needs) (λ c κs. search needs) returns)
+    tie.close (tie.spec (λ c κs. search needs) (λ c κs. search needs) (λ c κs. search needs) (λ c. search needs) (λ c κs. search needs) (λ c κs. search needs) (λ c κs. search needs) (λ c κs. search needs) (λ c κs. search needs) (λ c κs. search needs) (λ c κs. search needs) returns)

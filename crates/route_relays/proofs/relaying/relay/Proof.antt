@@ -1,17 +1,15 @@
 -- `relay`: a table out of rule, or what its row for the destination makes of the frame.
 -- Assumes nothing.
-use mathlib.Core.Path.{sym, _∙_}
-use borrow.Author.Tests.{not-true, not-false}
+use Rattle.octets.proofs.Words.{sym, _∙_, needs, not-true, not-false}
 use Rattle.route_relays.proofs.RelayLaws.{header-in, relayed-by, unrelayed}
-use borrow.Author.Needs.{needs}
 use Rattle.route_relays.proofs.relaying.relay.Statement.{statement}
 use Rattle.route_relays.proofs.relaying.relay.Tie as tie
 
 returns : tie.Need-returns
 returns c =
-    let rule = c .before in
-    let a = rule .before .before .before .args in
-    unrelayed (a .table) (a .frame .now) (a .time) (a .out .now) (sym (rule .within-rule .ensures) ∙ not-true _ (c .if1 .taken))
+    let test = c .before in
+    let a = test .before .before .before .before .args in
+    rw (c .unwritten .ensures) (unrelayed (a .table) (a .frame .now) (a .time) (a .out .now) (sym (test .before .within-rule .ensures) ∙ not-true _ (test .if1 .taken)))
 
 returns-2 : tie.Need-returns-2
 returns-2 c =
@@ -28,4 +26,4 @@ returns-2 c =
 
 pub relay-spec : {M : Type 1} → statement M
 relay-spec =
-    tie.close (tie.spec (λ c κs. search needs) returns (λ c κs. search needs) (λ c κs. search needs) (λ c κs. search needs) (λ c κs. search needs) (λ c. search needs) returns-2)
+    tie.close (tie.spec (λ c κs. search needs) (λ c κs. search needs) returns (λ c κs. search needs) (λ c κs. search needs) (λ c κs. search needs) (λ c κs. search needs) (λ c. search needs) returns-2)

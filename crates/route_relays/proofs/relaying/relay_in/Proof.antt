@@ -1,20 +1,18 @@
 -- `relay_in`: no table, or what the row that lies in the bytes makes of the frame.
 -- Assumes nothing.
-use mathlib.Core.Path.{sym, _∙_}
-use borrow.Author.Tests.{not-true, not-false}
+use Rattle.octets.proofs.Words.{sym, _∙_, needs, not-true, not-false}
 use Rattle.route_bytes.specs.TableBytes.{tableIn}
 use Rattle.route_bytes.proofs.TableByteLaws.{rows-in}
 use Rattle.route_in_place.proofs.JudgedLaws.{judged-rule, judged-length}
 use Rattle.route_relays.proofs.RelayLaws.{header-in, relayed-by, stored-relayed, stored-none}
-use borrow.Author.Needs.{needs}
 use Rattle.route_relays.proofs.relaying.relay_in.Statement.{statement}
 use Rattle.route_relays.proofs.relaying.relay_in.Tie as tie
 
 returns : tie.Need-returns
 returns c =
-    let judged = c .before in
-    let a = judged .before .before .before .before .args in
-    stored-none (a .table .now) (a .frame .now) (a .time) (a .out .now) (sym (judged .holds-table .ensures) ∙ not-true _ (c .if1 .taken))
+    let test = c .before in
+    let a = test .before .before .before .before .before .args in
+    rw (c .unwritten .ensures) (stored-none (a .table .now) (a .frame .now) (a .time) (a .out .now) (sym (test .before .holds-table .ensures) ∙ not-true _ (test .if1 .taken)))
 
 returns-2 : tie.Need-returns-2
 returns-2 c =
@@ -33,4 +31,4 @@ returns-2 c =
 
 pub relay-in-spec : {M : Type 1} → statement M
 relay-in-spec =
-    tie.close (tie.spec (λ c κs. search needs) returns (λ c κs. search needs) (λ c κs. search needs) (λ c κs. search needs) (λ c κs. search needs) (λ c κs. search needs) (λ c. search needs) returns-2)
+    tie.close (tie.spec (λ c κs. search needs) (λ c κs. search needs) returns (λ c κs. search needs) (λ c κs. search needs) (λ c κs. search needs) (λ c κs. search needs) (λ c κs. search needs) (λ c. search needs) returns-2)

@@ -1,14 +1,9 @@
 -- `all_stand`'s loop: whether the rows from i on stand is whether all do.
 -- Assumes nothing.
-use mathlib.Core.Path.{_≡_, refl, sym, _∙_}
-use Prim.Native.Nat.{_≤_, _-_}
-use native.Mathlib.Omega.{arith}
-use borrow.Author.Tests.{not-true, not-false}
-use lib.ListN.{length, drop, drop-of-length-le}
+use Rattle.octets.proofs.Words.{_≡_, refl, sym, _∙_, _≤_, _-_, arith, needs, not-true, not-false, length, drop, drop-of-length-le}
 use Rattle.octets.specs.Lists.{every}
 use Rattle.route_table.specs.Rows.{stands, inUse}
 use Rattle.route_table.proofs.StandingLaws.{stand-end, stand-stop, stand-on}
-use borrow.Author.Needs.{needs}
 use Rattle.route_table.proofs.standing.all_stand.Statement.{statement}
 use Rattle.route_table.proofs.standing.all_stand.Tie as tie
 

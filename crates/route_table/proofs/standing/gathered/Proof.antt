@@ -1,13 +1,8 @@
 -- `gathered`'s loop gathers the standing rows of the places passed.
 -- Assumes nothing.
-use mathlib.Core.Path.{sym, _∙_}
-use native.Mathlib.Omega.{arith}
-use borrow.Author.Tests.{not-true, not-false}
-use mathlib.Core.Path.{refl}
-use Prim.Native.Nat.{_-_}
+use Rattle.octets.proofs.Words.{sym, _∙_, refl, _-_, arith, needs, not-true, not-false}
 use Rattle.route_table.specs.Rows.{pad}
 use Rattle.route_table.proofs.RowLaws.{Gathered, gathered-end, gathered-last, gathered-skip, gathered-push}
-use borrow.Author.Needs.{needs}
 use Rattle.route_table.proofs.standing.gathered.Statement.{statement}
 use Rattle.route_table.proofs.standing.gathered.Tie as tie
 

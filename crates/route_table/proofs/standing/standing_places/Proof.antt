@@ -1,8 +1,7 @@
 -- `standing_places`: the places as they were, or the standing rows gathered.
 -- Assumes nothing.
-use mathlib.Core.Path.{sym, _∙_}
+use Rattle.octets.proofs.Words.{sym, _∙_, needs}
 use Rattle.route_table.proofs.StandingLaws.{places-same, places-gathered}
-use borrow.Author.Needs.{needs}
 use Rattle.route_table.proofs.standing.standing_places.Statement.{statement}
 use Rattle.route_table.proofs.standing.standing_places.Tie as tie
 

@@ -1,16 +1,8 @@
 -- `forgotten_rows`'s loop: what is done, with what is left to do, is every row changed.
 -- Assumes nothing.
-use mathlib.Core.Path.{_≡_, refl, sym, _∙_}
-use mathlib.Core.List.{append-nil}
-use native.Mathlib.Omega.{arith}
-use lib.ListN.{length-set, drop-of-length-le}
-use lib.Seq.{take-all}
-use mathlib.Core.List.{_++_, map}
-use Prim.Native.Nat.{_≤_, _-_}
-use lib.ListN.{length, take, drop}
+use Rattle.octets.proofs.Words.{_≡_, refl, sym, _∙_, append-nil, _++_, map, _≤_, _-_, arith, needs, length-set, drop-of-length-le, length, take, drop, take-all}
 use Rattle.route_table.specs.Rows.{forgotten}
 use Rattle.route_table.proofs.RowLaws.{map-turn}
-use borrow.Author.Needs.{needs}
 use Rattle.route_table.proofs.table.forgotten_rows.Statement.{statement}
 use Rattle.route_table.proofs.table.forgotten_rows.Tie as tie
 

@@ -1,19 +1,19 @@
 -- `found_by`: the first refusal, or the row's next hop.
 -- Assumes nothing.
-use mathlib.Core.Path.{_∙_}
+use Rattle.octets.proofs.Words.{_∙_, needs}
 use Rattle.route_table.specs.Tables.{foundBy}
-use borrow.Author.Needs.{needs}
 use Rattle.route_table.proofs.table.found_by.Statement.{statement}
 use Rattle.route_table.proofs.table.found_by.Tie as tie
 
 returns : tie.Need-returns
 unfolding foundBy
 returns c =
-    let second = c .before .before in
+    let second = c .before .before .before in
     let first = second .before .before in
-    c .answered .ensures ∙
+    c .found-or .ensures ∙
     rw (
       c .before .refuse-if3 .ensures,
+      c .before .before .is-address .ensures,
       second .refuse-if2 .ensures,
       first .refuse-if .ensures,
       second .before .in-order .ensures,
@@ -22,4 +22,4 @@ returns c =
 
 pub found-by-spec : {M : Type 1} → statement M
 found-by-spec =
-    tie.close (tie.spec (λ c κs. search needs) (λ c κs. search needs) (λ c κs. search needs) (λ c κs. search needs) (λ c κs. search needs) (λ c κs. search needs) returns)
+    tie.close (tie.spec (λ c κs. search needs) (λ c κs. search needs) (λ c κs. search needs) (λ c κs. search needs) (λ c κs. search needs) (λ c κs. search needs) (λ c κs. search needs) returns)

@@ -1,12 +1,8 @@
 -- `places_ok`'s loop: the places from i on are right exactly if all are.
 -- Assumes nothing.
-use native.Mathlib.Omega.{arith}
-use mathlib.Core.Path.{_≡_, refl}
-use Prim.Native.Nat.{_≤_, _-_}
-use lib.ListN.{drop}
+use Rattle.octets.proofs.Words.{_≡_, refl, _≤_, _-_, arith, needs, drop}
 use Rattle.route_table.specs.Places.{okPlaces}
 use Rattle.route_table.proofs.PlaceLaws.{ok-stop, ok-again, ok-end}
-use borrow.Author.Needs.{needs}
 use Rattle.route_table.proofs.table.places_ok.Statement.{statement}
 use Rattle.route_table.proofs.table.places_ok.Tie as tie
 

@@ -1,14 +1,8 @@
 -- `row_for`'s loop: the row that is looked for is that of the places from i on.
 -- Assumes nothing.
-use mathlib.Core.Path.{_∙_}
-use native.Mathlib.Omega.{arith}
-use lib.ListN.{length, drop-of-length-le}
-use mathlib.Core.Path.{_≡_, refl}
-use Prim.Native.Nat.{_≤_, _-_}
-use lib.ListN.{drop}
+use Rattle.octets.proofs.Words.{_∙_, _≡_, refl, _≤_, _-_, arith, needs, length, drop-of-length-le, drop}
 use Rattle.route_table.specs.Rows.{inUse, rowFor}
 use Rattle.route_table.proofs.RowLaws.{row-none, row-here, row-on}
-use borrow.Author.Needs.{needs}
 use Rattle.route_table.proofs.table.row_for.Statement.{statement}
 use Rattle.route_table.proofs.table.row_for.Tie as tie
 

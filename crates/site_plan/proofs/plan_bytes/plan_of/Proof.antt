@@ -1,10 +1,7 @@
 -- `plan_of`: each number stands where the layout says.
 -- Assumes nothing.
-use mathlib.Core.Path.{_≡_}
-use Prim.Native.Nat.{_+_}
-use native.Mathlib.Omega.{arith}
+use Rattle.octets.proofs.Words.{_≡_, _+_, arith, needs}
 use Rattle.site_plan.specs.PlanBytes.{planAt}
-use borrow.Author.Needs.{needs}
 use Rattle.site_plan.proofs.plan_bytes.plan_of.Statement.{statement}
 use Rattle.site_plan.proofs.plan_bytes.plan_of.Tie as tie
 

@@ -1,12 +1,9 @@
 -- `put_plan`: the plan's numbers, one behind the other from the place on.
 -- Assumes nothing.
-use mathlib.Core.Path.{refl}
-use native.Mathlib.Omega.{arith}
-use denote.Ref.{now}
+use Rattle.octets.proofs.Words.{refl, arith, needs, now}
 use Rattle.octets.proofs.StoreLaws.{all-put, put, done}
 use Rattle.site_plan.specs.Plans.{planValues}
 use Rattle.site_plan.specs.PlanBytes.{planWidths, planBytes}
-use borrow.Author.Needs.{needs}
 use Rattle.site_plan.proofs.plan_bytes.put_plan.Statement.{statement}
 use Rattle.site_plan.proofs.plan_bytes.put_plan.Tie as tie
 

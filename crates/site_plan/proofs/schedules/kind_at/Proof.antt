@@ -1,12 +1,9 @@
 -- `kind_at`: each region's kind.
 -- Assumes nothing.
-use mathlib.Core.Path.{sym, _∙_}
-use native.Mathlib.Omega.{arith}
+use Rattle.octets.proofs.Words.{sym, _∙_, arith, needs, lt-ltb}
 use Rattle.slot_sets.specs.Sets.{slotsOf}
 use Rattle.site_plan.specs.Plans.{controlAt, dataAt, discoveryAt, sleepAt}
 use Rattle.site_plan.proofs.RegionLaws.{inside, kinds-by-region}
-use borrow.Author.Tests.{lt-ltb}
-use borrow.Author.Needs.{needs}
 use Rattle.site_plan.proofs.schedules.kind_at.Statement.{statement}
 use Rattle.site_plan.proofs.schedules.kind_at.Tie as tie
 

@@ -4,8 +4,5 @@ use Rattle.slot_sets.proofs.MaskLaws.{mask-apart}
 use Rattle.slot_sets.proofs.masks.apart.Statement.{statement}
 use Rattle.slot_sets.proofs.masks.apart.Tie as tie
 
-returns : tie.Need-returns
-returns c = mask-apart (c .args .a) (c .args .b) (c .fits .a .fits)
-
 pub apart-spec : {M : Type 1} → statement M
-apart-spec = tie.close (tie.spec returns)
+apart-spec = tie.close (tie.spec (λ c. mask-apart (c .args .a) (c .args .b) (c .fits .a .fits)))

@@ -12,8 +12,5 @@ returns c =
     let m = c .before .args .m in
     one-dropped m _ (mask-drop m (c .if1 .taken))
 
-returns-2 : tie.Need-returns-2
-returns-2 c = none-dropped (c .before .args .m) (omega (arith, c .if1 .left))
-
 pub dropped-spec : {M : Type 1} → statement M
-dropped-spec = tie.close (tie.spec (λ c. search needs) returns returns-2)
+dropped-spec = tie.close (tie.spec (λ c. search needs) returns (λ c. none-dropped (c .before .args .m) (omega (arith, c .if1 .left))))

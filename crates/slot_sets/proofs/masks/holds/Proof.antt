@@ -8,11 +8,5 @@ use Rattle.slot_sets.proofs.MaskLaws.{mask-has, has-past}
 use Rattle.slot_sets.proofs.masks.holds.Statement.{statement}
 use Rattle.slot_sets.proofs.masks.holds.Tie as tie
 
-returns : tie.Need-returns
-returns c = mask-has (c .before .args .m) (c .before .args .i) (omega arith)
-
-returns-2 : tie.Need-returns-2
-returns-2 c = sym (has-past (slotsOf (c .before .args .m)) (c .before .args .i) (omega arith))
-
 pub holds-spec : {M : Type 1} → statement M
-holds-spec = tie.close (tie.spec (λ c. search needs) returns returns-2)
+holds-spec = tie.close (tie.spec (λ c. search needs) (λ c. mask-has (c .before .args .m) (c .before .args .i) (omega arith)) (λ c. sym (has-past (slotsOf (c .before .args .m)) (c .before .args .i) (omega arith))))

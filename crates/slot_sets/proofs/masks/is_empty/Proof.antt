@@ -4,8 +4,5 @@ use Rattle.slot_sets.proofs.MaskLaws.{mask-empty}
 use Rattle.slot_sets.proofs.masks.is_empty.Statement.{statement}
 use Rattle.slot_sets.proofs.masks.is_empty.Tie as tie
 
-returns : tie.Need-returns
-returns c = mask-empty (c .args .m) (c .fits .m .fits)
-
 pub is-empty-spec : {M : Type 1} → statement M
-is-empty-spec = tie.close (tie.spec returns)
+is-empty-spec = tie.close (tie.spec (λ c. mask-empty (c .args .m) (c .fits .m .fits)))

@@ -4,8 +4,5 @@ use Rattle.slot_sets.proofs.MaskLaws.{mask-or}
 use Rattle.slot_sets.proofs.masks.joined.Statement.{statement}
 use Rattle.slot_sets.proofs.masks.joined.Tie as tie
 
-returns : tie.Need-returns
-returns c = mask-or (c .args .a) (c .args .b)
-
 pub joined-spec : {M : Type 1} → statement M
-joined-spec = tie.close (tie.spec returns)
+joined-spec = tie.close (tie.spec (λ c. mask-or (c .args .a) (c .args .b)))

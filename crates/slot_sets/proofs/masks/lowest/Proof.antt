@@ -41,5 +41,4 @@ returns c =
 
 pub lowest-spec : {M : Type 1} → statement M
 lowest-spec =
-    tie.close
-    (tie.spec Inv-loop μ-loop loop-holds sub-left add-dropped loop-less loop-again (λ c κs. search needs) returns)
+    tie.close (tie.spec Inv-loop μ-loop loop-holds sub-left add-dropped loop-less loop-again (λ c κs. search needs) returns)

@@ -4,8 +4,5 @@ use Rattle.slot_sets.proofs.MaskLaws.{mask-size}
 use Rattle.slot_sets.proofs.masks.size.Statement.{statement}
 use Rattle.slot_sets.proofs.masks.size.Tie as tie
 
-returns : tie.Need-returns
-returns c = mask-size (c .args .m) (c .fits .m .fits)
-
 pub size-spec : {M : Type 1} → statement M
-size-spec = tie.close (tie.spec returns)
+size-spec = tie.close (tie.spec (λ c. mask-size (c .args .m) (c .fits .m .fits)))

@@ -4,8 +4,5 @@ use Rattle.slot_sets.proofs.MaskLaws.{mask-and-not}
 use Rattle.slot_sets.proofs.masks.without.Statement.{statement}
 use Rattle.slot_sets.proofs.masks.without.Tie as tie
 
-returns : tie.Need-returns
-returns c = mask-and-not (c .args .a) (c .args .b) (c .fits .b .fits)
-
 pub without-spec : {M : Type 1} → statement M
-without-spec = tie.close (tie.spec returns)
+without-spec = tie.close (tie.spec (λ c. mask-and-not (c .args .a) (c .args .b) (c .fits .b .fits)))

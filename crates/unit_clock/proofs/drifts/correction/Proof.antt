@@ -1,8 +1,6 @@
 -- `correction`: each return is one side of a limit.
 -- Assumes nothing.
-use borrow.Author.Needs.{needs}
-use mathlib.Core.Path.{sym, ap, _∙_}
-use native.Mathlib.Omega.{arith}
+use Rattle.octets.proofs.Words.{sym, ap, _∙_, arith, needs}
 use Rattle.unit_clock.specs.Clock.{signed, wrapped}
 use Rattle.unit_clock.proofs.CorrectionLaws.{hard, halved, kept}
 use Rattle.unit_clock.proofs.SignLaws.{wrapped-signed, above}

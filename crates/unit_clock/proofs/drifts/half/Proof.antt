@@ -1,7 +1,6 @@
 -- `half`: half of the size, on the drift's side of zero.
 -- Assumes nothing.
-use borrow.Author.Needs.{needs}
-use mathlib.Core.Path.{_∙_}
+use Rattle.octets.proofs.Words.{_∙_, needs}
 use Rattle.unit_clock.proofs.SignLaws.{half-signed}
 use Rattle.unit_clock.proofs.drifts.half.Statement.{statement}
 use Rattle.unit_clock.proofs.drifts.half.Tie as tie

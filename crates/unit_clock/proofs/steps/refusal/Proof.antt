@@ -1,7 +1,6 @@
 -- `refusal`: the first reason that holds.
 -- Assumes nothing.
-use borrow.Author.Needs.{needs}
-use mathlib.Core.Path.{_∙_}
+use Rattle.octets.proofs.Words.{_∙_, needs}
 use Rattle.unit_clock.proofs.steps.refusal.Statement.{statement}
 use Rattle.unit_clock.proofs.steps.refusal.Tie as tie
 

@@ -1,7 +1,6 @@
 -- `step_by_beacon`: the step by the beacon's times, unless its frame or its network refuses.
 -- Assumes nothing.
-use borrow.Author.Needs.{needs}
-use denote.Ref.{now}
+use Rattle.octets.proofs.Words.{needs, now}
 use Rattle.unit_clock.proofs.StepLaws.{by-beacon}
 use Rattle.unit_clock.proofs.steps.step_by_beacon.Statement.{statement}
 use Rattle.unit_clock.proofs.steps.step_by_beacon.Tie as tie
@@ -13,7 +12,7 @@ returns c =
     let o = r .before in
     let s = o .before .before .before in
     by-beacon (o .of .result) (s .args .offset) (s .args .local) (s .args .network) (now (s .args .frame)) _ _ _ _
-    (o .of .ensures) (o .before .beacon .ensures) (r .refusal .ensures) (n .step .ensures) (c .unless .ensures)
+    (o .of .ensures) (o .before .refusal .ensures) (r .refusal2 .ensures) (n .step .ensures) (c .unless .ensures)
 
 pub step-by-beacon-spec : {M : Type 1} → statement M
 step-by-beacon-spec = tie.close (tie.spec (λ c κs. search needs) (λ c κs. search needs) (λ c κs. search needs) (λ c κs. search needs) (λ c κs. search needs) returns)

@@ -5,10 +5,7 @@ use Rattle.unit_life.specs.StateBytes.{stateOver}
 use Rattle.unit_life.proofs.state_bytes.put_state.Statement.{statement}
 use Rattle.unit_life.proofs.state_bytes.put_state.Tie as tie
 
-returns : tie.Need-returns
-unfolding stateOver
-returns c = c .before .before .put-layout .ensures
-
 pub put-state-spec : {M : Type 1} → statement M
+unfolding stateOver
 put-state-spec =
-    tie.close (tie.spec (λ c. search needs) (λ c. search needs) (λ c. search needs) (λ c κs. search needs) (λ c. search needs) returns)
+    tie.close (tie.spec (λ c. search needs) (λ c. search needs) (λ c. search needs) (λ c κs. search needs) (λ c. search needs) (λ c. c .before .before .put-layout .ensures))

@@ -1,8 +1,7 @@
 -- `Book::fresh`: the plan's own rule, or zeros.
 -- Assumes nothing.
-use mathlib.Core.Path.{_∙_}
+use Rattle.octets.proofs.Words.{_∙_, needs}
 use Rattle.book.specs.Books.{freshOf}
-use borrow.Author.Needs.{needs}
 use Rattle.book.proofs.book.Book.fresh.Statement.{statement}
 use Rattle.book.proofs.book.Book.fresh.Tie as tie
 

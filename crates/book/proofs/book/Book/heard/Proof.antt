@@ -1,8 +1,7 @@
 -- `Book::heard`: a live member's row with the call's time.
 -- Assumes nothing.
-use mathlib.Core.Path.{_∙_}
+use Rattle.octets.proofs.Words.{_∙_, needs}
 use Rattle.book.proofs.VisitLaws.{heards}
-use borrow.Author.Needs.{needs}
 use Rattle.book.proofs.book.Book.heard.Statement.{statement}
 use Rattle.book.proofs.book.Book.heard.Tie as tie
 
@@ -14,8 +13,8 @@ returns c =
     let now = found .before in
     let a = now .before .before .before .args in
     c .settled .ensures ∙
-    heards (a .self) (a .unit) (a .time) (now .current .result) (now .current .ensures) (found .row-for .result) (found .row-for .ensures .0) (place .in-use .result) (place .in-use .ensures)
-    (found .row-for .ensures .1) (written .before .before .refusal .result) (written .before .slots-at .result) (written .with-row .result) (written .before .before .refusal .ensures)
+    heards (a .self) (a .unit) (a .time) (now .current .result) (now .current .ensures) (found .place-for .result) (found .place-for .ensures .0) (place .in-use .result) (place .in-use .ensures)
+    (found .place-for .ensures .1) (written .before .before .refusal .result) (written .before .slots-at .result) (written .with-row .result) (written .before .before .refusal .ensures)
     (written .before .slots-at .ensures) (written .with-row .ensures)
 
 pub heard-spec : {M : Type 1} → statement M

@@ -1,8 +1,7 @@
 -- `Book::leave`: a live member's row freed.
 -- Assumes nothing.
-use mathlib.Core.Path.{_∙_}
+use Rattle.octets.proofs.Words.{_∙_, needs}
 use Rattle.book.proofs.VisitLaws.{leaves}
-use borrow.Author.Needs.{needs}
 use Rattle.book.proofs.book.Book.leave.Statement.{statement}
 use Rattle.book.proofs.book.Book.leave.Tie as tie
 
@@ -14,8 +13,8 @@ returns c =
     let now = found .before in
     let a = now .before .before .before .args in
     c .settled .ensures ∙
-    leaves (a .self) (a .unit) (a .time) (now .current .result) (now .current .ensures) (found .row-for .result) (found .row-for .ensures .0) (place .in-use .result) (place .in-use .ensures)
-    (found .row-for .ensures .1) (written .before .refusal .result) (written .with-row .result) (written .before .refusal .ensures) (written .with-row .ensures)
+    leaves (a .self) (a .unit) (a .time) (now .current .result) (now .current .ensures) (found .place-for .result) (found .place-for .ensures .0) (place .in-use .result) (place .in-use .ensures)
+    (found .place-for .ensures .1) (written .before .refusal .result) (written .with-row .result) (written .before .refusal .ensures) (written .with-row .ensures)
 
 pub leave-spec : {M : Type 1} → statement M
 leave-spec =

@@ -1,53 +1,36 @@
 -- `Book::schedule`: the kinds of the slots, or the number that refuses it.
 -- Assumes nothing.
-use mathlib.Core.Path.{_≡_, sym, ap, _∙_}
-use Prim.Native.Nat.{_<_, _≤_}
-use native.Mathlib.Omega.{arith}
-use borrow.Author.Needs.{fits-under}
-use lib.ListN.{length}
-use lib.Dec.{ltb}
-use mathlib.Core.Bool.{Bool, true}
-use denote.Ref.{now}
-use borrow.Author.Tests.{ltb-true}
-use Rattle.book.specs.Books.{stated, liveAt}
-use Rattle.book.specs.Schedules.{scheduleRefusal}
-use Rattle.book.proofs.ScheduleLaws.{few-slots, Schedulable, schedulable, unscheduled, scheduled}
+use Rattle.octets.proofs.Words.{_≡_, sym, _∙_, arith, fits-under, needs, ltb-true, ltb, length, now}
+use Rattle.book.specs.Books.{contents, liveAt}
+use Rattle.book.proofs.ScheduleLaws.{Schedulable, schedulable, unscheduled, scheduled}
 use Rattle.book.proofs.VisitLaws.{live-now, found-at, slots-there}
-use borrow.Author.Needs.{needs}
+use Rattle.site_plan.proofs.PlanLaws.{few-slots}
 use Rattle.book.proofs.book.Book.schedule.Statement.{statement}
 use Rattle.book.proofs.book.Book.schedule.Tie as tie
 
--- what is known once it is decided
-live : (d : tie.After-refusal) → ltb (d .before .before .row-for .result) (d .before .in-use .result) ≡ liveAt (stated (d .before .before .before .before .before .before .before .args .self)) (d .before .before .before .before .before .before .before .args .unit) (d .before .before .before .before .before .before .before .args .time)
+-- where the unit is found, the book and the unit are those of the call
+live : (d : tie.After-in-use) → let a = d .before .before .before .before .before .before .args in
+    ltb (d .before .place-for .result) (d .in-use .result) ≡ liveAt (contents (a .self)) (a .unit) (a .time)
 live d =
-    let a = d .before .before .before .before .before .before .before .args in
-    let found = d .before .before in
-    live-now (a .self) (a .unit) (a .time) (found .before .current .result) (found .before .current .ensures) (found .row-for .result) (found .row-for .ensures .0) (d .before .in-use .result)
-    (d .before .in-use .ensures) (found .row-for .ensures .1)
+    let a = d .before .before .before .before .before .before .args in
+    let found = d .before in
+    live-now (a .self) (a .unit) (a .time) (found .before .current .result) (found .before .current .ensures) (found .place-for .result) (found .place-for .ensures .0) (d .in-use .result)
+    (d .in-use .ensures) (found .place-for .ensures .1)
 
-number : (d : tie.After-refusal)
-    → d .refusal .result ≡ scheduleRefusal (stated (d .before .before .before .before .before .before .before .args .self)) (d .before .before .before .before .before .before .before .args .unit) (d .before .before .before .before .before .before .before .args .hop) (d .before .before .before .before .before .before .before .args .time) (liveAt (stated (d .before .before .before .before .before .before .before .args .self)) (d .before .before .before .before .before .before .before .args .unit) (d .before .before .before .before .before .before .before .args .time)) (length (now (d .before .before .before .before .before .before .before .args .out)))
-number d =
-    let a = d .before .before .before .before .before .before .before .args in
-    d .refusal .ensures ∙ ap (λ (b : Bool). scheduleRefusal (stated (a .self)) (a .unit) (a .hop) (a .time) b (length (now (a .out)))) (live d)
-
-able : (d : tie.After-refusal) → d .refusal .result ≡ 0
-    → Schedulable (stated (d .before .before .before .before .before .before .before .args .self)) (d .before .before .before .before .before .before .before .args .unit) (d .before .before .before .before .before .before .before .args .hop) (d .before .before .before .before .before .before .before .args .time) (liveAt (stated (d .before .before .before .before .before .before .before .args .self)) (d .before .before .before .before .before .before .before .args .unit) (d .before .before .before .before .before .before .before .args .time)) (length (now (d .before .before .before .before .before .before .before .args .out)))
-able d z = schedulable _ _ _ _ _ _ (sym (number d) ∙ z)
+able : (d : tie.After-refusal) → d .refusal .result ≡ 0 → let a = d .before .before .before .before .before .before .before .args in
+    Schedulable (contents (a .self)) (a .unit) (a .hop) (a .time) (length (now (a .out)))
+able d z = schedulable _ _ _ _ _ (sym (d .refusal .ensures) ∙ z)
 
 returns : tie.Need-returns
 returns c =
     let a = c .before .before .before .before .before .before .before .before .args in
-    unscheduled (stated (a .self)) (a .unit) (a .hop) (a .time) (c .before .refusal .result) (now (a .out)) (number (c .before)) (c .if1 .taken)
+    unscheduled (contents (a .self)) (a .unit) (a .hop) (a .time) (c .before .refusal .result) (now (a .out)) (c .before .refusal .ensures) (c .if1 .taken)
 
 cast-put-kinds : tie.Need-cast-put-kinds
 cast-put-kinds c =
     let d = c .before .before .before in
-    let below = ltb-true (d .before .before .row-for .result) (d .before .in-use .result) (live d ∙ able d (c .before .before .if1 .left) .member) in
+    let below = ltb-true (d .before .before .place-for .result) (d .before .in-use .result) (live (d .before) ∙ able d (c .before .before .if1 .left) .member) in
     fits-under _ _ 22 (omega (arith, below, d .before .in-use .ensures)) _
-
-cast-put-kinds-2 : tie.Need-cast-put-kinds-2
-cast-put-kinds-2 c = omega (arith, able (c .before .before .before) (c .before .before .if1 .left) .near)
 
 cast-put-kinds-3 : tie.Need-cast-put-kinds-3
 cast-put-kinds-3 c =
@@ -69,13 +52,13 @@ returns-2 c =
     let found = d .before .before in
     let rows = found .before .current .result in
     let z = put .before .before .before .before .if1 .left in
-    let at = found-at (a .self) (a .unit) (a .time) rows (found .before .current .ensures) (found .row-for .result) (found .row-for .ensures .0) (d .before .in-use .result) (d .before .in-use .ensures)
-    (found .row-for .ensures .1) in
-    let own = slots-there (a .self) (a .unit) (a .time) rows (found .before .current .ensures) (found .row-for .result) (found .row-for .ensures .0) (d .before .in-use .result) (d .before .in-use .ensures)
-    (found .row-for .ensures .1) (able d z .member) in
-    scheduled (stated (a .self)) (a .unit) (a .hop) (a .time) (d .refusal .result) (now (a .out)) (number d) (put .before .before .before .slots .result) (found .row-for .result) _ _ z
+    let at = found-at (a .self) (a .unit) (a .time) rows (found .before .current .ensures) (found .place-for .result) (found .place-for .ensures .0) (d .before .in-use .result) (d .before .in-use .ensures)
+    (found .place-for .ensures .1) in
+    let own = slots-there (a .self) (a .unit) (a .time) rows (found .before .current .ensures) (found .place-for .result) (found .place-for .ensures .0) (d .before .in-use .result) (d .before .in-use .ensures)
+    (found .place-for .ensures .1) (able d z .member) in
+    scheduled (contents (a .self)) (a .unit) (a .hop) (a .time) (d .refusal .result) (now (a .out)) (d .refusal .ensures) (put .before .before .before .slots .result) (found .place-for .result) _ _ z
     (put .before .before .before .slots .ensures) at (put .before .slots-at .ensures ∙ own) (put .put-kinds .ensures)
 
 pub schedule-spec : {M : Type 1} → statement M
 schedule-spec =
-    tie.close (tie.spec (λ c κs. search needs) (λ c κs. search needs) (λ c κs. search needs) (λ c κs. search needs) returns (λ c κs. search needs) cast-put-kinds cast-put-kinds-2 (λ c κs. search needs) cast-put-kinds-3 put-kinds-requires (λ c. search needs) (λ c. search needs) returns-2)
+    tie.close (tie.spec (λ c κs. search needs) (λ c κs. search needs) (λ c κs. search needs) (λ c κs. live c) returns (λ c κs. search needs) cast-put-kinds (λ c. omega (arith, able (c .before .before .before) (c .before .before .if1 .left) .near)) (λ c κs. search needs) cast-put-kinds-3 put-kinds-requires (λ c. search needs) (λ c. search needs) returns-2)

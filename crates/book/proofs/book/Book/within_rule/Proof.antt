@@ -5,9 +5,6 @@ use borrow.Author.Needs.{needs}
 use Rattle.book.proofs.book.Book.within_rule.Statement.{statement}
 use Rattle.book.proofs.book.Book.within_rule.Tie as tie
 
-returns : tie.Need-returns
-unfolding withinRule
-returns c = rw (c .before .before .within-rule .ensures, c .before .rows-within-rule .ensures, c .empty-from .ensures)
-
 pub within-rule-spec : {M : Type 1} → statement M
-within-rule-spec = tie.close (tie.spec (λ c κs. search needs) (λ c κs. search needs) (λ c κs. search needs) returns)
+unfolding withinRule
+within-rule-spec = tie.close (tie.spec (λ c κs. search needs) (λ c κs. search needs) (λ c κs. search needs) (λ c. rw (c .before .before .within-rule .ensures, c .before .rows-within-rule .ensures, c .empty-from .ensures)))

@@ -4,8 +4,5 @@ use borrow.Author.Needs.{needs}
 use Rattle.book_members.proofs.member.Member.is_empty.Statement.{statement}
 use Rattle.book_members.proofs.member.Member.is_empty.Tie as tie
 
-returns : tie.Need-returns
-returns c = rw (c .before .is-empty .ensures)
-
 pub is-empty-spec : {M : Type 1} → statement M
-is-empty-spec = tie.close (tie.spec (λ c κs. search needs) returns)
+is-empty-spec = tie.close (tie.spec (λ c κs. search needs) (λ c. rw (c .before .is-empty .ensures)))

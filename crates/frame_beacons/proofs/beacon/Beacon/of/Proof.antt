@@ -4,9 +4,6 @@ use borrow.Author.Needs.{needs}
 use Rattle.frame_beacons.proofs.beacon.Beacon.of.Statement.{statement}
 use Rattle.frame_beacons.proofs.beacon.Beacon.of.Tie as tie
 
-returns : tie.Need-returns
-returns c = cc
-
 pub of-spec : {M : Type 1} → statement M
 of-spec =
-    tie.close (tie.spec (λ c κs. search needs) (λ c κs. search needs) (λ c κs. search needs) (λ c κs. search needs) (λ c κs. search needs) (λ c κs. search needs) (λ c κs. search needs) (λ c κs. search needs) (λ c κs. search needs) (λ c κs. search needs) (λ c κs. search needs) (λ c κs. search needs) (λ c κs. search needs) (λ c κs. search needs) returns)
+    tie.close (tie.spec (λ c κs. search needs) (λ c κs. search needs) (λ c κs. search needs) (λ c κs. search needs) (λ c κs. search needs) (λ c κs. search needs) (λ c κs. search needs) (λ c κs. search needs) (λ c κs. search needs) (λ c κs. search needs) (λ c κs. search needs) (λ c κs. search needs) (λ c κs. search needs) (λ c κs. search needs) (λ c. cc))

@@ -1,10 +1,7 @@
 -- `Entry::of`: the fields of an entry stand one behind the other.
 -- Assumes nothing.
-use mathlib.Core.Path.{_≡_}
-use Prim.Native.Nat.{_+_, _*_}
-use native.Mathlib.Omega.{arith}
+use Rattle.octets.proofs.Words.{_≡_, _+_, _*_, arith, needs}
 use Rattle.frame_traffic.specs.Traffic.{entryAt}
-use borrow.Author.Needs.{needs}
 use Rattle.frame_traffic.proofs.entry.Entry.of.Statement.{statement}
 use Rattle.frame_traffic.proofs.entry.Entry.of.Tie as tie
 

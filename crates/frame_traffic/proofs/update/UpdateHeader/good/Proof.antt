@@ -4,8 +4,7 @@ use borrow.Author.Needs.{needs}
 use Rattle.frame_traffic.proofs.update.UpdateHeader.good.Statement.{statement}
 use Rattle.frame_traffic.proofs.update.UpdateHeader.good.Tie as tie
 
-returns : tie.Need-returns
-returns c = cc
-
 pub good-spec : {M : Type 1} → statement M
-good-spec = tie.close (tie.spec (λ c κs. search needs) returns)
+good-spec =
+    tie.close (tie.spec (λ c κs. search needs) (λ c κs. search needs)
+    (λ c. cc))

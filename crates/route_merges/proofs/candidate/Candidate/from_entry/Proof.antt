@@ -1,8 +1,7 @@
 -- `Candidate::from_entry`: nothing of an entry that is passed over, else what it offers.
 -- Assumes nothing.
-use mathlib.Core.Path.{_∙_}
+use Rattle.octets.proofs.Words.{_∙_, needs}
 use Rattle.route_merges.proofs.CandidateLaws.{over, not-over}
-use borrow.Author.Needs.{needs}
 use Rattle.route_merges.proofs.candidate.Candidate.from_entry.Statement.{statement}
 use Rattle.route_merges.proofs.candidate.Candidate.from_entry.Tie as tie
 

@@ -4,8 +4,5 @@ use borrow.Author.Needs.{needs}
 use Rattle.route_table.proofs.row.Row.leads.Statement.{statement}
 use Rattle.route_table.proofs.row.Row.leads.Tie as tie
 
-returns : tie.Need-returns
-returns c = rw (c .usable .ensures)
-
 pub leads-spec : {M : Type 1} → statement M
-leads-spec = tie.close (tie.spec (λ c κs. search needs) returns)
+leads-spec = tie.close (tie.spec (λ c κs. search needs) (λ c. rw (c .usable .ensures)))

@@ -4,8 +4,5 @@ use borrow.Author.Needs.{needs}
 use Rattle.route_table.proofs.row.Row.lost.Statement.{statement}
 use Rattle.route_table.proofs.row.Row.lost.Tie as tie
 
-returns : tie.Need-returns
-returns c = rw (c .before .before .usable .ensures)
-
 pub lost-spec : {M : Type 1} → statement M
-lost-spec = tie.close (tie.spec (λ c κs. search needs) returns)
+lost-spec = tie.close (tie.spec (λ c κs. search needs) (λ c. rw (c .before .before .usable .ensures)))

@@ -4,8 +4,5 @@ use borrow.Author.Needs.{needs}
 use Rattle.route_table.proofs.row.Row.stands.Statement.{statement}
 use Rattle.route_table.proofs.row.Row.stands.Tie as tie
 
-returns : tie.Need-returns
-returns c = rw (c .before .age .ensures, c .lifetime .ensures)
-
 pub stands-spec : {M : Type 1} → statement M
-stands-spec = tie.close (tie.spec (λ c κs. search needs) (λ c κs. search needs) returns)
+stands-spec = tie.close (tie.spec (λ c κs. search needs) (λ c κs. search needs) (λ c. rw (c .before .age .ensures, c .lifetime .ensures)))

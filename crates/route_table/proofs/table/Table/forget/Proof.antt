@@ -1,10 +1,8 @@
 -- `Table::forget`: the first refusal, or each standing row with the unit forgotten.
 -- Assumes nothing.
-use mathlib.Core.Path.{ap, _∙_}
-use mathlib.Core.List.{map}
+use Rattle.octets.proofs.Words.{ap, _∙_, map, needs}
 use Rattle.route_table.specs.Rows.{forgotten}
 use Rattle.route_table.proofs.TableLaws.{forgets}
-use borrow.Author.Needs.{needs}
 use Rattle.route_table.proofs.table.Table.forget.Statement.{statement}
 use Rattle.route_table.proofs.table.Table.forget.Tie as tie
 

@@ -1,16 +1,15 @@
 -- `Table::lookup`: a table out of rule, or what its row for the destination answers.
 -- Assumes nothing.
-use mathlib.Core.Path.{_∙_, sym}
-use borrow.Author.Tests.{not-true, not-false}
+use Rattle.octets.proofs.Words.{_∙_, sym, needs, not-true, not-false}
 use Rattle.route_table.proofs.LookupLaws.{looked-up, not-looked-up}
-use borrow.Author.Needs.{needs}
 use Rattle.route_table.proofs.table.Table.lookup.Statement.{statement}
 use Rattle.route_table.proofs.table.Table.lookup.Tie as tie
 
 returns : tie.Need-returns
 returns c =
-    let a = c .before .before .args in
-    sym (not-looked-up (a .self) (a .destination) (a .time) (sym (c .before .within-rule .ensures) ∙ not-true _ (c .if1 .taken)))
+    let test = c .before .before in
+    let a = test .before .before .args in
+    c .found-or .ensures ∙ sym (not-looked-up (a .self) (a .destination) (a .time) (sym (test .before .within-rule .ensures) ∙ not-true _ (test .if1 .taken)))
 
 returns-2 : tie.Need-returns-2
 returns-2 c =
@@ -21,4 +20,4 @@ returns-2 c =
     (sym (looked-up (a .self) (a .destination) (a .time) (sym (rule .before .within-rule .ensures) ∙ not-false _ (rule .if1 .left))))
 
 pub lookup-spec : {M : Type 1} → statement M
-lookup-spec = tie.close (tie.spec (λ c κs. search needs) returns (λ c κs. search needs) (λ c κs. search needs) returns-2)
+lookup-spec = tie.close (tie.spec (λ c κs. search needs) (λ c κs. search needs) (λ c κs. search needs) returns (λ c κs. search needs) (λ c κs. search needs) returns-2)

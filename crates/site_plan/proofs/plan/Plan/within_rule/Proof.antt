@@ -4,8 +4,5 @@ use borrow.Author.Needs.{needs}
 use Rattle.site_plan.proofs.plan.Plan.within_rule.Statement.{statement}
 use Rattle.site_plan.proofs.plan.Plan.within_rule.Tie as tie
 
-returns : tie.Need-returns
-returns c = rw (c .superframe-ms .ensures, c .before .before .active .ensures)
-
 pub within-rule-spec : {M : Type 1} → statement M
-within-rule-spec = tie.close (tie.spec (λ c κs. search needs) (λ c κs. search needs) returns)
+within-rule-spec = tie.close (tie.spec (λ c κs. search needs) (λ c κs. search needs) (λ c κs. search needs) (λ c. rw (c .superframe-ms .ensures, c .before .before .active .ensures, c .before .before .before .before .before .before .before .is-address .ensures)))

@@ -5,9 +5,6 @@ use Rattle.unit_life.specs.Calls.{onEvent}
 use Rattle.unit_life.proofs.state.State.event.Statement.{statement}
 use Rattle.unit_life.proofs.state.State.event.Tie as tie
 
-returns : tie.Need-returns
-unfolding onEvent
-returns c = rw (c .step .ensures, c .before .leads-to .ensures)
-
 pub event-spec : {M : Type 1} → statement M
-event-spec = tie.close (tie.spec (λ c κs. search needs) (λ c κs. search needs) returns)
+unfolding onEvent
+event-spec = tie.close (tie.spec (λ c κs. search needs) (λ c κs. search needs) (λ c. rw (c .step .ensures, c .before .kind-after .ensures)))

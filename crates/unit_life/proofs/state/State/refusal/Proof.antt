@@ -6,7 +6,7 @@ use Rattle.unit_life.proofs.state.State.refusal.Tie as tie
 
 returns : tie.Need-returns
 returns c =
-    rw (c .either3 .ensures, c .before .either2 .ensures, c .before .before .either .ensures, c .before .before .before .in-order .ensures, c .before .before .before .before .within-rule .ensures)
+    rw (c .refuse-if3 .ensures, c .before .refuse-if2 .ensures, c .before .before .refuse-if .ensures, c .before .before .before .in-order .ensures, c .before .before .before .before .within-rule .ensures)
 
 pub refusal-spec : {M : Type 1} → statement M
 refusal-spec =

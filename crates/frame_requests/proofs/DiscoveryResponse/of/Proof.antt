@@ -1,0 +1,9 @@
+-- `DiscoveryResponse::of`: each field stands where the layout says.
+-- Assumes nothing.
+use borrow.Author.Needs.{needs}
+use Rattle.frame_requests.proofs.DiscoveryResponse.of.Statement.{statement}
+use Rattle.frame_requests.proofs.DiscoveryResponse.of.Tie as tie
+
+pub of-spec : {M : Type 1} → statement M
+of-spec =
+    tie.close (tie.spec (λ c κs. search needs) (λ c κs. search needs) (λ c κs. search needs) (λ c κs. search needs) (λ c κs. search needs) (λ c κs. search needs) (λ c. cc))

@@ -6,11 +6,11 @@ use Rattle.book_members.specs.Members.{Row, free}
 use Rattle.book_members.proofs.RowSums.{weigh}
 use Rattle.book_members.proofs.RowRuleLaws.{holdings, free-and-held, ruled-current}
 use Rattle.book.specs.Books.{rowsAt}
-use Rattle.book_history.specs.Laws.{heldSlots, AllAccounted}
+use Rattle.book_history.specs.Laws.{heldCount, AllAccounted}
 use Rattle.book.proofs.WithinLaws.{within}
 
-pub held-sum : (rs : List Row) → heldSlots rs ≡ holdings rs
-unfolding heldSlots weigh
+pub held-sum : (rs : List Row) → heldCount rs ≡ holdings rs
+unfolding heldCount weigh
 held-sum [] = refl
 held-sum (r ∷ rs) = ap (λ (n : ℕ). count (r .slots) + n) (held-sum rs)
 

@@ -129,15 +129,15 @@ LiveFor =
 
 -- ---- counting
 -- the slots that rows hold, row by row
-unfoldable pub heldSlots : List Row → ℕ
-heldSlots [] = 0
-heldSlots (r ∷ rs) = count (r .slots) + heldSlots rs
+unfoldable pub heldCount : List Row → ℕ
+heldCount [] = 0
+heldCount (r ∷ rs) = count (r .slots) + heldCount rs
 
 -- free slots and those that live members hold are all the data slots
 abbrev pub AllAccounted : Type 0
 AllAccounted =
     (b : Contents) (time : ℕ) → withinRule b ≡ true
-    → count (free (b .plan .«data_slots») (rowsAt b time)) + heldSlots (rowsAt b time) ≡ b .plan .«data_slots»
+    → count (free (b .plan .«data_slots») (rowsAt b time)) + heldCount (rowsAt b time) ≡ b .plan .«data_slots»
 
 -- no slot is held by two
 abbrev pub HoldApart : Type 0

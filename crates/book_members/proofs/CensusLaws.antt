@@ -7,7 +7,8 @@ use Rattle.slot_sets.specs.Sets.{slotsOf, union, disjoint}
 use Rattle.slot_sets.proofs.MaskLaws.{mask-nothing}
 use Rattle.book_members.specs.declared.member.Member.{Member}
 use Rattle.book_members.specs.Members.{Row, rowOf, rowsOf, placeFor, heldSlots, vacant}
-use Rattle.book_members.specs.Rules.{rowRule, pastTime, judged}
+use Rattle.book_members.specs.Rules.{rowRule, pastTime}
+use Rattle.book_members.specs.Judging.{judged}
 use Rattle.book_members.proofs.RowLoopLaws.{nobody, none-left, row-below}
 
 -- the rows from a place on, of those that a plan uses

@@ -7,7 +7,8 @@ use Rattle.moments.specs.Moments.{ageAt}
 use Rattle.slot_sets.specs.Sets.{slotsOf, disjoint, count}
 use Rattle.slot_sets.proofs.MaskLaws.{mask-nothing}
 use Rattle.book_members.specs.Members.{Row, rowOf, rowsOf, emptyRow, kept, current, placeFor, heldSlots, free, vacant}
-use Rattle.book_members.specs.Rules.{emptyIs, rowRule, pastTime, distinct, apart, judged, ledBy, rowsRule}
+use Rattle.book_members.specs.Rules.{emptyIs, rowRule, pastTime, distinct, apart, ledBy, rowsRule}
+use Rattle.book_members.specs.Judging.{judged}
 
 -- what an array reads as past its end
 abbrev pub nobody : Member

@@ -47,12 +47,6 @@ abbrev pub apart : List Row → Bool
 apart [] = true
 apart (r ∷ rs) = disjoint (r .slots) (heldSlots rs) && apart rs
 
--- each row by itself, and its slots against those of the rows behind it, as one loop sees them
-abbrev pub judged : ℕ → ℕ → ℕ → List Row → Bool
-judged manager dataSlots last [] = true
-judged manager dataSlots last (r ∷ rs) =
-    (rowRule dataSlots r && pastTime manager last r) && disjoint (r .slots) (heldSlots rs) && judged manager dataSlots last rs
-
 -- the first row is the manager's
 abbrev pub ledBy : ℕ → List Row → Bool
 ledBy manager [] = Bool.false

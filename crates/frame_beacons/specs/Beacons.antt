@@ -6,7 +6,7 @@ use mathlib.Core.Bool.{Bool}
 use mathlib.Core.List.{List, [], _∷_}
 use lib.Dec.{eqb, leb}
 use lib.ListN.{getD}
-use Rattle.frame_kinds.specs.Fields.{byte, half, word, unit, net, only, between, some}
+use Rattle.frame_kinds.specs.Fields.{byte, half, word, unit, net, only, between, nonzero}
 use Rattle.frame_kinds.specs.Shape.{Kind, fixedWith}
 use Rattle.frame_beacons.specs.declared.beacon.Beacon.{Beacon}
 
@@ -49,7 +49,7 @@ hopsAndSlots f = leb (f .hop) (f .«max_hops») ∷ eqb (f .«superframe_ms») (
 abbrev pub beacon : Kind
 beacon =
     fixedWith 0x46
-    (only 2 0xFFFF ∷ unit ∷ only 1 27 ∷ net ∷ word ∷ half ∷ between 1 1 100 ∷ some 4 ∷
+    (only 2 0xFFFF ∷ unit ∷ only 1 27 ∷ net ∷ word ∷ half ∷ between 1 1 100 ∷ nonzero 4 ∷
     unit ∷
     byte ∷
     word ∷

@@ -30,5 +30,5 @@ only width n = record { width = width; tests = (λ v. eqb v n) ∷ [] }
 abbrev pub between : ℕ → ℕ → ℕ → Field
 between width low high = record { width = width; tests = (λ v. leb low v && leb v high) ∷ [] }
 
-abbrev pub some : ℕ → Field
-some width = record { width = width; tests = leb 1 ∷ [] }
+abbrev pub nonzero : ℕ → Field
+nonzero width = record { width = width; tests = leb 1 ∷ [] }

@@ -20,7 +20,7 @@ use Rattle.route_table.proofs.RuleLaws.{within-pad}
 use Rattle.route_table.proofs.StandingLaws.{standing-ascending}
 use Rattle.route_table.proofs.TableLaws.{within, few-stand}
 use Rattle.route_passing.specs.declared.Passing.{Passing}
-use Rattle.route_passing.specs.Passes.{again, toForward, tableReasons, recorded, passReasons, passOf}
+use Rattle.route_passing.specs.Passes.{again, toForward, tableReasons, passedTable, passReasons, passOf}
 use Rattle.route_bytes.specs.StoredTables.{TableLeft, tableLeft, storedTable, changedBy}
 use Rattle.route_bytes.specs.TableBytes.{tableIn, tableBytes, isTable}
 use Rattle.route_forwards.specs.Forwards as forwards
@@ -133,7 +133,7 @@ module _ (t : Table) (network : ℕ) (s : List ℕ) (delay time room before behi
       (λ n. sym (first-append front (own ++ (refusing behind ∷ [])) front-numbered) ∙ first-behind front (own ++ (refusing behind ∷ [])) (own ++ (reason (ltb room 34) 5 ∷ [])) (λ m. last-reason)))
 
   -- the table when it was asked
-  pub passed-as : passOf t before network p delay time behind ≡ settled (forwardRefusal t network s delay time room) t (recorded t (passingOf (beaconIn s)) time)
+  pub passed-as : passOf t before network p delay time behind ≡ settled (forwardRefusal t network s delay time room) t (passedTable t (passingOf (beaconIn s)) time)
   unfolding passOf
   passed-as = rw (forward-number, q)
 
@@ -150,7 +150,7 @@ module _ (t : Table) (network : ℕ) (s : List ℕ) (delay time : ℕ) (out : Li
 
 -- ---- the answers
 module _ (t : Table) (network : ℕ) (s : List ℕ) (delay time : ℕ) (out : List ℕ) (c : Changed)
-    (e : c ≡ settled (forwardRefusal t network s delay time (length out)) t (recorded t (passingOf (beaconIn s)) time)) where
+    (e : c ≡ settled (forwardRefusal t network s delay time (length out)) t (passedTable t (passingOf (beaconIn s)) time)) where
   pub forwarded-off : (c .refused ≡ 0 → ⊥) → forwards.passed (record { refused = c .refused; written = 0; table = c .table }) out ≡ forwardOf t network s delay time out
   unfolding forwardOf
   forwarded-off z =
@@ -167,7 +167,7 @@ module _ (t : Table) (network : ℕ) (s : List ℕ) (delay time : ℕ) (out : Li
 -- ---- by a table that lies in bytes
 module _ (table : List ℕ) (network : ℕ) (s : List ℕ) (delay time : ℕ) (out : List ℕ) (status : ℕ) (last : List ℕ) (call : Table → Changed)
     (e : tableLeft status last ≡ changedBy table call)
-    (k : (t : Table) → call t ≡ settled (forwardRefusal t network s delay time (length out)) t (recorded t (passingOf (beaconIn s)) time)) where
+    (k : (t : Table) → call t ≡ settled (forwardRefusal t network s delay time (length out)) t (passedTable t (passingOf (beaconIn s)) time)) where
   abbrev t : Table
   t = tableIn table
 
@@ -191,10 +191,10 @@ module _ (table : List ℕ) (network : ℕ) (s : List ℕ) (delay time : ℕ) (o
   unfolding forwardCall forwardOf changedBy
   stored-on held z h =
       let (known, none) = CallLaws.stored-none (isTable table) (forwardRefusal t network s delay time (length out)) (sym said ∙ z) in
-      let new : last ≡ tableBytes (recorded t (passingOf (beaconIn s)) time) = ap (λ (x : TableLeft). x .table) e ∙ bytes-new known none in
+      let new : last ≡ tableBytes (passedTable t (passingOf (beaconIn s)) time) = ap (λ (x : TableLeft). x .table) e ∙ bytes-new known none in
       rw (known, none, h, new, copy-length t delay s)
     where
-      bytes-new : isTable table ≡ true → forwardRefusal t network s delay time (length out) ≡ 0 → changedBy table call .table ≡ tableBytes (recorded t (passingOf (beaconIn s)) time)
+      bytes-new : isTable table ≡ true → forwardRefusal t network s delay time (length out) ≡ 0 → changedBy table call .table ≡ tableBytes (passedTable t (passingOf (beaconIn s)) time)
       bytes-new y n = rw (k t, y, n)
 
 -- an accepted forward leaves a table within rule

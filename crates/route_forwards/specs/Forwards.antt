@@ -16,7 +16,7 @@ use Rattle.frame_beacons.specs.Beacons.{beacon, beaconValues, beaconFrom}
 use Rattle.route_table.specs.declared.table.Table.{Table}
 use Rattle.route_table.specs.Tables.{withinRule}
 use Rattle.route_passing.specs.declared.Passing.{Passing}
-use Rattle.route_passing.specs.Passes.{tableReasons, recorded}
+use Rattle.route_passing.specs.Passes.{tableReasons, passedTable}
 use Rattle.route_bytes.specs.StoredTables.{storedTable}
 use Rattle.route_bytes.specs.TableBytes.{tableIn, tableBytes}
 use Rattle.route_forwards.specs.declared.forwarding.Forwarded.{Forwarded}
@@ -89,7 +89,7 @@ forwardOf t network s delay time out =
     let refusal = forwardRefusal t network s delay time (length out) in
     let frame = copyOf t delay s in
     passed
-    (record { refused = refusal; written = after refusal 0 (length frame); table = after refusal t (recorded t (passingOf (beaconIn s)) time) })
+    (record { refused = refusal; written = after refusal 0 (length frame); table = after refusal t (passedTable t (passingOf (beaconIn s)) time) })
     (after refusal out (sets out 0 frame))
 
 -- ---- forwarding by a stored table: the status, the table's bytes, the buffer, and the number of bytes written

@@ -54,6 +54,8 @@ fn put_copy(out: &mut [u8], own: u16, delay: u32, beacon: Beacon)
     requires { ⌜ (beacon .hop + 1 ≤ 255) × (beacon .delay + delay ≤ 0xFFFFFFFF) × (34 ≤ length (now out)) ⌝ }
     ensures { λ _. ⌜ now (out .exit) ≡ sets (now (out .entry)) 0 (frameOf beacons.beacon (beaconValues (passedBy own delay beacon)) []) ⌝ }
 {
+    let start = 0;
+    let end = 33;
     let copy = Beacon {
         destination: beacon.destination,
         source: own,
@@ -70,7 +72,7 @@ fn put_copy(out: &mut [u8], own: u16, delay: u32, beacon: Beacon)
         max_hops: beacon.max_hops,
         sequence: beacon.sequence,
     };
-    copy.put(out);
+    copy.put(&mut out[start..end]);
     seal(out, 33);
 }
 

@@ -121,11 +121,11 @@ abbrev pub clockOf : Clock → List Happened → Clock
 clockOf k hs = clockAfter k (map stepOf hs)
 
 -- an update from a unit was accepted
-abbrev pub heardOf : ℕ → Happened → Bool
-heardOf unit h = eqb (h .refused) 0 && about (h .call) .brings unit
+abbrev pub isUpdateFrom : ℕ → Happened → Bool
+isUpdateFrom unit h = eqb (h .refused) 0 && about (h .call) .brings unit
 
 -- at which elapsed ms updates from a unit were accepted, the last first: those before what happened, by the clock then, and those that it adds
 abbrev pub heardFrom : ℕ → Clock → List ℕ → List Happened → List ℕ
 heardFrom unit k earlier [] = earlier
 heardFrom unit k earlier (h ∷ hs) =
-    heardFrom unit (moved k (stepOf h)) (cond (heardOf unit h) (nowAt k (timeOf (h .call)) ∷ earlier) earlier) hs
+    heardFrom unit (moved k (stepOf h)) (cond (isUpdateFrom unit h) (nowAt k (timeOf (h .call)) ∷ earlier) earlier) hs

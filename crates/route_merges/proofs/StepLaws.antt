@@ -11,7 +11,7 @@ use Rattle.route_table.proofs.StandingLaws.{used}
 use Rattle.route_merges.specs.declared.candidate.Candidate.{Candidate}
 use Rattle.route_merges.specs.Candidates.{bad}
 use Rattle.route_merges.specs.Learning.{put, rowBy, Learned, learned, met, newTo, learn}
-use Rattle.route_merges.specs.Searching.{goesOn, changes, stores, skips, made}
+use Rattle.route_merges.specs.Searching.{goesOn, alters, stores, skips, made}
 use Rattle.route_merges.proofs.MoveLaws.{movedIn}
 use Rattle.route_merges.proofs.PadLaws.{pad-at, used-within, within-used, full, set-pad, moved-pad}
 use Rattle.route_merges.proofs.SearchLaws.{Searched, searched-on, stop-end, put-end, stop-same, set-same, put-higher, stop-higher}
@@ -67,15 +67,15 @@ module _ (via time : ℕ) (c : Candidate) where
 
   -- a row that is met changes or stays
   met-by : (r : Row) (rows : List Row) (skipped : ℕ)
-      → met via time c r (learned rows skipped) ≡ cond (changes via time c r) (learned (put (made via time c r) rows) skipped) (learned rows skipped)
+      → met via time c r (learned rows skipped) ≡ cond (alters via time c r) (learned (put (made via time c r) rows) skipped) (learned rows skipped)
   met-by r rows skipped = go (bad c) refl
     where
-      go : (b : Bool) → bad c ≡ b → met via time c r (learned rows skipped) ≡ cond (changes via time c r) (learned (put (made via time c r) rows) skipped) (learned rows skipped)
+      go : (b : Bool) → bad c ≡ b → met via time c r (learned rows skipped) ≡ cond (alters via time c r) (learned (put (made via time c r) rows) skipped) (learned rows skipped)
       go true q = rw q
       go false q = rw q
 
   -- a bad candidate has nothing to take back from a place that is not in use
-  none-stays : 0 < via → bad c ≡ true → changes via time c none ≡ false
+  none-stays : 0 < via → bad c ≡ true → alters via time c none ≡ false
   none-stays v b = rw (b, ne-eqb 0 via (omega arith)) (and-false (usable time none))
 
   -- what it makes is for its destination
@@ -87,7 +87,7 @@ module _ (via time : ℕ) (c : Candidate) where
     after = learn via time c (learned rows skipped)
 
     learn-met : (r : Row) → rowFor d rows ≡ r → r .destination ≡ d
-        → after ≡ cond (changes via time c r) (learned (put (made via time c r) rows) skipped) (learned rows skipped)
+        → after ≡ cond (alters via time c r) (learned (put (made via time c r) rows) skipped) (learned rows skipped)
     unfolding learn
     learn-met r e q = rw (e, eq-eqb (r .destination) d q) (met-by r rows skipped)
 
@@ -134,7 +134,7 @@ module _ (via time : ℕ) (c : Candidate) where
         pub there-within : at < length rows
         there-within = used-within rows (sound .inUse) at (omega arith)
 
-        there-learns : after ≡ cond (changes via time c row) (learned (put (made via time c row) rows) skipped) (learned rows skipped)
+        there-learns : after ≡ cond (alters via time c row) (learned (put (made via time c row) rows) skipped) (learned rows skipped)
         there-learns = learn-met row (stop-same d rows at s there-within (sym (ap (λ (r : Row). r .destination) (pad-at rows at)) ∙ e) ∙ sym (pad-at rows at)) e
 
         there-put : put (made via time c row) rows ≡ set rows at (made via time c row)
@@ -193,7 +193,7 @@ module _ (via time : ℕ) (c : Candidate) where
               zero-stays z ∙ rw (b, add-zero)
           go (no z) (yes k) =
               let same : there ≡ true = eq-eqb (row .destination) d k in
-              let stays : changes via time c row ≡ false = sym (or-false (changes via time c row)) ∙ (rw same at e) in
+              let stays : alters via time c row ≡ false = sym (or-false (alters via time c row)) ∙ (rw same at e) in
               there-learns (omega arith) k ∙ rw (stays, same, add-zero)
           go (no z) (no k) =
               let other : there ≡ false = ne-eqb (row .destination) d k in
@@ -207,7 +207,7 @@ module _ (via time : ℕ) (c : Candidate) where
         step-set t =
             let k = eqb-true (row .destination) d t in
             let q = some-unit e in
-            let change : changes via time c row ≡ true = sym (or-false (changes via time c row)) ∙ (rw t at e) in
+            let change : alters via time c row ≡ true = sym (or-false (alters via time c row)) ∙ (rw t at e) in
             let same = there-put q k in
             let size : length (put new rows) ≡ length rows = ap length same ∙ length-set rows at new in (
               record {

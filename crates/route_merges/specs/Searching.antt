@@ -19,12 +19,12 @@ abbrev pub startsAt : ℕ → ℕ → ℕ → ℕ
 startsAt place before destination = cond (ltb destination before) 0 place
 
 -- a candidate changes the row for its destination
-abbrev pub changes : ℕ → ℕ → Candidate → Row → Bool
-changes via time c r = cond (bad c) (takenBack via time r) (givesWay via time c r)
+abbrev pub alters : ℕ → ℕ → Candidate → Row → Bool
+alters via time c r = cond (bad c) (takenBack via time r) (givesWay via time c r)
 
 -- where the search stopped at the row r, which is for its destination or not, with the last place in use or not: it stores a row there, ..
 abbrev pub stores : ℕ → ℕ → Candidate → Row → Bool → Bool → Bool
-stores via time c r there full = there && changes via time c r || not there && not (bad c) && not full
+stores via time c r there full = there && alters via time c r || not there && not (bad c) && not full
 
 -- .. or there is no room for it
 abbrev pub skips : Candidate → Bool → Bool → Bool

@@ -3,7 +3,7 @@ ghost use mathlib.Core.Path.{_≡_};
 ghost use mathlib.Core.Bool.{cond};
 ghost use Prim.Native.Nat.{_-_};
 ghost use lib.Dec.{eqb};
-ghost use Rattle.route_merges.specs.Searching.{goesOn, startsAt, changes, stores, skips, made};
+ghost use Rattle.route_merges.specs.Searching.{goesOn, startsAt, alters, stores, skips, made};
 use crate::candidate::Candidate;
 use route_table::row::Row;
 
@@ -42,7 +42,7 @@ pub(crate) fn starts(place: usize, before: u16, destination: u16) -> usize
 
 // Whether a candidate changes the row for its destination.
 fn changes(via: u16, time: u32, candidate: Candidate, row: Row) -> bool
-    ensures { λ r. ⌜ r ≡ changes via time candidate row ⌝ }
+    ensures { λ r. ⌜ r ≡ alters via time candidate row ⌝ }
 {
     let usable = row.usable(time);
     let same = row.next_hop == via;

@@ -14,7 +14,7 @@ use Rattle.route_table.proofs.LookupLaws.{looked-up}
 use Rattle.route_table.proofs.StandingLaws.{standing-places}
 use Rattle.route_table.proofs.TableLaws.{settled-same, held}
 use Rattle.route_passing.specs.declared.Passing.{Passing}
-use Rattle.route_passing.specs.Passes.{passingReasons, tableReasons, passedHead, recorded, passReasons, passOf}
+use Rattle.route_passing.specs.Passes.{passingReasons, tableReasons, passedHead, passedTable, passReasons, passOf}
 
 module _ (t : Table) (before network : ℕ) (p : Passing) (delay time behind : ℕ) where
   abbrev from : ℕ
@@ -50,6 +50,6 @@ module _ (t : Table) (before network : ℕ) (p : Passing) (delay time behind : �
       ≡ passOf t before network p delay time behind
   unfolding passOf
   passes n h rows l e q m =
-      let same : n ≡ 0 → record { own = h .own; time = h .time; forwarded = h .forwarded; origin = h .origin; sequence = h .sequence; rows = rows } ≡ recorded t p time =
+      let same : n ≡ 0 → record { own = h .own; time = h .time; forwarded = h .forwarded; origin = h .origin; sequence = h .sequence; rows = rows } ≡ passedTable t p time =
       λ z. rw (q, m ∙ standing-places time (t .rows) (held t l (pass-right (sym e ∙ z)))) in
       settled-same n t _ _ same ∙ rw e

@@ -43,8 +43,8 @@ abbrev pub passedHead : Head → Passing → ℕ → Head
 passedHead h p time = record { own = h .own; time = time; forwarded = true; origin = p .«original_source»; sequence = p .sequence }
 
 -- the table then: gone rows are dropped
-abbrev pub recorded : Table → Passing → ℕ → Table
-recorded t p time = tableOf (passedHead (headOf t) p time) (standing time (rowsOf t))
+abbrev pub passedTable : Table → Passing → ℕ → Table
+passedTable t p time = tableOf (passedHead (headOf t) p time) (standing time (rowsOf t))
 
 -- a beacon that a number refuses before the table is asked (0: none), and another where nothing else does: 14, the first, 6 15 8 11 16 4, the last
 abbrev pub passReasons : Table → ℕ → ℕ → Passing → ℕ → ℕ → ℕ → List Reason
@@ -52,4 +52,4 @@ passReasons t before network p delay time behind =
     reason (not (withinRule t)) 14 ∷ refusing before ∷ tableReasons t network p delay time ++ (refusing behind ∷ [])
 
 unfoldable pub passOf : Table → ℕ → ℕ → Passing → ℕ → ℕ → ℕ → Changed
-passOf t before network p delay time behind = settled (first (passReasons t before network p delay time behind)) t (recorded t p time)
+passOf t before network p delay time behind = settled (first (passReasons t before network p delay time behind)) t (passedTable t p time)

@@ -2,7 +2,7 @@
 -- Assumes nothing.
 use Rattle.octets.proofs.Words.{_≡_, refl, sym, ap, subst, Bool, true, false, ℕ, zero, suc, _-_, _/_, _≤_, _<_, arith, lt-ltb, le-ltb, ltb-true, ltb-false, ltb}
 use lib.IntN.{ℤ, pos, negsuc, negℤ, natAbs, _-ℤ_, negℤ-negℤ, +ℤ-invr, +ℤ-idr}
-use Rattle.unit_clock.specs.Clock.{half, correction}
+use Rattle.unit_clock.specs.Clock.{halved, correction}
 
 -- ---- how much is taken
 module _ (d : ℤ) (size : ℕ) (e : size ≡ natAbs d) where
@@ -10,9 +10,9 @@ module _ (d : ℤ) (size : ℕ) (e : size ≡ natAbs d) where
   unfolding correction
   hard h = rw (lt-ltb 100 (natAbs d) (omega arith))
 
-  pub halved : size ≤ 100 → 50 < size → correction d ≡ half d
+  pub by-half : size ≤ 100 → 50 < size → correction d ≡ halved d
   unfolding correction
-  halved h k = rw (le-ltb 100 (natAbs d) (omega arith), lt-ltb 50 (natAbs d) (omega arith))
+  by-half h k = rw (le-ltb 100 (natAbs d) (omega arith), lt-ltb 50 (natAbs d) (omega arith))
 
   pub kept : size ≤ 50 → correction d ≡ pos 0
   unfolding correction
@@ -36,8 +36,8 @@ less-ahead n (suc k) h = rw (le-ltb n (suc k) h)
 less-behind : (n k : ℕ) → k ≤ n → negsuc n -ℤ negℤ (pos k) ≡ negsuc (n - k)
 less-behind n k h = rw (negℤ-negℤ (pos k), lt-ltb k (suc n) (omega arith)) (ap negsuc (omega arith))
 
-half-left : (d : ℤ) → Within d (d -ℤ half d)
-unfolding half
+half-left : (d : ℤ) → Within d (d -ℤ halved d)
+unfolding halved
 half-left (pos n) = subst (Within (pos n)) (sym (less-ahead n (n / 2) (omega arith))) (ahead _ n (omega arith))
 half-left (negsuc n) = subst (Within (negsuc n)) (sym (less-behind n (suc n / 2) (omega arith))) (behind _ n (omega arith))
 
@@ -46,5 +46,5 @@ left-within d = go (ltb 100 (natAbs d)) (ltb 50 (natAbs d)) refl refl
   where
     go : (a b : Bool) → ltb 100 (natAbs d) ≡ a → ltb 50 (natAbs d) ≡ b → Within d (d -ℤ correction d)
     go true b x y = rw (hard d _ refl (ltb-true 100 (natAbs d) x), +ℤ-invr d) none
-    go false true x y = rw (halved d _ refl (ltb-false 100 (natAbs d) x) (ltb-true 50 (natAbs d) y)) (half-left d)
+    go false true x y = rw (by-half d _ refl (ltb-false 100 (natAbs d) x) (ltb-true 50 (natAbs d) y)) (half-left d)
     go false false x y = rw (kept d _ refl (ltb-false 50 (natAbs d) y), +ℤ-idr d) (itself d)

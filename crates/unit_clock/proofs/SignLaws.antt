@@ -5,7 +5,7 @@ use lib.IntN.{ℤ, pos, negsuc, negℤ, natAbs, subℕ, _+ℤ_, _-ℤ_, -ℤ-+�
 use lib.Signed.{mag}
 use Rattle.moments.specs.Moments.{ageAt}
 use Rattle.moments.proofs.MomentLaws.{age-bound, leads}
-use Rattle.unit_clock.specs.Clock.{signed, wrapped, half}
+use Rattle.unit_clock.specs.Clock.{signed, wrapped, halved}
 
 -- ---- ages
 pub same-age : (a b c d : ℕ) → a % 2 ^ 32 ≡ c % 2 ^ 32 → b % 2 ^ 32 ≡ d % 2 ^ 32 → ageAt a b ≡ ageAt c d
@@ -112,8 +112,8 @@ sized n h =
     of-signed (λ z. signedBy n n ≡ natAbs z) n h (λ l. rw (lt-ltb n (2 ^ 31) l))
     (λ l. rw (le-ltb n (2 ^ 31) l) (omega arith))
 
-pub half-signed : (n : ℕ) → n < 2 ^ 32 → signedBy n (natAbs (signed n) / 2) ≡ wrapped (half (signed n))
-unfolding half
+pub half-signed : (n : ℕ) → n < 2 ^ 32 → signedBy n (natAbs (signed n) / 2) ≡ wrapped (halved (signed n))
+unfolding halved
 half-signed n h =
-    of-signed (λ z. signedBy n (natAbs z / 2) ≡ wrapped (half z)) n h (λ l. rw (lt-ltb n (2 ^ 31) l) (omega (arith, above (n / 2))))
+    of-signed (λ z. signedBy n (natAbs z / 2) ≡ wrapped (halved z)) n h (λ l. rw (lt-ltb n (2 ^ 31) l) (omega (arith, above (n / 2))))
     (λ l. rw (le-ltb n (2 ^ 31) l) (sym (minus (suc (2 ^ 32 - suc n) / 2) (omega arith))))

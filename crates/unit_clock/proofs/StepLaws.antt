@@ -9,7 +9,7 @@ use Rattle.frame_beacons.specs.Beacons.{beacon, beaconValues, beaconFrom}
 use Rattle.frame_beacons.specs.declared.beacon.Beacon.{Beacon}
 use Rattle.moments.specs.Moments.{ageAt}
 use Rattle.unit_clock.specs.declared.steps.Stepped.{Stepped}
-use Rattle.unit_clock.specs.Clock.{signed, wrapped, drift, correction, corrected, stepped, heardReasons, beaconStepOf}
+use Rattle.unit_clock.specs.Clock.{signed, wrapped, drift, correction, corrected, stepped, stepReasons, beaconStepOf}
 use Rattle.unit_clock.proofs.SignLaws.{above, is-less, same-age}
 
 -- the two times, the drift's 32 bits, how much of it is taken, and what is left of the offset
@@ -25,12 +25,12 @@ less-correction local offset original delay here sent bits part next o n h s b p
 
 -- the frame's refusal and its beacon, what refuses the step, and the next offset
 pub by-beacon : (b : Beacon) (offset local network : ℕ) (s : List ℕ) (unread number next : ℕ) (r : Stepped)
-    → beaconValues b ≡ valuesIn beacon s → unread ≡ refusalAs beacon s → number ≡ first (heardReasons unread (b .network) network)
+    → beaconValues b ≡ valuesIn beacon s → unread ≡ refusalAs beacon s → number ≡ first (stepReasons unread (b .network) network)
     → next ≡ corrected local offset (b .«original_time») (b .delay) → r ≡ stepped number offset next
     → r ≡ beaconStepOf offset local network s
 unfolding beaconStepOf
 by-beacon b offset local network s unread number next r v u n x q =
     let by : Beacon → Stepped =
-    λ heard. stepped (first (heardReasons (refusalAs beacon s) (heard .network) network)) offset (corrected local offset (heard .«original_time») (heard .delay)) in
+    λ heard. stepped (first (stepReasons (refusalAs beacon s) (heard .network) network)) offset (corrected local offset (heard .«original_time») (heard .delay)) in
     let parts : r ≡ by b = rw (q, n, u, x) in
     parts ∙ ap by (ap beaconFrom v)

@@ -31,12 +31,12 @@ unfoldable pub drift : ℕ → ℕ → ℕ → ℕ → ℤ
 drift local offset original delay = signed (ageAt (local + offset) (original + delay))
 
 -- half of it, rounded toward zero
-unfoldable pub half : ℤ → ℤ
-half d = quotZ d (pos 2)
+unfoldable pub halved : ℤ → ℤ
+halved d = quotZ d (pos 2)
 
 -- by how much the offset drops: by the drift where its magnitude is over 100, by half of it where it is 51 to 100, else by nothing
 unfoldable pub correction : ℤ → ℤ
-correction d = cond (ltb 100 (natAbs d)) d (cond (ltb 50 (natAbs d)) (half d) (pos 0))
+correction d = cond (ltb 100 (natAbs d)) d (cond (ltb 50 (natAbs d)) (halved d) (pos 0))
 
 -- ---- the calls
 -- the offset after a step by the two times that a beacon carries, which is never refused
@@ -49,8 +49,8 @@ stepped number offset next = record { refused = number; offset = after number of
 
 -- why a frame that is refused by this number, and has this network, gives no step to a caller of a network: 1, 2, 1, 3, 4 of the frame,
 -- 4 of the caller's network, 15
-abbrev pub heardReasons : ℕ → ℕ → ℕ → List Reason
-heardReasons unread heard network =
+abbrev pub stepReasons : ℕ → ℕ → ℕ → List Reason
+stepReasons unread heard network =
     reason (not (eqb unread 0)) unread ∷
     reason (eqb network 0) 4 ∷
     reason (not (eqb network heard)) 15 ∷
@@ -60,5 +60,5 @@ heardReasons unread heard network =
 unfoldable pub beaconStepOf : ℕ → ℕ → ℕ → List ℕ → Stepped
 beaconStepOf offset local network s =
     let heard = beaconFrom (valuesIn beacon s) in
-    stepped (first (heardReasons (refusalAs beacon s) (heard .network) network)) offset
+    stepped (first (stepReasons (refusalAs beacon s) (heard .network) network)) offset
     (corrected local offset (heard .«original_time») (heard .delay))

@@ -4,7 +4,7 @@ ghost use mathlib.Core.Bool.{cond};
 ghost use Prim.Native.Nat.{_-_, _%_, _^_};
 ghost use lib.Dec.{ltb};
 ghost use lib.IntN.{natAbs};
-ghost use Rattle.unit_clock.specs.Clock.{signed, wrapped, half, correction};
+ghost use Rattle.unit_clock.specs.Clock.{signed, wrapped, halved, correction};
 use std::num::wrapping_sub_u32;
 
 // A drift over the large one is taken away whole, one over the small one by half.
@@ -32,7 +32,7 @@ fn size(drift: u32) -> u32
 
 // Half of it, rounded toward zero.
 fn half(drift: u32) -> u32
-    ensures { λ r. ⌜ r ≡ wrapped (half (signed drift)) ⌝ }
+    ensures { λ r. ⌜ r ≡ wrapped (halved (signed drift)) ⌝ }
 {
     signed_by(drift, size(drift) / 2)
 }

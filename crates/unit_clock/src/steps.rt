@@ -1,7 +1,7 @@
 // The clock's step, by the two times that a beacon carries, and by the beacon's frame.
 ghost use mathlib.Core.Path.{_≡_};
 ghost use Rattle.octets.specs.Answers.{first};
-ghost use Rattle.unit_clock.specs.Clock.{corrected, stepped, heardReasons, beaconStepOf};
+ghost use Rattle.unit_clock.specs.Clock.{corrected, stepped, stepReasons, beaconStepOf};
 use crate::drifts::correction;
 use frame_beacons::beacon::Beacon;
 use moments::age;
@@ -27,7 +27,7 @@ pub fn step(offset: u32, local: u32, original_time: u32, delay: u32) -> u32
 
 // Why a frame that is refused by `unread`, and has the network `heard`, gives no step to a caller of a network.
 fn refusal(unread: u8, heard: u16, network: u16) -> u8
-    ensures { λ r. ⌜ r ≡ first (heardReasons unread heard network) ⌝ }
+    ensures { λ r. ⌜ r ≡ first (stepReasons unread heard network) ⌝ }
 {
     let refused = refuse_if(!(network == heard), Refusal::NETWORK, 0);
     let refused = refuse_if(network == 0, Refusal::FIELD, refused);

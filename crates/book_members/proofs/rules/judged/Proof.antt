@@ -1,7 +1,7 @@
 -- `judged`'s loop goes down from the last row: how the rows from i on are judged, what they hold and how many are free.
 -- Assumes nothing.
 use Rattle.octets.proofs.Words.{_≡_, arith, needs, fits-under, length}
-use Rattle.book_members.specs.Rules.{judged}
+use Rattle.book_members.specs.Judging.{judged}
 use Rattle.book_members.proofs.CensusLaws.{from, Counted, counted-start, judged-start, counted-fits, counted-turn, judged-turn}
 use Rattle.book_members.proofs.rules.judged.Statement.{statement}
 use Rattle.book_members.proofs.rules.judged.Tie as tie

@@ -3,7 +3,7 @@
 use Rattle.octets.proofs.Words.{_≡_, sym, ap, _∙_, needs, length, now}
 use Rattle.route_table.specs.declared.table.Changed.{Changed}
 use Rattle.route_table.specs.Tables.{settled}
-use Rattle.route_passing.specs.Passes.{recorded}
+use Rattle.route_passing.specs.Passes.{passedTable}
 use Rattle.route_forwards.specs.Forwards.{passingOf, beaconIn, forwardRefusal}
 use Rattle.route_forwards.proofs.ForwardLaws.{beacon-in, passed-as, copy-fits, forwarded-off, forwarded-on}
 use Rattle.route_forwards.proofs.forwarding.forward.Statement.{statement}
@@ -12,7 +12,7 @@ use Rattle.route_forwards.proofs.forwarding.forward.Tie as tie
 -- once the table was asked
 asked : (d : tie.After-pass) → d .pass .result
     ≡ settled (forwardRefusal (d .before .before .before .before .before .before .before .args .table) (d .before .before .before .before .before .before .before .args .network) (now (d .before .before .before .before .before .before .before .args .frame)) (d .before .before .before .before .before .before .before .args .delay) (d .before .before .before .before .before .before .before .args .time) (length (now (d .before .before .before .before .before .before .before .args .out))))
-    (d .before .before .before .before .before .before .before .args .table) (recorded (d .before .before .before .before .before .before .before .args .table) (passingOf (beaconIn (now (d .before .before .before .before .before .before .before .args .frame)))) (d .before .before .before .before .before .before .before .args .time))
+    (d .before .before .before .before .before .before .before .args .table) (passedTable (d .before .before .before .before .before .before .before .args .table) (passingOf (beaconIn (now (d .before .before .before .before .before .before .before .args .frame)))) (d .before .before .before .before .before .before .before .args .time))
 asked d =
     let behind = d .before in
     let before = behind .before in

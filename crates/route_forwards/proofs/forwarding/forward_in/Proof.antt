@@ -3,7 +3,7 @@
 use Rattle.octets.proofs.Words.{_≡_, ap, _∙_, needs, length, now}
 use Rattle.route_table.specs.declared.table.Table.{Table}
 use Rattle.route_table.specs.Tables.{settled}
-use Rattle.route_passing.specs.Passes.{recorded, passOf}
+use Rattle.route_passing.specs.Passes.{passedTable, passOf}
 use Rattle.route_bytes.specs.TableBytes.{tableIn}
 use Rattle.route_forwards.specs.Forwards.{passingOf, beaconIn, forwardRefusal}
 use Rattle.route_forwards.proofs.ForwardLaws.{beacon-in, passed-as, copy-fits, stored-off, stored-none, stored-on}
@@ -14,7 +14,7 @@ use Rattle.route_forwards.proofs.forwarding.forward_in.Tie as tie
 asks : (d : tie.After-pass) (t : Table)
     → passOf t (d .before .before .before .unread .result) (d .before .before .before .before .before .before .before .before .before .before .before .args .network) (d .before .before .before .before .passing-of .result) (d .before .before .before .before .before .before .before .before .before .before .before .args .delay) (d .before .before .before .before .before .before .before .before .before .before .before .args .time) (d .before .before .refuse-if .result)
     ≡ settled (forwardRefusal t (d .before .before .before .before .before .before .before .before .before .before .before .args .network) (now (d .before .before .before .before .before .before .before .before .before .before .before .args .frame)) (d .before .before .before .before .before .before .before .before .before .before .before .args .delay) (d .before .before .before .before .before .before .before .before .before .before .before .args .time) (length (now (d .before .before .before .before .before .before .before .before .before .before .before .args .out))))
-    t (recorded t (passingOf (beaconIn (now (d .before .before .before .before .before .before .before .before .before .before .before .args .frame)))) (d .before .before .before .before .before .before .before .before .before .before .before .args .time))
+    t (passedTable t (passingOf (beaconIn (now (d .before .before .before .before .before .before .before .before .before .before .before .args .frame)))) (d .before .before .before .before .before .before .before .before .before .before .before .args .time))
 asks d t =
     let behind = d .before .before in
     let before = behind .before in

@@ -2,7 +2,7 @@
 -- Assumes nothing.
 use Rattle.octets.proofs.Words.{sym, ap, _∙_, arith, needs}
 use Rattle.unit_clock.specs.Clock.{signed, wrapped}
-use Rattle.unit_clock.proofs.CorrectionLaws.{hard, halved, kept}
+use Rattle.unit_clock.proofs.CorrectionLaws.{hard, by-half, kept}
 use Rattle.unit_clock.proofs.SignLaws.{wrapped-signed, above}
 use Rattle.unit_clock.proofs.drifts.correction.Statement.{statement}
 use Rattle.unit_clock.proofs.drifts.correction.Tie as tie
@@ -18,7 +18,7 @@ returns-2 c =
     let t = c .before in
     let d = t .before .before in
     c .half .ensures ∙
-    ap wrapped (sym (halved (signed (d .before .args .drift)) _ (d .size .ensures) (omega (arith, t .before .if1 .left)) (omega (arith, t .if2 .taken))))
+    ap wrapped (sym (by-half (signed (d .before .args .drift)) _ (d .size .ensures) (omega (arith, t .before .if1 .left)) (omega (arith, t .if2 .taken))))
 
 returns-3 : tie.Need-returns-3
 returns-3 c =

@@ -13,7 +13,7 @@
  * in again. Calls may run on any thread, also at the same time, if none is handed what another one writes to.
  *
  * Linking. Of C's library the archive needs memcpy and memset alone.
- * The deepest call takes less than 4 KiB of stack; docs/MEASURES.md has each call's, and the size of the code.
+ * The deepest call takes less than 3 KiB of stack; docs/MEASURES.md has each call's, and the size of the code.
  *
  * Addresses of units are 1 to 0xFFFE, networks 1 to 0xFFFF (in a join request 0 is any); others are refused as broken
  * field rules (4), by a plan as out of rule (14).

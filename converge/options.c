@@ -51,7 +51,7 @@ static uint32_t number_for(const struct option *option, const char *words)
 {
     size_t digits = strspn(words, "0123456789");
     unsigned long long value = strtoull(words, NULL, 10);
-    if (digits == 0 || words[digits] != '\0' || value < option->least || value > option->most) {
+    if (digits == 0 || digits > 10 || words[digits] != '\0' || value < option->least || value > option->most) {
         refuse("%s takes a number from %u to %u, not '%s'", option->name, (unsigned)option->least,
                (unsigned)option->most, words);
     }

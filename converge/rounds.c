@@ -30,7 +30,7 @@ static uint32_t expected_length(const struct site *site, int sender, uint32_t nu
     }
     uint32_t left = named - earlier;
     uint32_t entries = left < BRAIDLARK_MOST_ENTRIES ? left : BRAIDLARK_MOST_ENTRIES;
-    return BRAIDLARK_UPDATE_LENGTH + entries * BRAIDLARK_ENTRY_SIZE;
+    return BRAIDLARK_LENGTH_UPDATE + entries * BRAIDLARK_ENTRY_SIZE;
 }
 
 /* Writes a page into a buffer that it just fits into, or that has room to spare; false where there is no such page. */

@@ -8,8 +8,8 @@
 #include <stdio.h>
 #include <string.h>
 
-#if BRAIDLARK_VERSION_MAJOR != 2 || !defined BRAIDLARK_VERSION_MINOR
-#error "these are the calls of version 2"
+#if BRAIDLARK_VERSION_MAJOR != 3 || !defined BRAIDLARK_VERSION_MINOR
+#error "these are the calls of version 3"
 #endif
 
 enum { NETWORK = 1, MANAGER = 0x0100, UNIT = 0x0201, FAR_UNIT = 0x0300, STRANGER = 0x0400 };
@@ -55,18 +55,18 @@ static uint32_t write_whole(const uint32_t *fields, size_t count, const uint8_t 
 /* The kinds of frames that the story below does not send. */
 static void write_other_kinds(void)
 {
-    static const uint32_t refusal[BRAIDLARK_JOIN_RESPONSE_FIELDS] = {
-        BRAIDLARK_JOIN_RESPONSE, UNIT, BRAIDLARK_STATUS_REFUSED, BRAIDLARK_NO_SLOT, NOW, NETWORK};
-    static const uint32_t search[BRAIDLARK_DISCOVERY_REQUEST_FIELDS] = {BRAIDLARK_DISCOVERY_REQUEST,
+    static const uint32_t refusal[BRAIDLARK_FIELDS_JOIN_RESPONSE] = {
+        BRAIDLARK_TYPE_JOIN_RESPONSE, UNIT, BRAIDLARK_STATUS_REFUSED, BRAIDLARK_NO_SLOT, NOW, NETWORK};
+    static const uint32_t search[BRAIDLARK_FIELDS_DISCOVERY_REQUEST] = {BRAIDLARK_TYPE_DISCOVERY_REQUEST,
                                                                         BRAIDLARK_LOWEST_ADDRESS, 0, 0, MAX_HOPS};
-    static const uint32_t found[BRAIDLARK_DISCOVERY_RESPONSE_FIELDS] = {
-        BRAIDLARK_DISCOVERY_RESPONSE, BRAIDLARK_HIGHEST_ADDRESS, NETWORK, ROWS, 2, QUALITY, NOW};
+    static const uint32_t found[BRAIDLARK_FIELDS_DISCOVERY_RESPONSE] = {
+        BRAIDLARK_TYPE_DISCOVERY_RESPONSE, BRAIDLARK_HIGHEST_ADDRESS, NETWORK, ROWS, 2, QUALITY, NOW};
     uint8_t frame[BRAIDLARK_MOST_FRAME];
-    EXPECT(write_whole(refusal, BRAIDLARK_JOIN_RESPONSE_FIELDS, NULL, 0, frame) == BRAIDLARK_JOIN_RESPONSE_LENGTH);
-    EXPECT(write_whole(search, BRAIDLARK_DISCOVERY_REQUEST_FIELDS, NULL, 0, frame) ==
-           BRAIDLARK_DISCOVERY_REQUEST_LENGTH);
-    EXPECT(write_whole(found, BRAIDLARK_DISCOVERY_RESPONSE_FIELDS, NULL, 0, frame) ==
-           BRAIDLARK_DISCOVERY_RESPONSE_LENGTH);
+    EXPECT(write_whole(refusal, BRAIDLARK_FIELDS_JOIN_RESPONSE, NULL, 0, frame) == BRAIDLARK_LENGTH_JOIN_RESPONSE);
+    EXPECT(write_whole(search, BRAIDLARK_FIELDS_DISCOVERY_REQUEST, NULL, 0, frame) ==
+           BRAIDLARK_LENGTH_DISCOVERY_REQUEST);
+    EXPECT(write_whole(found, BRAIDLARK_FIELDS_DISCOVERY_RESPONSE, NULL, 0, frame) ==
+           BRAIDLARK_LENGTH_DISCOVERY_RESPONSE);
 }
 
 /* No numbers are an empty frame. What was read is written again from the whole buffer, whatever stands behind the
@@ -84,12 +84,44 @@ static void write_none_and_more(void)
     EXPECT(memcmp(frame, request, sizeof request) == 0);
 }
 
+/* Each refusal has a text of its own, and no other number has one. */
+static void refusals_have_texts(void)
+{
+    const char *none = braidlark_refusal_text(-1);
+    int number, other;
+    for (number = BRAIDLARK_ACCEPTED; number <= BRAIDLARK_NOT_OURS; number++) {
+        EXPECT(strlen(braidlark_refusal_text(number)) > 0 && strcmp(braidlark_refusal_text(number), none) != 0);
+        for (other = BRAIDLARK_ACCEPTED; other < number; other++)
+            EXPECT(strcmp(braidlark_refusal_text(number), braidlark_refusal_text(other)) != 0);
+    }
+    EXPECT(strcmp(braidlark_refusal_text(BRAIDLARK_NOT_OURS + 1), none) == 0);
+    EXPECT(strcmp(braidlark_refusal_text(BRAIDLARK_FULL), "every member row live") == 0);
+}
+
+/* A count has to be that of the bytes; a number has to be there, and to fit its field. */
+static void write_wrong_numbers(void)
+{
+    static const uint8_t payload[] = {21, 5};
+    uint32_t data[BRAIDLARK_FIELDS_DATA] = {BRAIDLARK_TYPE_DATA, UNIT, FAR_UNIT, 8, 77, sizeof payload + 1},
+             written = 0;
+    uint8_t frame[BRAIDLARK_MOST_FRAME];
+    EXPECT(braidlark_write(data, BRAIDLARK_FIELDS_DATA, payload, sizeof payload, frame, sizeof frame, &written) ==
+           BRAIDLARK_BAD_LENGTH);
+    data[BRAIDLARK_FIELD_DATA_COUNT] = sizeof payload;
+    data[BRAIDLARK_FIELD_DATA_TTL] = 256;
+    EXPECT(braidlark_write(data, BRAIDLARK_FIELDS_DATA, payload, sizeof payload, frame, sizeof frame, &written) ==
+           BRAIDLARK_BAD_FIELD);
+    data[BRAIDLARK_FIELD_DATA_COUNT] = 0;
+    EXPECT(braidlark_write(data, BRAIDLARK_FIELD_DATA_TTL, NULL, 0, frame, sizeof frame, &written) ==
+           BRAIDLARK_BAD_FIELD);
+}
+
 static void numbers_fit(void)
 {
-    EXPECT(BRAIDLARK_MOST_FRAME == BRAIDLARK_DATA_LENGTH + BRAIDLARK_MOST_PAYLOAD);
-    EXPECT(BRAIDLARK_MOST_FRAME >= BRAIDLARK_UPDATE_LENGTH + BRAIDLARK_MOST_ENTRIES * BRAIDLARK_ENTRY_SIZE);
-    EXPECT((int)BRAIDLARK_MOST_FIELDS == (int)BRAIDLARK_BEACON_FIELDS);
-    EXPECT(BRAIDLARK_MOST_RESPONSES == (1 + BRAIDLARK_MOST_HELD) * BRAIDLARK_JOIN_RESPONSE_LENGTH);
+    EXPECT(BRAIDLARK_MOST_FRAME == BRAIDLARK_LENGTH_DATA + BRAIDLARK_MOST_PAYLOAD);
+    EXPECT(BRAIDLARK_MOST_FRAME >= BRAIDLARK_LENGTH_UPDATE + BRAIDLARK_MOST_ENTRIES * BRAIDLARK_ENTRY_SIZE);
+    EXPECT((int)BRAIDLARK_MOST_FIELDS == (int)BRAIDLARK_FIELDS_BEACON);
+    EXPECT(BRAIDLARK_RESPONSES_SIZE == (1 + BRAIDLARK_MOST_HELD) * BRAIDLARK_LENGTH_JOIN_RESPONSE);
     EXPECT(BRAIDLARK_TABLE_SIZE == 11 + BRAIDLARK_MOST_ROUTES * 11);
     EXPECT(BRAIDLARK_BOOK_SIZE == BRAIDLARK_PLAN_SIZE + 4 + BRAIDLARK_MOST_MEMBERS * 14);
     EXPECT(BRAIDLARK_MOST_IMAGE == 11 + BRAIDLARK_PLAN_SIZE + BRAIDLARK_MOST_MEMBERS * 10);
@@ -101,15 +133,14 @@ static void numbers_fit(void)
 static void tell_numbers(const uint8_t *plan)
 {
     static const uint8_t nothing[BRAIDLARK_PLAN_SIZE] = {0};
-    uint32_t numbers[BRAIDLARK_PLAN_NUMBERS];
+    uint32_t numbers[BRAIDLARK_FIELDS_PLAN];
     EXPECT(braidlark_plan_numbers(nothing, sizeof nothing, numbers, 0) == BRAIDLARK_OUT_OF_RULE);
-    EXPECT(braidlark_plan_numbers(plan, BRAIDLARK_PLAN_SIZE, numbers, BRAIDLARK_PLAN_NUMBERS - 1) ==
-           BRAIDLARK_NO_SPACE);
-    EXPECT(braidlark_plan_numbers(plan, BRAIDLARK_PLAN_SIZE, numbers, BRAIDLARK_PLAN_NUMBERS) == BRAIDLARK_ACCEPTED);
-    EXPECT(numbers[BRAIDLARK_PLAN_ACTIVE] == 16 && numbers[BRAIDLARK_PLAN_SLOTS] == SLOTS);
-    EXPECT(numbers[BRAIDLARK_PLAN_SUPERFRAME_MS] == SLOTS * SLOT_MS);
-    EXPECT(numbers[BRAIDLARK_PLAN_CONTROL_AT] == 4 && numbers[BRAIDLARK_PLAN_DATA_AT] == 8);
-    EXPECT(numbers[BRAIDLARK_PLAN_DISCOVERY_AT] == 14 && numbers[BRAIDLARK_PLAN_SLEEP_AT] == 16);
+    EXPECT(braidlark_plan_numbers(plan, BRAIDLARK_PLAN_SIZE, numbers, BRAIDLARK_FIELDS_PLAN - 1) == BRAIDLARK_NO_SPACE);
+    EXPECT(braidlark_plan_numbers(plan, BRAIDLARK_PLAN_SIZE, numbers, BRAIDLARK_FIELDS_PLAN) == BRAIDLARK_ACCEPTED);
+    EXPECT(numbers[BRAIDLARK_FIELD_PLAN_ACTIVE] == 16 && numbers[BRAIDLARK_FIELD_PLAN_SLOTS] == SLOTS);
+    EXPECT(numbers[BRAIDLARK_FIELD_PLAN_SUPERFRAME_MS] == SLOTS * SLOT_MS);
+    EXPECT(numbers[BRAIDLARK_FIELD_PLAN_CONTROL_AT] == 4 && numbers[BRAIDLARK_FIELD_PLAN_DATA_AT] == 8);
+    EXPECT(numbers[BRAIDLARK_FIELD_PLAN_DISCOVERY_AT] == 14 && numbers[BRAIDLARK_FIELD_PLAN_SLEEP_AT] == 16);
 }
 
 static void make_book(uint8_t *book)
@@ -134,34 +165,34 @@ static void join(uint8_t *book)
 {
     static const uint8_t request[] = {0x21, 0x01, 0x02, 0x00, 0x01, 0x00, 0x04, 0x27};
     static const uint32_t slots[] = {5, 9, 10, 11};
-    uint8_t out[BRAIDLARK_MOST_RESPONSES];
+    uint8_t out[BRAIDLARK_RESPONSES_SIZE];
     uint32_t fields[BRAIDLARK_MOST_FIELDS], written = 0;
     size_t each;
     EXPECT(braidlark_join(book, BRAIDLARK_BOOK_SIZE, request, sizeof request, NOW, out, sizeof out, &written) ==
            BRAIDLARK_ACCEPTED);
-    EXPECT(written == 4 * BRAIDLARK_JOIN_RESPONSE_LENGTH);
+    EXPECT(written == 4 * BRAIDLARK_LENGTH_JOIN_RESPONSE);
     for (each = 0; each < 4; each++) {
-        read_whole(out + each * BRAIDLARK_JOIN_RESPONSE_LENGTH, BRAIDLARK_JOIN_RESPONSE_LENGTH, fields);
-        EXPECT(fields[BRAIDLARK_TYPE] == BRAIDLARK_JOIN_RESPONSE);
-        EXPECT(fields[BRAIDLARK_JOIN_RESPONSE_NODE] == UNIT);
-        EXPECT(fields[BRAIDLARK_JOIN_RESPONSE_STATUS] == BRAIDLARK_STATUS_ACCEPTED);
-        EXPECT(fields[BRAIDLARK_JOIN_RESPONSE_SLOT] == slots[each]);
-        EXPECT(fields[BRAIDLARK_JOIN_RESPONSE_SUPERFRAME_TIME] == NOW);
-        EXPECT(fields[BRAIDLARK_JOIN_RESPONSE_NETWORK] == NETWORK);
+        read_whole(out + each * BRAIDLARK_LENGTH_JOIN_RESPONSE, BRAIDLARK_LENGTH_JOIN_RESPONSE, fields);
+        EXPECT(fields[BRAIDLARK_FIELD_TYPE] == BRAIDLARK_TYPE_JOIN_RESPONSE);
+        EXPECT(fields[BRAIDLARK_FIELD_JOIN_RESPONSE_NODE] == UNIT);
+        EXPECT(fields[BRAIDLARK_FIELD_JOIN_RESPONSE_STATUS] == BRAIDLARK_STATUS_ACCEPTED);
+        EXPECT(fields[BRAIDLARK_FIELD_JOIN_RESPONSE_SLOT] == slots[each]);
+        EXPECT(fields[BRAIDLARK_FIELD_JOIN_RESPONSE_SUPERFRAME_TIME] == NOW);
+        EXPECT(fields[BRAIDLARK_FIELD_JOIN_RESPONSE_NETWORK] == NETWORK);
     }
 }
 
 /* It then does with two, so that its highest one is free again. */
 static void ask_for_fewer(uint8_t *book)
 {
-    static const uint32_t request[BRAIDLARK_SLOT_REQUEST_FIELDS] = {BRAIDLARK_SLOT_REQUEST, UNIT, 2, 0, 0};
-    uint8_t frame[BRAIDLARK_MOST_FRAME], out[BRAIDLARK_MOST_RESPONSES];
-    uint32_t length = write_whole(request, BRAIDLARK_SLOT_REQUEST_FIELDS, NULL, 0, frame);
+    static const uint32_t request[BRAIDLARK_FIELDS_SLOT_REQUEST] = {BRAIDLARK_TYPE_SLOT_REQUEST, UNIT, 2, 0, 0};
+    uint8_t frame[BRAIDLARK_MOST_FRAME], out[BRAIDLARK_RESPONSES_SIZE];
+    uint32_t length = write_whole(request, BRAIDLARK_FIELDS_SLOT_REQUEST, NULL, 0, frame);
     uint32_t written = 0;
-    EXPECT(length == BRAIDLARK_SLOT_REQUEST_LENGTH);
+    EXPECT(length == BRAIDLARK_LENGTH_SLOT_REQUEST);
     EXPECT(braidlark_slot_request(book, BRAIDLARK_BOOK_SIZE, frame, length, NOW, out, sizeof out, &written) ==
            BRAIDLARK_ACCEPTED);
-    EXPECT(written == 3 * BRAIDLARK_JOIN_RESPONSE_LENGTH);
+    EXPECT(written == 3 * BRAIDLARK_LENGTH_JOIN_RESPONSE);
 }
 
 static void schedule(const uint8_t *book)
@@ -171,10 +202,11 @@ static void schedule(const uint8_t *book)
     EXPECT(braidlark_schedule(book, BRAIDLARK_BOOK_SIZE, UNIT, 1, NOW, kinds, sizeof kinds, &written) ==
            BRAIDLARK_ACCEPTED);
     EXPECT(written == SLOTS);
-    EXPECT(kinds[0] == BRAIDLARK_BEACON_RX && kinds[1] == BRAIDLARK_BEACON_TX);
-    EXPECT(kinds[4] == BRAIDLARK_CONTROL_RX && kinds[5] == BRAIDLARK_CONTROL_TX);
-    EXPECT(kinds[8] == BRAIDLARK_RX && kinds[9] == BRAIDLARK_TX && kinds[10] == BRAIDLARK_TX);
-    EXPECT(kinds[11] == BRAIDLARK_RX && kinds[14] == BRAIDLARK_DISCOVERY_RX && kinds[53] == BRAIDLARK_SLEEP);
+    EXPECT(kinds[0] == BRAIDLARK_SLOT_BEACON_RX && kinds[1] == BRAIDLARK_SLOT_BEACON_TX);
+    EXPECT(kinds[4] == BRAIDLARK_SLOT_CONTROL_RX && kinds[5] == BRAIDLARK_SLOT_CONTROL_TX);
+    EXPECT(kinds[8] == BRAIDLARK_SLOT_RX && kinds[9] == BRAIDLARK_SLOT_TX && kinds[10] == BRAIDLARK_SLOT_TX);
+    EXPECT(kinds[11] == BRAIDLARK_SLOT_RX && kinds[14] == BRAIDLARK_SLOT_DISCOVERY_RX &&
+           kinds[53] == BRAIDLARK_SLOT_SLEEP);
     EXPECT(braidlark_schedule(book, BRAIDLARK_BOOK_SIZE, UNIT, 256 + 1, NOW, kinds, sizeof kinds, &written) ==
            BRAIDLARK_OUT_OF_RULE);
     EXPECT(braidlark_schedule(book, BRAIDLARK_BOOK_SIZE, MANAGER, 256, NOW, kinds, sizeof kinds, &written) ==
@@ -230,12 +262,12 @@ static void hear_update(uint8_t *table, const uint8_t *frame, uint32_t length)
 /* The update's one entry, then the end: it says how far the far unit is from the manager. */
 static void walk_entries(const uint8_t *update, uint32_t length)
 {
-    uint32_t entry[BRAIDLARK_ENTRY_FIELDS], next = 0;
-    EXPECT(braidlark_entry(update, length, 0, entry, BRAIDLARK_ENTRY_FIELDS, &next) == BRAIDLARK_ACCEPTED);
-    EXPECT(entry[BRAIDLARK_ENTRY_DESTINATION] == FAR_UNIT && entry[BRAIDLARK_ENTRY_HOPS] == 1);
-    EXPECT(entry[BRAIDLARK_ENTRY_QUALITY] == QUALITY && entry[BRAIDLARK_ENTRY_NEXT_HOP] == FAR_UNIT);
-    EXPECT(entry[BRAIDLARK_ENTRY_TIMESTAMP] == NOW && next == 1);
-    EXPECT(braidlark_entry(update, length, next, entry, BRAIDLARK_ENTRY_FIELDS, &next) == BRAIDLARK_ACCEPTED);
+    uint32_t entry[BRAIDLARK_FIELDS_ENTRY], next = 0;
+    EXPECT(braidlark_entry(update, length, 0, entry, BRAIDLARK_FIELDS_ENTRY, &next) == BRAIDLARK_ACCEPTED);
+    EXPECT(entry[BRAIDLARK_FIELD_ENTRY_DESTINATION] == FAR_UNIT && entry[BRAIDLARK_FIELD_ENTRY_HOPS] == 1);
+    EXPECT(entry[BRAIDLARK_FIELD_ENTRY_QUALITY] == QUALITY && entry[BRAIDLARK_FIELD_ENTRY_NEXT_HOP] == FAR_UNIT);
+    EXPECT(entry[BRAIDLARK_FIELD_ENTRY_TIMESTAMP] == NOW && next == 1);
+    EXPECT(braidlark_entry(update, length, next, entry, BRAIDLARK_FIELDS_ENTRY, &next) == BRAIDLARK_ACCEPTED);
     EXPECT(next == 0);
 }
 
@@ -248,12 +280,12 @@ static void learn_routes(uint8_t *table)
     EXPECT(braidlark_table_fresh(manager_table, sizeof manager_table, MANAGER, NOW) == BRAIDLARK_ACCEPTED);
     EXPECT(braidlark_table_fresh(table, BRAIDLARK_TABLE_SIZE, UNIT, NOW) == BRAIDLARK_ACCEPTED);
     length = first_page(far_table, update);
-    EXPECT(length == BRAIDLARK_UPDATE_LENGTH);
+    EXPECT(length == BRAIDLARK_LENGTH_UPDATE);
     hear_update(manager_table, update, length);
     length = first_page(manager_table, update);
-    EXPECT(length == BRAIDLARK_UPDATE_LENGTH + BRAIDLARK_ENTRY_SIZE);
-    EXPECT(read_whole(update, length, fields) == BRAIDLARK_UPDATE_LENGTH - 1);
-    EXPECT(fields[BRAIDLARK_UPDATE_ORIGIN] == MANAGER && fields[BRAIDLARK_UPDATE_COUNT] == 1);
+    EXPECT(length == BRAIDLARK_LENGTH_UPDATE + BRAIDLARK_ENTRY_SIZE);
+    EXPECT(read_whole(update, length, fields) == BRAIDLARK_LENGTH_UPDATE - 1);
+    EXPECT(fields[BRAIDLARK_FIELD_UPDATE_ORIGIN] == MANAGER && fields[BRAIDLARK_FIELD_UPDATE_COUNT] == 1);
     walk_entries(update, length);
     hear_update(table, update, length);
 }
@@ -267,56 +299,68 @@ static void look_up(const uint8_t *table)
     EXPECT(next_hop == MANAGER && hops == 2);
 }
 
+/* The unit's own frame is sent by lookup and write. */
+static void relay_own(const uint8_t *table)
+{
+    static const uint32_t data[BRAIDLARK_FIELDS_DATA] = {BRAIDLARK_TYPE_DATA, UNIT, FAR_UNIT, 8, 77, 0};
+    uint8_t frame[BRAIDLARK_MOST_FRAME], out[BRAIDLARK_MOST_FRAME];
+    uint32_t place = 0, length = 0, written = write_whole(data, BRAIDLARK_FIELDS_DATA, NULL, 0, frame);
+    uint16_t next_hop = 0;
+    EXPECT(braidlark_relay(table, BRAIDLARK_TABLE_SIZE, frame, written, NOW, out, sizeof out, &next_hop, &place,
+                           &length) == BRAIDLARK_OWN_UNIT);
+}
+
 static void relay(const uint8_t *table)
 {
     static const uint8_t payload[] = {21, 5};
-    static const uint32_t data[BRAIDLARK_DATA_FIELDS] = {BRAIDLARK_DATA, STRANGER, FAR_UNIT, 8, 77, sizeof payload};
+    static const uint32_t data[BRAIDLARK_FIELDS_DATA] = {BRAIDLARK_TYPE_DATA, STRANGER, FAR_UNIT, 8, 77,
+                                                         sizeof payload};
     uint8_t frame[BRAIDLARK_MOST_FRAME], out[BRAIDLARK_MOST_FRAME];
     uint32_t fields[BRAIDLARK_MOST_FIELDS], place = 1, length = 0, written;
     uint16_t next_hop = 0;
-    written = write_whole(data, BRAIDLARK_DATA_FIELDS, payload, sizeof payload, frame);
-    EXPECT(written == BRAIDLARK_DATA_LENGTH + sizeof payload);
+    written = write_whole(data, BRAIDLARK_FIELDS_DATA, payload, sizeof payload, frame);
+    EXPECT(written == BRAIDLARK_LENGTH_DATA + sizeof payload);
     EXPECT(braidlark_relay(table, BRAIDLARK_TABLE_SIZE, frame, written, NOW, out, sizeof out, &next_hop, &place,
                            &length) == BRAIDLARK_ACCEPTED);
     EXPECT(next_hop == MANAGER && place == 0 && length == written);
     EXPECT(memcmp(out + read_whole(out, length, fields), payload, sizeof payload) == 0);
-    EXPECT(fields[BRAIDLARK_DATA_TTL] == 7 && fields[BRAIDLARK_DATA_SEQUENCE] == 77);
+    EXPECT(fields[BRAIDLARK_FIELD_DATA_TTL] == 7 && fields[BRAIDLARK_FIELD_DATA_SEQUENCE] == 77);
 }
 
 /* The manager's own beacon of a time, 70 ms on its way. */
 static uint32_t write_beacon(uint8_t *frame, uint32_t time)
 {
-    uint32_t fields[BRAIDLARK_BEACON_FIELDS] = {BRAIDLARK_BEACON};
-    fields[BRAIDLARK_BEACON_DESTINATION] = BRAIDLARK_EVERY_UNIT;
-    fields[BRAIDLARK_BEACON_SOURCE] = MANAGER;
-    fields[BRAIDLARK_BEACON_SIZE] = BRAIDLARK_BEACON_BODY_SIZE;
-    fields[BRAIDLARK_BEACON_NETWORK] = NETWORK;
-    fields[BRAIDLARK_BEACON_SUPERFRAME_NUMBER] = 12;
-    fields[BRAIDLARK_BEACON_SUPERFRAME_MS] = SLOTS * SLOT_MS;
-    fields[BRAIDLARK_BEACON_TOTAL_SLOTS] = SLOTS;
-    fields[BRAIDLARK_BEACON_SLOT_MS] = SLOT_MS;
-    fields[BRAIDLARK_BEACON_ORIGINAL_SOURCE] = MANAGER;
-    fields[BRAIDLARK_BEACON_HOP] = 0;
-    fields[BRAIDLARK_BEACON_ORIGINAL_TIME] = time;
-    fields[BRAIDLARK_BEACON_DELAY] = 70;
-    fields[BRAIDLARK_BEACON_MAX_HOPS] = MAX_HOPS;
-    fields[BRAIDLARK_BEACON_SEQUENCE] = 9;
-    return write_whole(fields, BRAIDLARK_BEACON_FIELDS, NULL, 0, frame);
+    uint32_t fields[BRAIDLARK_FIELDS_BEACON] = {BRAIDLARK_TYPE_BEACON};
+    fields[BRAIDLARK_FIELD_BEACON_DESTINATION] = BRAIDLARK_EVERY_UNIT;
+    fields[BRAIDLARK_FIELD_BEACON_SOURCE] = MANAGER;
+    fields[BRAIDLARK_FIELD_BEACON_SIZE] = BRAIDLARK_BEACON_BODY_SIZE;
+    fields[BRAIDLARK_FIELD_BEACON_NETWORK] = NETWORK;
+    fields[BRAIDLARK_FIELD_BEACON_SUPERFRAME_NUMBER] = 12;
+    fields[BRAIDLARK_FIELD_BEACON_SUPERFRAME_MS] = SLOTS * SLOT_MS;
+    fields[BRAIDLARK_FIELD_BEACON_TOTAL_SLOTS] = SLOTS;
+    fields[BRAIDLARK_FIELD_BEACON_SLOT_MS] = SLOT_MS;
+    fields[BRAIDLARK_FIELD_BEACON_ORIGINAL_SOURCE] = MANAGER;
+    fields[BRAIDLARK_FIELD_BEACON_HOP] = 0;
+    fields[BRAIDLARK_FIELD_BEACON_ORIGINAL_TIME] = time;
+    fields[BRAIDLARK_FIELD_BEACON_DELAY] = 70;
+    fields[BRAIDLARK_FIELD_BEACON_MAX_HOPS] = MAX_HOPS;
+    fields[BRAIDLARK_FIELD_BEACON_SEQUENCE] = 9;
+    return write_whole(fields, BRAIDLARK_FIELDS_BEACON, NULL, 0, frame);
 }
 
 static void hear_beacon(uint8_t *table)
 {
-    uint8_t frame[BRAIDLARK_MOST_FRAME], out[BRAIDLARK_BEACON_LENGTH];
+    uint8_t frame[BRAIDLARK_MOST_FRAME], out[BRAIDLARK_LENGTH_BEACON];
     uint32_t fields[BRAIDLARK_MOST_FIELDS], written = 0, length = write_beacon(frame, NOW), offset = 0;
-    EXPECT(length == BRAIDLARK_BEACON_LENGTH);
+    EXPECT(length == BRAIDLARK_LENGTH_BEACON);
     EXPECT(braidlark_clock_step(&offset, NOW, NETWORK, frame, length) == BRAIDLARK_ACCEPTED);
     EXPECT(offset == 35); /* 70 ms behind the network: half of that is made good */
     EXPECT(braidlark_forward(table, BRAIDLARK_TABLE_SIZE, NETWORK, frame, length, 30, NOW, out, sizeof out, &written) ==
            BRAIDLARK_ACCEPTED);
-    EXPECT(written == BRAIDLARK_BEACON_LENGTH);
+    EXPECT(written == BRAIDLARK_LENGTH_BEACON);
     read_whole(out, sizeof out, fields);
-    EXPECT(fields[BRAIDLARK_BEACON_SOURCE] == UNIT && fields[BRAIDLARK_BEACON_HOP] == 1);
-    EXPECT(fields[BRAIDLARK_BEACON_DELAY] == 100);
+    EXPECT(fields[BRAIDLARK_FIELD_BEACON_SOURCE] == UNIT && fields[BRAIDLARK_FIELD_BEACON_HOP] == 1);
+    EXPECT(fields[BRAIDLARK_FIELD_BEACON_DELAY] == 100);
     EXPECT(braidlark_forward(table, BRAIDLARK_TABLE_SIZE, NETWORK, frame, length, 30, NOW, out, sizeof out, &written) ==
            BRAIDLARK_NOT_OURS);
 }
@@ -335,10 +379,12 @@ static void live(void)
     uint8_t state[BRAIDLARK_STATE_SIZE];
     EXPECT(braidlark_state_fresh(state, sizeof state, NOW) == BRAIDLARK_ACCEPTED);
     EXPECT(state[0] == BRAIDLARK_INITIALIZING);
-    EXPECT(braidlark_state_event(state, sizeof state, BRAIDLARK_READY, NOW) == BRAIDLARK_ACCEPTED);
+    EXPECT(braidlark_state_event(state, sizeof state, BRAIDLARK_EVENT_READY, NOW) == BRAIDLARK_ACCEPTED);
     EXPECT(state[0] == BRAIDLARK_DISCOVERY);
-    EXPECT(braidlark_state_event(state, sizeof state, BRAIDLARK_ELECTED, NOW) == BRAIDLARK_NOT_ALLOWED);
-    EXPECT(braidlark_state_tick(state, sizeof state, SLOTS * SLOT_MS, NOW + BRAIDLARK_DISCOVERY_MS) == BRAIDLARK_ACCEPTED);
+    EXPECT(braidlark_state_event(state, sizeof state, BRAIDLARK_EVENT_ELECTED, NOW) == BRAIDLARK_NOT_ALLOWED);
+    EXPECT(braidlark_state_event(state, sizeof state, BRAIDLARK_EVENT_RECOVERED + 1, NOW) == BRAIDLARK_NOT_ALLOWED);
+    EXPECT(braidlark_state_tick(state, sizeof state, SLOTS * SLOT_MS, NOW + BRAIDLARK_DISCOVERY_MS) ==
+           BRAIDLARK_ACCEPTED);
     EXPECT(state[0] == BRAIDLARK_MANAGER);
 }
 
@@ -348,6 +394,7 @@ static void be_a_unit(void)
     learn_routes(table);
     look_up(table);
     relay(table);
+    relay_own(table);
     hear_beacon(table);
     forget(table);
     live();
@@ -357,9 +404,9 @@ static void be_a_unit(void)
 
 static void age_across(void)
 {
-    static const uint32_t update[BRAIDLARK_UPDATE_FIELDS] = {BRAIDLARK_UPDATE, MANAGER, 0, LAST_MS};
+    static const uint32_t update[BRAIDLARK_FIELDS_UPDATE] = {BRAIDLARK_TYPE_UPDATE, MANAGER, 0, LAST_MS};
     uint8_t table[BRAIDLARK_TABLE_SIZE], frame[BRAIDLARK_MOST_FRAME], skipped = 1, hops = 0;
-    uint32_t length = write_whole(update, BRAIDLARK_UPDATE_FIELDS, NULL, 0, frame), time = LAST_MS;
+    uint32_t length = write_whole(update, BRAIDLARK_FIELDS_UPDATE, NULL, 0, frame), time = LAST_MS;
     uint16_t next_hop = 0;
     EXPECT(braidlark_table_fresh(table, sizeof table, UNIT, time) == BRAIDLARK_ACCEPTED);
     EXPECT(braidlark_merge(table, sizeof table, frame, length, QUALITY, time, &skipped) == BRAIDLARK_ACCEPTED);
@@ -387,7 +434,7 @@ static void live_across(void)
     uint8_t state[BRAIDLARK_STATE_SIZE];
     uint32_t time = LAST_MS;
     EXPECT(braidlark_state_fresh(state, sizeof state, time) == BRAIDLARK_ACCEPTED);
-    EXPECT(braidlark_state_event(state, sizeof state, BRAIDLARK_READY, time) == BRAIDLARK_ACCEPTED);
+    EXPECT(braidlark_state_event(state, sizeof state, BRAIDLARK_EVENT_READY, time) == BRAIDLARK_ACCEPTED);
     time += BRAIDLARK_DISCOVERY_MS - 1;
     EXPECT(braidlark_state_tick(state, sizeof state, SLOTS * SLOT_MS, time) == BRAIDLARK_ACCEPTED);
     EXPECT(state[0] == BRAIDLARK_DISCOVERY);
@@ -420,8 +467,10 @@ static void pass_the_top(void)
 int main(void)
 {
     numbers_fit();
+    refusals_have_texts();
     write_other_kinds();
     write_none_and_more();
+    write_wrong_numbers();
     manage_a_site();
     be_a_unit();
     pass_the_top();

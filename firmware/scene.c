@@ -30,7 +30,7 @@ static void put(uint8_t *place, int width, uint32_t number)
 /* An update of 24 entries, every `step` addresses; every sixth is unreachable where `mixed`. */
 static void write_update(uint8_t *frame, uint32_t origin, uint32_t first, uint32_t step, int mixed)
 {
-    uint32_t fields[BRAIDLARK_UPDATE_FIELDS] = {BRAIDLARK_UPDATE, origin, BRAIDLARK_MOST_ENTRIES, NOW};
+    uint32_t fields[BRAIDLARK_FIELDS_UPDATE] = {BRAIDLARK_TYPE_UPDATE, origin, BRAIDLARK_MOST_ENTRIES, NOW};
     uint8_t entries[BRAIDLARK_MOST_ENTRIES * BRAIDLARK_ENTRY_SIZE];
     for (uint32_t each = 0; each < BRAIDLARK_MOST_ENTRIES; each++) {
         uint8_t *entry = entries + each * BRAIDLARK_ENTRY_SIZE;
@@ -40,7 +40,7 @@ static void write_update(uint8_t *frame, uint32_t origin, uint32_t first, uint32
         put(entry + 4, 2, origin);
         put(entry + 6, 4, NOW);
     }
-    write_frame(fields, BRAIDLARK_UPDATE_FIELDS, entries, sizeof entries, frame);
+    write_frame(fields, BRAIDLARK_FIELDS_UPDATE, entries, sizeof entries, frame);
 }
 
 static void hear(struct scene *made, uint32_t origin, uint32_t first, uint32_t step, uint32_t time)
@@ -62,8 +62,8 @@ static void make_table(struct scene *made, int mixed)
 
 static void make_frames(struct scene *made)
 {
-    const uint32_t data[] = {BRAIDLARK_DATA, SENDER, MANAGER, 10, 7, BRAIDLARK_MOST_PAYLOAD};
-    const uint32_t beacon[] = {BRAIDLARK_BEACON,
+    const uint32_t data[] = {BRAIDLARK_TYPE_DATA, SENDER, MANAGER, 10, 7, BRAIDLARK_MOST_PAYLOAD};
+    const uint32_t beacon[] = {BRAIDLARK_TYPE_BEACON,
                                BRAIDLARK_EVERY_UNIT,
                                MANAGER,
                                BRAIDLARK_BEACON_BODY_SIZE,
@@ -78,24 +78,24 @@ static void make_frames(struct scene *made)
                                70,
                                3,
                                9};
-    const uint32_t join[] = {BRAIDLARK_JOIN_REQUEST, NEWCOMER, 0, NETWORK, 4};
-    const uint32_t slots[] = {BRAIDLARK_SLOT_REQUEST, FIRST_MEMBER, 4, 0, 0};
+    const uint32_t join[] = {BRAIDLARK_TYPE_JOIN_REQUEST, NEWCOMER, 0, NETWORK, 4};
+    const uint32_t slots[] = {BRAIDLARK_TYPE_SLOT_REQUEST, FIRST_MEMBER, 4, 0, 0};
     memcpy(made->data_fields, data, sizeof data);
     memcpy(made->beacon_fields, beacon, sizeof beacon);
-    write_frame(data, BRAIDLARK_DATA_FIELDS, made->payload, sizeof made->payload, made->data);
-    write_frame(beacon, BRAIDLARK_BEACON_FIELDS, NULL, 0, made->beacon);
-    write_frame(join, BRAIDLARK_JOIN_REQUEST_FIELDS, NULL, 0, made->join_request);
-    write_frame(slots, BRAIDLARK_SLOT_REQUEST_FIELDS, NULL, 0, made->slot_request);
+    write_frame(data, BRAIDLARK_FIELDS_DATA, made->payload, sizeof made->payload, made->data);
+    write_frame(beacon, BRAIDLARK_FIELDS_BEACON, NULL, 0, made->beacon);
+    write_frame(join, BRAIDLARK_FIELDS_JOIN_REQUEST, NULL, 0, made->join_request);
+    write_frame(slots, BRAIDLARK_FIELDS_SLOT_REQUEST, NULL, 0, made->slot_request);
 }
 
 static void join_members(struct scene *made, uint32_t first, int count, uint32_t time)
 {
     for (int each = 0; each < count; each++) {
-        const uint32_t join[] = {BRAIDLARK_JOIN_REQUEST, first + (uint32_t)each, 0, NETWORK, 1};
-        uint8_t frame[BRAIDLARK_MOST_FRAME], out[BRAIDLARK_MOST_RESPONSES];
+        const uint32_t join[] = {BRAIDLARK_TYPE_JOIN_REQUEST, first + (uint32_t)each, 0, NETWORK, 1};
+        uint8_t frame[BRAIDLARK_MOST_FRAME], out[BRAIDLARK_RESPONSES_SIZE];
         uint32_t written;
-        write_frame(join, BRAIDLARK_JOIN_REQUEST_FIELDS, NULL, 0, frame);
-        need(braidlark_join(made->book, sizeof made->book, frame, BRAIDLARK_JOIN_REQUEST_LENGTH, time, out, sizeof out,
+        write_frame(join, BRAIDLARK_FIELDS_JOIN_REQUEST, NULL, 0, frame);
+        need(braidlark_join(made->book, sizeof made->book, frame, BRAIDLARK_LENGTH_JOIN_REQUEST, time, out, sizeof out,
                             &written),
              "a member");
     }

@@ -23,7 +23,7 @@ static uint8_t call_nothing(void)
 
 static uint8_t call_read(void)
 {
-    return braidlark_read(scene.beacon, BRAIDLARK_BEACON_LENGTH, scene.fields, BRAIDLARK_MOST_FIELDS, &scene.place,
+    return braidlark_read(scene.beacon, BRAIDLARK_LENGTH_BEACON, scene.fields, BRAIDLARK_MOST_FIELDS, &scene.place,
                           &scene.length);
 }
 
@@ -34,19 +34,19 @@ static uint8_t call_read_update(void)
 
 static uint8_t call_entry(void)
 {
-    return braidlark_entry(scene.update, FULL_UPDATE, BRAIDLARK_MOST_ENTRIES - 1, scene.fields, BRAIDLARK_ENTRY_FIELDS,
+    return braidlark_entry(scene.update, FULL_UPDATE, BRAIDLARK_MOST_ENTRIES - 1, scene.fields, BRAIDLARK_FIELDS_ENTRY,
                            &scene.place);
 }
 
 static uint8_t call_write(void)
 {
-    return braidlark_write(scene.beacon_fields, BRAIDLARK_BEACON_FIELDS, NULL, 0, scene.out, sizeof scene.out,
+    return braidlark_write(scene.beacon_fields, BRAIDLARK_FIELDS_BEACON, NULL, 0, scene.out, sizeof scene.out,
                            &scene.length);
 }
 
 static uint8_t call_write_data(void)
 {
-    return braidlark_write(scene.data_fields, BRAIDLARK_DATA_FIELDS, scene.payload, sizeof scene.payload, scene.out,
+    return braidlark_write(scene.data_fields, BRAIDLARK_FIELDS_DATA, scene.payload, sizeof scene.payload, scene.out,
                            sizeof scene.out, &scene.length);
 }
 
@@ -83,7 +83,7 @@ static uint8_t call_relay(void)
 
 static uint8_t call_forward(void)
 {
-    return braidlark_forward(scene.table, sizeof scene.table, NETWORK, scene.beacon, BRAIDLARK_BEACON_LENGTH, 5, NOW,
+    return braidlark_forward(scene.table, sizeof scene.table, NETWORK, scene.beacon, BRAIDLARK_LENGTH_BEACON, 5, NOW,
                              scene.out, sizeof scene.out, &scene.length);
 }
 
@@ -94,7 +94,7 @@ static uint8_t call_state_fresh(void)
 
 static uint8_t call_state_event(void)
 {
-    return braidlark_state_event(scene.state, sizeof scene.state, BRAIDLARK_READY, NOW);
+    return braidlark_state_event(scene.state, sizeof scene.state, BRAIDLARK_EVENT_READY, NOW);
 }
 
 static uint8_t call_state_tick(void)
@@ -104,7 +104,7 @@ static uint8_t call_state_tick(void)
 
 static uint8_t call_clock_step(void)
 {
-    return braidlark_clock_step(&scene.offset, NOW, NETWORK, scene.beacon, BRAIDLARK_BEACON_LENGTH);
+    return braidlark_clock_step(&scene.offset, NOW, NETWORK, scene.beacon, BRAIDLARK_LENGTH_BEACON);
 }
 
 static uint8_t call_plan(void)
@@ -114,7 +114,7 @@ static uint8_t call_plan(void)
 
 static uint8_t call_plan_numbers(void)
 {
-    return braidlark_plan_numbers(scene.plan, sizeof scene.plan, scene.fields, BRAIDLARK_PLAN_NUMBERS);
+    return braidlark_plan_numbers(scene.plan, sizeof scene.plan, scene.fields, BRAIDLARK_FIELDS_PLAN);
 }
 
 static uint8_t call_book_fresh(void)
@@ -124,13 +124,13 @@ static uint8_t call_book_fresh(void)
 
 static uint8_t call_join(void)
 {
-    return braidlark_join(scene.book, sizeof scene.book, scene.join_request, BRAIDLARK_JOIN_REQUEST_LENGTH, NOW,
+    return braidlark_join(scene.book, sizeof scene.book, scene.join_request, BRAIDLARK_LENGTH_JOIN_REQUEST, NOW,
                           scene.out, sizeof scene.out, &scene.length);
 }
 
 static uint8_t call_slot_request(void)
 {
-    return braidlark_slot_request(scene.book, sizeof scene.book, scene.slot_request, BRAIDLARK_SLOT_REQUEST_LENGTH, NOW,
+    return braidlark_slot_request(scene.book, sizeof scene.book, scene.slot_request, BRAIDLARK_LENGTH_SLOT_REQUEST, NOW,
                                   scene.out, sizeof scene.out, &scene.length);
 }
 

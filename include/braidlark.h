@@ -1,29 +1,43 @@
 /*
- * Braidlark: the node core of a LoRa mesh for greenhouses.
+ * Braidlark: the node core of a LoRa mesh for greenhouses. firmware/node is a complete node over this header.
  *
- * Every call returns 0, or one of the refusal numbers below: the first that applies, in the order that the call's
- * comment gives. What a call answers goes to the caller's buffers and out parameters; a refused call changes none of
- * them. Bytes of a buffer past those written stay as they were. A buffer is a pointer and its length; with length 0
- * the pointer may be NULL. Buffers and out parameters of one call must not overlap. Nothing is kept between calls: a
- * table, a state, a plan and a book are bytes that the caller owns and hands in again.
+ * Answers. Every call returns 0, or one of the refusal numbers below: the first that applies, in the order that the
+ * call's comment gives. What a call answers goes to the caller's buffers and out parameters; a refused call changes
+ * none of them. Bytes of a buffer past those written stay as they were.
+ *
+ * Buffers. A buffer is a pointer and its length; with length 0 the pointer may be NULL. A buffer of bytes may have any
+ * alignment, and the numbers in it are little-endian. A buffer of numbers is an array of uint32_t, and its length
+ * counts numbers, not bytes. Buffers and out parameters of one call must not overlap.
+ *
+ * Threads. Nothing is kept between calls: a table, a state, a plan and a book are bytes that the caller owns and hands
+ * in again. Calls may run on any thread, also at the same time, if none is handed what another one writes to.
+ *
+ * Linking. Of C's library the archive needs memcpy and memset alone.
+ * The deepest call takes less than 3 KiB of stack; docs/MEASURES.md has each call's, and the size of the code.
  *
  * Addresses of units are 1 to 0xFFFE, networks 1 to 0xFFFF (in a join request 0 is any); others are refused as broken
  * field rules (4), by a plan as out of rule (14).
  *
- * Times are those of one monotonic local clock, in milliseconds of 32 bits. It has no end: it runs modulo 2^32, and so
- * begins again at 0 after 49.7 days. The step from the last accepted time to a call's is their difference modulo 2^32:
- * below 2^31 it is forward, else the call is too early (8). Ages are such differences as well. An accepted call that
- * changes a table, a book or a state records its time there; one that only reads, from a const buffer, does not.
+ * Times are those of one monotonic local clock of the unit, in milliseconds of 32 bits. It has no end: it runs modulo
+ * 2^32, and so begins again at 0 after 49.7 days. Network time, which braidlark_clock_step may step back, is never a
+ * call's time: it is for finding slots. The step from the last accepted time to a call's is their difference modulo
+ * 2^32: below 2^31 it is forward, else the call is too early (8). Ages are such differences as well. An accepted call
+ * that changes a table, a book or a state records its time there; one that only reads, from a const buffer, does not.
  *
  * The caller has to see to it that a changing call is accepted on each table and each book at least every 2^31 - 1 ms
- * (24.8 days), and a tick on each state at least every 2^30 ms (12.4 days). No call tests that. Else calls are too
- * early for half a turn of the clock, and then ages and the order of times are read wrong by a whole turn: a route or a
+ * (24.8 days), and a tick on each state at least every 2^30 ms (12.4 days). A node that is awake does so many times an
+ * hour; one that was not makes its table, its state and its book afresh. No call tests that. Else calls are too early
+ * for half a turn of the clock, and then ages and the order of times are read wrong by a whole turn: a route or a
  * member of 50 days ago counts as a new one. A state may also be found out of rule (14).
  *
  * A stored time has to be in order with the last accepted one: the step from it to that one is forward, else the buffer
  * is out of rule (14). So it is for the rows of a table, for the members of a book but the manager, and for the time
  * that a state acts on: its entry in Discovery, Joining and Recovery, its last beacon in Normal. Times inside frames
  * are shown and passed on, and never judged.
+ *
+ * Names. The first word says what a number is: TYPE_ a frame's type and LENGTH_ its bytes; FIELD_ where a number stands
+ * among others and FIELDS_ how many there are; EVENT_ an event of a state; SLOT_ a kind of slot; MOST_ a limit. A last
+ * word _SIZE is a length in bytes and _MS a time. Refusals and states have neither.
  */
 #ifndef BRAIDLARK_H
 #define BRAIDLARK_H
@@ -36,30 +50,55 @@ extern "C" {
 #endif
 
 /*
- * ---- the version of this interface: MAJOR is raised where a call or a buffer's length changes, MINOR where something is
- * only added; docs/changes says what a caller has to change
+ * ---- the version of this interface: MAJOR is raised where a name, a call or a buffer's length changes, MINOR where
+ * something is only added; docs/changes says what a caller has to change
  */
-#define BRAIDLARK_VERSION_MAJOR 2
+#define BRAIDLARK_VERSION_MAJOR 3
 #define BRAIDLARK_VERSION_MINOR 0
 
-/* ---- refusals */
+/* ---- refusals; braidlark_refusal_text says what each means */
 #define BRAIDLARK_ACCEPTED 0
-#define BRAIDLARK_BAD_LENGTH 1     /* frame empty, over 255 bytes, or not as long as its type and count say */
-#define BRAIDLARK_BAD_TYPE 2       /* type unknown, or not one that the call wants */
-#define BRAIDLARK_BAD_CHECKSUM 3   /* checksum */
-#define BRAIDLARK_BAD_FIELD 4      /* a field rule broken, or a sum of delays over 2^32 - 1 */
-#define BRAIDLARK_NO_SPACE 5       /* output buffer shorter than what would be written */
-#define BRAIDLARK_OWN_UNIT 6       /* the frame's sender, or the unit to forget, is this unit */
-#define BRAIDLARK_NOT_ALLOWED 7    /* event not allowed in this state */
-#define BRAIDLARK_TOO_EARLY 8      /* time earlier than the last accepted one: a step of 2^31 ms or more */
-#define BRAIDLARK_LOW_QUALITY 9    /* link quality under 40 */
-#define BRAIDLARK_TTL_OVER 10      /* ttl 0 or 1 and not for this unit */
-#define BRAIDLARK_NO_ROUTE 11      /* no usable route */
-#define BRAIDLARK_FULL 12          /* every member row live */
-#define BRAIDLARK_NO_MEMBER 13     /* not a live member, or the manager asked to leave */
-#define BRAIDLARK_OUT_OF_RULE 14   /* plan, image, page, hop, superframe length, or a stored value, out of rule */
-#define BRAIDLARK_OTHER_NETWORK 15 /* not the book's or the caller's network */
-#define BRAIDLARK_NOT_OURS 16      /* beacon not ours to forward */
+#define BRAIDLARK_BAD_LENGTH 1
+#define BRAIDLARK_BAD_TYPE 2
+#define BRAIDLARK_BAD_CHECKSUM 3
+#define BRAIDLARK_BAD_FIELD 4
+#define BRAIDLARK_NO_SPACE 5
+#define BRAIDLARK_OWN_UNIT 6
+#define BRAIDLARK_NOT_ALLOWED 7
+#define BRAIDLARK_TOO_EARLY 8
+#define BRAIDLARK_LOW_QUALITY 9
+#define BRAIDLARK_TTL_OVER 10
+#define BRAIDLARK_NO_ROUTE 11
+#define BRAIDLARK_FULL 12
+#define BRAIDLARK_NO_MEMBER 13
+#define BRAIDLARK_OUT_OF_RULE 14
+#define BRAIDLARK_OTHER_NETWORK 15
+#define BRAIDLARK_NOT_OURS 16
+
+/* What a number that a call returned means, in a few words. */
+static inline const char *braidlark_refusal_text(int number)
+{
+    static const char *const texts[] = {
+        "accepted",
+        "frame empty, over 255 bytes, or not as long as its type and count say",
+        "type unknown, or not one that the call wants",
+        "checksum not that of the bytes before it",
+        "a field rule broken, or a sum of delays over 2^32 - 1",
+        "output buffer shorter than what would be written",
+        "the frame's sender, or the unit to forget, is this unit",
+        "event not allowed in this state",
+        "time earlier than the last accepted one: a step of 2^31 ms or more",
+        "link quality under 40",
+        "ttl 0 or 1 and not for this unit",
+        "no usable route",
+        "every member row live",
+        "not a live member, or the manager asked to leave",
+        "plan, image, page, hop, superframe length, or a stored value, out of rule",
+        "not the book's or the caller's network",
+        "beacon not ours to forward",
+    };
+    return number >= 0 && number <= BRAIDLARK_NOT_OURS ? texts[number] : "no number of a call";
+}
 
 /* ---- lengths of buffers, in bytes unless said otherwise */
 #define BRAIDLARK_MOST_FRAME 255
@@ -71,19 +110,19 @@ extern "C" {
 #define BRAIDLARK_STATE_SIZE 13
 #define BRAIDLARK_PLAN_SIZE 9
 #define BRAIDLARK_BOOK_SIZE 307
-#define BRAIDLARK_MOST_RESPONSES 65 /* of a join or a slot request: five frames of 13 */
+#define BRAIDLARK_RESPONSES_SIZE 65 /* of a join or a slot request: five frames of 13 */
 #define BRAIDLARK_MOST_SLOTS 100    /* slots of a superframe, which are the bytes of a schedule */
 #define BRAIDLARK_MOST_IMAGE 230
 
 /* ---- lengths of frames, in bytes; two kinds have more behind their fields */
-#define BRAIDLARK_DATA_LENGTH 10 /* and the payload */
-#define BRAIDLARK_JOIN_REQUEST_LENGTH 8
-#define BRAIDLARK_JOIN_RESPONSE_LENGTH 13
-#define BRAIDLARK_SLOT_REQUEST_LENGTH 7
-#define BRAIDLARK_DISCOVERY_REQUEST_LENGTH 7
-#define BRAIDLARK_DISCOVERY_RESPONSE_LENGTH 13
-#define BRAIDLARK_UPDATE_LENGTH 9 /* and BRAIDLARK_ENTRY_SIZE for each entry */
-#define BRAIDLARK_BEACON_LENGTH 34
+#define BRAIDLARK_LENGTH_DATA 10 /* and the payload */
+#define BRAIDLARK_LENGTH_JOIN_REQUEST 8
+#define BRAIDLARK_LENGTH_JOIN_RESPONSE 13
+#define BRAIDLARK_LENGTH_SLOT_REQUEST 7
+#define BRAIDLARK_LENGTH_DISCOVERY_REQUEST 7
+#define BRAIDLARK_LENGTH_DISCOVERY_RESPONSE 13
+#define BRAIDLARK_LENGTH_UPDATE 9 /* and BRAIDLARK_ENTRY_SIZE for each entry */
+#define BRAIDLARK_LENGTH_BEACON 34
 
 /* ---- numbers that fields may or must hold */
 #define BRAIDLARK_LOWEST_ADDRESS 1
@@ -123,94 +162,94 @@ extern "C" {
 #define BRAIDLARK_RECOVERY_MS 60000             /* in Recovery, then Stopped */
 #define BRAIDLARK_LONGEST_SUPERFRAME_MS 6553500 /* that a tick may name */
 
-/* ---- kinds of frames, the number at index 0 of a frame's fields */
-#define BRAIDLARK_DATA 0x11
-#define BRAIDLARK_JOIN_REQUEST 0x21
-#define BRAIDLARK_JOIN_RESPONSE 0x22
-#define BRAIDLARK_SLOT_REQUEST 0x23
-#define BRAIDLARK_DISCOVERY_REQUEST 0x24
-#define BRAIDLARK_DISCOVERY_RESPONSE 0x25
-#define BRAIDLARK_UPDATE 0x31
-#define BRAIDLARK_BEACON 0x46
+/* ---- types of frames, the number at BRAIDLARK_FIELD_TYPE */
+#define BRAIDLARK_TYPE_DATA 0x11
+#define BRAIDLARK_TYPE_JOIN_REQUEST 0x21
+#define BRAIDLARK_TYPE_JOIN_RESPONSE 0x22
+#define BRAIDLARK_TYPE_SLOT_REQUEST 0x23
+#define BRAIDLARK_TYPE_DISCOVERY_REQUEST 0x24
+#define BRAIDLARK_TYPE_DISCOVERY_RESPONSE 0x25
+#define BRAIDLARK_TYPE_UPDATE 0x31
+#define BRAIDLARK_TYPE_BEACON 0x46
 
 /* ---- where each field stands among a frame's numbers, and how many numbers there are */
-enum { BRAIDLARK_TYPE };
+enum { BRAIDLARK_FIELD_TYPE };
 enum {
-    BRAIDLARK_DATA_SOURCE = 1,
-    BRAIDLARK_DATA_DESTINATION,
-    BRAIDLARK_DATA_TTL,
-    BRAIDLARK_DATA_SEQUENCE,
-    BRAIDLARK_DATA_COUNT, /* bytes of the payload */
-    BRAIDLARK_DATA_FIELDS
+    BRAIDLARK_FIELD_DATA_SOURCE = 1,
+    BRAIDLARK_FIELD_DATA_DESTINATION,
+    BRAIDLARK_FIELD_DATA_TTL,
+    BRAIDLARK_FIELD_DATA_SEQUENCE,
+    BRAIDLARK_FIELD_DATA_COUNT, /* bytes of the payload */
+    BRAIDLARK_FIELDS_DATA
 };
 enum {
-    BRAIDLARK_JOIN_REQUEST_NODE = 1,
-    BRAIDLARK_JOIN_REQUEST_CAPABILITIES,
-    BRAIDLARK_JOIN_REQUEST_NETWORK, /* 0 is any */
-    BRAIDLARK_JOIN_REQUEST_SLOTS,
-    BRAIDLARK_JOIN_REQUEST_FIELDS
+    BRAIDLARK_FIELD_JOIN_REQUEST_NODE = 1,
+    BRAIDLARK_FIELD_JOIN_REQUEST_CAPABILITIES,
+    BRAIDLARK_FIELD_JOIN_REQUEST_NETWORK, /* 0 is any */
+    BRAIDLARK_FIELD_JOIN_REQUEST_SLOTS,
+    BRAIDLARK_FIELDS_JOIN_REQUEST
 };
 enum {
-    BRAIDLARK_JOIN_RESPONSE_NODE = 1,
-    BRAIDLARK_JOIN_RESPONSE_STATUS,
-    BRAIDLARK_JOIN_RESPONSE_SLOT,
-    BRAIDLARK_JOIN_RESPONSE_SUPERFRAME_TIME,
-    BRAIDLARK_JOIN_RESPONSE_NETWORK,
-    BRAIDLARK_JOIN_RESPONSE_FIELDS
+    BRAIDLARK_FIELD_JOIN_RESPONSE_NODE = 1,
+    BRAIDLARK_FIELD_JOIN_RESPONSE_STATUS,
+    BRAIDLARK_FIELD_JOIN_RESPONSE_SLOT,
+    BRAIDLARK_FIELD_JOIN_RESPONSE_SUPERFRAME_TIME,
+    BRAIDLARK_FIELD_JOIN_RESPONSE_NETWORK,
+    BRAIDLARK_FIELDS_JOIN_RESPONSE
 };
 enum {
-    BRAIDLARK_SLOT_REQUEST_NODE = 1,
-    BRAIDLARK_SLOT_REQUEST_SLOTS,
-    BRAIDLARK_SLOT_REQUEST_PRIORITY,
-    BRAIDLARK_SLOT_REQUEST_REASON,
-    BRAIDLARK_SLOT_REQUEST_FIELDS
+    BRAIDLARK_FIELD_SLOT_REQUEST_NODE = 1,
+    BRAIDLARK_FIELD_SLOT_REQUEST_SLOTS,
+    BRAIDLARK_FIELD_SLOT_REQUEST_PRIORITY,
+    BRAIDLARK_FIELD_SLOT_REQUEST_REASON,
+    BRAIDLARK_FIELDS_SLOT_REQUEST
 };
 enum {
-    BRAIDLARK_DISCOVERY_REQUEST_NODE = 1,
-    BRAIDLARK_DISCOVERY_REQUEST_CAPABILITIES,
-    BRAIDLARK_DISCOVERY_REQUEST_ROLE,
-    BRAIDLARK_DISCOVERY_REQUEST_MAX_HOPS,
-    BRAIDLARK_DISCOVERY_REQUEST_FIELDS
+    BRAIDLARK_FIELD_DISCOVERY_REQUEST_NODE = 1,
+    BRAIDLARK_FIELD_DISCOVERY_REQUEST_CAPABILITIES,
+    BRAIDLARK_FIELD_DISCOVERY_REQUEST_ROLE,
+    BRAIDLARK_FIELD_DISCOVERY_REQUEST_MAX_HOPS,
+    BRAIDLARK_FIELDS_DISCOVERY_REQUEST
 };
 enum {
-    BRAIDLARK_DISCOVERY_RESPONSE_MANAGER = 1,
-    BRAIDLARK_DISCOVERY_RESPONSE_NETWORK,
-    BRAIDLARK_DISCOVERY_RESPONSE_SIZE,
-    BRAIDLARK_DISCOVERY_RESPONSE_FREE,
-    BRAIDLARK_DISCOVERY_RESPONSE_QUALITY,
-    BRAIDLARK_DISCOVERY_RESPONSE_UPTIME,
-    BRAIDLARK_DISCOVERY_RESPONSE_FIELDS
+    BRAIDLARK_FIELD_DISCOVERY_RESPONSE_MANAGER = 1,
+    BRAIDLARK_FIELD_DISCOVERY_RESPONSE_NETWORK,
+    BRAIDLARK_FIELD_DISCOVERY_RESPONSE_SIZE,
+    BRAIDLARK_FIELD_DISCOVERY_RESPONSE_FREE,
+    BRAIDLARK_FIELD_DISCOVERY_RESPONSE_QUALITY,
+    BRAIDLARK_FIELD_DISCOVERY_RESPONSE_UPTIME,
+    BRAIDLARK_FIELDS_DISCOVERY_RESPONSE
 };
 enum {
-    BRAIDLARK_UPDATE_ORIGIN = 1,
-    BRAIDLARK_UPDATE_COUNT, /* entries */
-    BRAIDLARK_UPDATE_TIME,
-    BRAIDLARK_UPDATE_FIELDS
+    BRAIDLARK_FIELD_UPDATE_ORIGIN = 1,
+    BRAIDLARK_FIELD_UPDATE_COUNT, /* entries */
+    BRAIDLARK_FIELD_UPDATE_TIME,
+    BRAIDLARK_FIELDS_UPDATE
 };
 enum { /* of one entry of an update */
-    BRAIDLARK_ENTRY_DESTINATION,
-    BRAIDLARK_ENTRY_HOPS, /* 255 is unreachable */
-    BRAIDLARK_ENTRY_QUALITY,
-    BRAIDLARK_ENTRY_NEXT_HOP,
-    BRAIDLARK_ENTRY_TIMESTAMP,
-    BRAIDLARK_ENTRY_FIELDS
+    BRAIDLARK_FIELD_ENTRY_DESTINATION,
+    BRAIDLARK_FIELD_ENTRY_HOPS, /* 255 is unreachable */
+    BRAIDLARK_FIELD_ENTRY_QUALITY,
+    BRAIDLARK_FIELD_ENTRY_NEXT_HOP,
+    BRAIDLARK_FIELD_ENTRY_TIMESTAMP,
+    BRAIDLARK_FIELDS_ENTRY
 };
 enum {
-    BRAIDLARK_BEACON_DESTINATION = 1,
-    BRAIDLARK_BEACON_SOURCE,
-    BRAIDLARK_BEACON_SIZE,
-    BRAIDLARK_BEACON_NETWORK,
-    BRAIDLARK_BEACON_SUPERFRAME_NUMBER,
-    BRAIDLARK_BEACON_SUPERFRAME_MS,
-    BRAIDLARK_BEACON_TOTAL_SLOTS,
-    BRAIDLARK_BEACON_SLOT_MS,
-    BRAIDLARK_BEACON_ORIGINAL_SOURCE,
-    BRAIDLARK_BEACON_HOP,
-    BRAIDLARK_BEACON_ORIGINAL_TIME,
-    BRAIDLARK_BEACON_DELAY,
-    BRAIDLARK_BEACON_MAX_HOPS,
-    BRAIDLARK_BEACON_SEQUENCE,
-    BRAIDLARK_BEACON_FIELDS
+    BRAIDLARK_FIELD_BEACON_DESTINATION = 1,
+    BRAIDLARK_FIELD_BEACON_SOURCE,
+    BRAIDLARK_FIELD_BEACON_SIZE,
+    BRAIDLARK_FIELD_BEACON_NETWORK,
+    BRAIDLARK_FIELD_BEACON_SUPERFRAME_NUMBER,
+    BRAIDLARK_FIELD_BEACON_SUPERFRAME_MS,
+    BRAIDLARK_FIELD_BEACON_TOTAL_SLOTS,
+    BRAIDLARK_FIELD_BEACON_SLOT_MS,
+    BRAIDLARK_FIELD_BEACON_ORIGINAL_SOURCE,
+    BRAIDLARK_FIELD_BEACON_HOP,
+    BRAIDLARK_FIELD_BEACON_ORIGINAL_TIME,
+    BRAIDLARK_FIELD_BEACON_DELAY,
+    BRAIDLARK_FIELD_BEACON_MAX_HOPS,
+    BRAIDLARK_FIELD_BEACON_SEQUENCE,
+    BRAIDLARK_FIELDS_BEACON
 };
 
 /* ---- states, the first byte of a stored state, and events */
@@ -224,46 +263,47 @@ enum {
     BRAIDLARK_STOPPED
 };
 enum {
-    BRAIDLARK_READY,
-    BRAIDLARK_FAILED,
-    BRAIDLARK_BEACON_HEARD,
-    BRAIDLARK_JOIN_ACCEPTED,
-    BRAIDLARK_JOIN_DENIED,
-    BRAIDLARK_FAULT,
-    BRAIDLARK_ELECTED,
-    BRAIDLARK_ROLE_CHANGE,
-    BRAIDLARK_RECOVERED
+    BRAIDLARK_EVENT_READY,
+    BRAIDLARK_EVENT_FAILED,
+    BRAIDLARK_EVENT_BEACON_HEARD,
+    BRAIDLARK_EVENT_JOIN_ACCEPTED,
+    BRAIDLARK_EVENT_JOIN_DENIED,
+    BRAIDLARK_EVENT_FAULT,
+    BRAIDLARK_EVENT_ELECTED,
+    BRAIDLARK_EVENT_ROLE_CHANGE,
+    BRAIDLARK_EVENT_RECOVERED
 };
 
 /* ---- kinds of slots, the bytes of a schedule */
 enum {
-    BRAIDLARK_TX,
-    BRAIDLARK_RX,
-    BRAIDLARK_BEACON_TX,
-    BRAIDLARK_BEACON_RX,
-    BRAIDLARK_CONTROL_TX,
-    BRAIDLARK_CONTROL_RX,
-    BRAIDLARK_DISCOVERY_TX,
-    BRAIDLARK_DISCOVERY_RX,
-    BRAIDLARK_SLEEP
+    BRAIDLARK_SLOT_TX,
+    BRAIDLARK_SLOT_RX,
+    BRAIDLARK_SLOT_BEACON_TX,
+    BRAIDLARK_SLOT_BEACON_RX,
+    BRAIDLARK_SLOT_CONTROL_TX,
+    BRAIDLARK_SLOT_CONTROL_RX,
+    BRAIDLARK_SLOT_DISCOVERY_TX,
+    BRAIDLARK_SLOT_DISCOVERY_RX,
+    BRAIDLARK_SLOT_SLEEP
 };
 
 /* ---- where each number of a plan stands among those that braidlark_plan_numbers tells, and how many there are */
 enum {
-    BRAIDLARK_PLAN_ACTIVE,        /* slots in use: beacon, control, data and discovery */
-    BRAIDLARK_PLAN_SLOTS,         /* of a superframe */
-    BRAIDLARK_PLAN_SUPERFRAME_MS, /* all slots together */
-    BRAIDLARK_PLAN_CONTROL_AT,    /* the first slot of each region; beacon slots begin at 0 */
-    BRAIDLARK_PLAN_DATA_AT,
-    BRAIDLARK_PLAN_DISCOVERY_AT,
-    BRAIDLARK_PLAN_SLEEP_AT,
-    BRAIDLARK_PLAN_NUMBERS
+    BRAIDLARK_FIELD_PLAN_ACTIVE,        /* slots in use: beacon, control, data and discovery */
+    BRAIDLARK_FIELD_PLAN_SLOTS,         /* of a superframe */
+    BRAIDLARK_FIELD_PLAN_SUPERFRAME_MS, /* all slots together */
+    BRAIDLARK_FIELD_PLAN_CONTROL_AT,    /* the first slot of each region; beacon slots begin at 0 */
+    BRAIDLARK_FIELD_PLAN_DATA_AT,
+    BRAIDLARK_FIELD_PLAN_DISCOVERY_AT,
+    BRAIDLARK_FIELD_PLAN_SLEEP_AT,
+    BRAIDLARK_FIELDS_PLAN
 };
 
 /* ---- frames */
 
 /* Reads a frame of any kind: its numbers, the type first, and where the bytes behind its fields (a payload, or the
- * entries of an update) start and how many they are. Refusals: 1 2 1 3 4 5. */
+ * entries of an update) start and how many they are. BRAIDLARK_MOST_FIELDS numbers have room for any frame's.
+ * Refusals: 1 2 1 3 4 5. */
 uint8_t braidlark_read(const uint8_t *frame, size_t frame_length, uint32_t *fields, size_t fields_length,
                        uint32_t *part_place, uint32_t *part_length);
 
@@ -274,7 +314,8 @@ uint8_t braidlark_entry(const uint8_t *frame, size_t frame_length, uint32_t posi
 
 /* Writes the frame with these numbers and these bytes behind its fields, and says how many bytes it has. Numbers behind
  * those of the frame's kind are not looked at: the whole buffer that braidlark_read filled can be handed in as it is.
- * Refusals: 1 (no numbers) 2 1 4 5. */
+ * A count that is not that of the bytes behind the fields is 1; a number that is missing, or too large for its field,
+ * is 4. Refusals: 1 (no numbers) 2 1 4 5. */
 uint8_t braidlark_write(const uint32_t *fields, size_t fields_length, const uint8_t *part, size_t part_length,
                         uint8_t *out, size_t out_length, uint32_t *written);
 
@@ -283,19 +324,25 @@ uint8_t braidlark_write(const uint32_t *fields, size_t fields_length, const uint
 /* Makes the empty table of a unit, with this time as last accepted. Refusals: 14 (the buffer's length) 4. */
 uint8_t braidlark_table_fresh(uint8_t *table, size_t table_length, uint16_t own, uint32_t time);
 
-/* Merges an update that was heard with this quality, and says how many candidates found no room.
- * Refusals: 14 1 2 1 3 4 6 8 9. */
+/* Merges an update that was heard with this quality, from BRAIDLARK_LOWEST_QUALITY on, and says how many candidates
+ * found no room. Refusals: 14 1 2 1 3 4 6 8 9. */
 uint8_t braidlark_merge(uint8_t *table, size_t table_length, const uint8_t *frame, size_t frame_length, uint8_t quality,
                         uint32_t time, uint8_t *skipped);
 
-/* Withdraws all usable routes to a unit or through it. Refusals: 14 4 6 8. */
+/* Withdraws all usable routes to a unit or through it; the next pages tell the neighbours. Without it a route by a next
+ * hop that is gone is used for up to BRAIDLARK_USABLE_MS more: forget a unit as soon as it is known to be gone, because
+ * it was taken out or acknowledges nothing. A neighbour that has not noticed may offer a route to it again.
+ * Refusals: 14 4 6 8. */
 uint8_t braidlark_forget(uint8_t *table, size_t table_length, uint16_t unit, uint32_t time);
 
-/* Answers the next hop to a destination, and how many hops it is away. Refusals: 14 4 8 11. */
+/* Answers the next hop to a destination, and how many hops it is away. It is how a unit sends a frame of its own:
+ * look up its destination, write it, send it to the next hop; to relay one's own frame is refused (6).
+ * Refusals: 14 4 8 11. */
 uint8_t braidlark_lookup(const uint8_t *table, size_t table_length, uint16_t destination, uint32_t time,
                          uint16_t *next_hop, uint8_t *hops);
 
-/* Writes a page, counted from 0, of this unit's own update, and says how many bytes it has. Refusals: 14 8 14 5. */
+/* Writes a page, counted from 0, of this unit's own update, and says how many bytes it has. The page behind the last is
+ * out of rule, so a unit tells all that it knows by counting up to that. Refusals: 14 8 14 (the page) 5. */
 uint8_t braidlark_page(const uint8_t *table, size_t table_length, uint32_t page, uint32_t time, uint8_t *out,
                        size_t out_length, uint32_t *written);
 
@@ -306,7 +353,8 @@ uint8_t braidlark_relay(const uint8_t *table, size_t table_length, const uint8_t
                         uint32_t time, uint8_t *out, size_t out_length, uint16_t *next_hop, uint32_t *place,
                         uint32_t *length);
 
-/* Forwards a beacon of this network with this delay added, and says how many bytes were written.
+/* Forwards a beacon of this network with this delay added, the ms until the copy goes out, and says how many bytes were
+ * written. The unit sends the copy in the beacon slot of its own hop, which is the copy's.
  * Refusals: 14 1 2 1 3 4 6 15 8 11 16 4 5. */
 uint8_t braidlark_forward(uint8_t *table, size_t table_length, uint16_t network, const uint8_t *frame,
                           size_t frame_length, uint32_t delay, uint32_t time, uint8_t *out, size_t out_length,
@@ -317,10 +365,11 @@ uint8_t braidlark_forward(uint8_t *table, size_t table_length, uint16_t network,
 /* A fresh state: Initializing, entered at this time. Refusals: 14 (the buffer's length). */
 uint8_t braidlark_state_fresh(uint8_t *state, size_t state_length, uint32_t time);
 
-/* The event with this number, at a time. Refusals: 14 8 7. */
+/* The event with this number, at a time. A number that is no event is 7 too. Refusals: 14 8 7. */
 uint8_t braidlark_state_event(uint8_t *state, size_t state_length, uint8_t event, uint32_t time);
 
-/* A tick at a time, with the superframe's length, 1 to BRAIDLARK_LONGEST_SUPERFRAME_MS. Refusals: 14 8 14 (the length). */
+/* A tick at a time, with the superframe's length, 1 to BRAIDLARK_LONGEST_SUPERFRAME_MS. A time that is over acts on a
+ * tick alone, with one change at most; one tick a superframe will do. Refusals: 14 8 14 (the length). */
 uint8_t braidlark_state_tick(uint8_t *state, size_t state_length, uint32_t superframe_ms, uint32_t time);
 
 /* ---- a unit's clock */
@@ -338,7 +387,7 @@ uint8_t braidlark_clock_step(uint32_t *offset, uint32_t local_time, uint16_t net
 uint8_t braidlark_plan(uint8_t *plan, size_t plan_length, uint16_t network, uint16_t manager, uint32_t max_hops,
                        uint32_t rows, uint32_t data_slots, uint32_t slot_ms);
 
-/* Tells the BRAIDLARK_PLAN_NUMBERS numbers of a plan: how many slots it has, how long a superframe is, and where each
+/* Tells the BRAIDLARK_FIELDS_PLAN numbers of a plan: how many slots it has, how long a superframe is, and where each
  * region of slots begins. Refusals: 14 (the plan's length, or any rule of a plan) 5. */
 uint8_t braidlark_plan_numbers(const uint8_t *plan, size_t plan_length, uint32_t *numbers, size_t numbers_length);
 
@@ -346,20 +395,24 @@ uint8_t braidlark_plan_numbers(const uint8_t *plan, size_t plan_length, uint32_t
  * Refusals: 14 (the buffer's length, or the plan). */
 uint8_t braidlark_book_fresh(uint8_t *book, size_t book_length, const uint8_t *plan, size_t plan_length, uint32_t time);
 
-/* Lets a unit join: writes a response for its control slot and for each data slot that it then holds, ascending, and
- * says how many bytes they have. Refusals: 14 1 2 1 3 4 6 15 8 12 5. */
+/* Lets a unit join: writes a response for its control slot and for each data slot that it then holds, ascending, with
+ * the call's time as superframe time, and says how many bytes they have. Store the book's image before they go out:
+ * after a power cut the manager would else give away slots that a unit counts on. A refusal writes no response: where
+ * no row is free (12), write one to the unit with braidlark_write, of BRAIDLARK_STATUS_REFUSED and BRAIDLARK_NO_SLOT.
+ * Refusals: 14 1 2 1 3 4 6 15 8 12 5. */
 uint8_t braidlark_join(uint8_t *book, size_t book_length, const uint8_t *frame, size_t frame_length, uint32_t time,
                        uint8_t *out, size_t out_length, uint32_t *written);
 
-/* Brings a member's slots to what it asks for, as far as there are spare ones, and answers as braidlark_join does.
- * Refusals: 14 1 2 1 3 4 6 8 13 5. */
+/* Brings a member's slots to what it asks for, as far as there are spare ones, and answers as braidlark_join does, with
+ * the same to be done. Who is told no because it is no member (13) has to join. Refusals: 14 1 2 1 3 4 6 8 13 5. */
 uint8_t braidlark_slot_request(uint8_t *book, size_t book_length, const uint8_t *frame, size_t frame_length,
                                uint32_t time, uint8_t *out, size_t out_length, uint32_t *written);
 
-/* Renews a live member's time: it stays live up to 300,000 ms. Refusals: 14 4 8 13. */
+/* Renews a live member's time: it stays live for BRAIDLARK_LIVE_MS more. Call it for the sender of every data frame and
+ * update that reaches the manager; a join or a slot request renews by itself. Refusals: 14 4 8 13. */
 uint8_t braidlark_heard(uint8_t *book, size_t book_length, uint16_t unit, uint32_t time);
 
-/* Frees a live member's row and slots; the manager cannot leave. Refusals: 14 4 8 13. */
+/* Frees a live member's row and slots; the manager cannot leave. Store the image then. Refusals: 14 4 8 13. */
 uint8_t braidlark_leave(uint8_t *book, size_t book_length, uint16_t unit, uint32_t time);
 
 /* Writes a live member's schedule, one byte a slot, and says how many slots there are. The manager is at hop 0, others
@@ -369,11 +422,13 @@ uint8_t braidlark_schedule(const uint8_t *book, size_t book_length, uint16_t uni
 
 /* ---- the stored image of a book, at most BRAIDLARK_MOST_IMAGE bytes */
 
-/* Writes the image of a book, its live members alone, and says how many bytes it has. Refusals: 14 8 5. */
+/* Writes the image of a book, its live members alone, and says how many bytes it has. It is all that a manager has to
+ * keep over a power cut. There is no time in it: it changes only where members or slots do. Refusals: 14 8 5. */
 uint8_t braidlark_image(const uint8_t *book, size_t book_length, uint32_t time, uint8_t *out, size_t out_length,
                         uint32_t *written);
 
-/* Makes the book of an image, every time the given one. Refusals: 14 (the buffer's length, or the image). */
+/* Makes the book of an image, every time the given one: each member is live for BRAIDLARK_LIVE_MS from then on.
+ * Refusals: 14 (the buffer's length, or the image). */
 uint8_t braidlark_restore(uint8_t *book, size_t book_length, const uint8_t *image, size_t image_length, uint32_t time);
 
 #ifdef __cplusplus

@@ -12,7 +12,8 @@ void check_status(struct site *site, const char *call, uint8_t status, uint32_t 
     }
 }
 
-/* A next hop is named only within 300,000 ms of the last update that was accepted from it. Answers which unit it is. */
+/* A next hop is named only for as long as the last update that was accepted from it is usable. Answers which unit it
+ * is. */
 static int check_fresh(struct site *site, int unit, uint16_t next_hop)
 {
     const struct unit *self = &site->units[unit];
@@ -21,18 +22,19 @@ static int check_fresh(struct site *site, int unit, uint16_t next_hop)
         fail(site, "%s names %04X as next hop, of which it never heard", self->name, next_hop);
     }
     uint64_t age = unit_wide_time(site, unit) - self->update_taken[next];
-    if (age > SILENCE_MS) {
+    if (age > BRAIDLARK_USABLE_MS) {
         fail(site, "%s names %s as next hop, last heard of %u ms ago", self->name, site->units[next].name,
              (unsigned)age);
     }
     return next;
 }
 
-/* Nobody can know at once that a unit is gone, but nobody hands it a frame once that is longer than 300,000 ms ago. */
+/* Nobody can know at once that a unit is gone, but nobody hands it a frame once that is longer ago than a route is
+ * usable. */
 static void check_loss(struct site *site, int unit, int next)
 {
     uint64_t gone_for = site->now - site->units[next].silent_since;
-    if (gone_for > SILENCE_MS) {
+    if (gone_for > BRAIDLARK_USABLE_MS) {
         fail(site, "%s hands a frame to %s, which is gone for %u ms", site->units[unit].name, site->units[next].name,
              (unsigned)gone_for);
     }
@@ -55,8 +57,7 @@ void check_next_hop(struct site *site, int unit, uint16_t next_hop)
     }
 }
 
-/* The way that a unit knows to another, if any: asked about the first moment past the 300,000 ms, it knows it no more.
- */
+/* The way that a unit knows to another, if any: about the first moment when it is too old it knows none. */
 static void check_route(struct site *site, int unit, int other)
 {
     const struct unit *self = &site->units[unit];
@@ -65,7 +66,7 @@ static void check_route(struct site *site, int unit, int other)
     if (!routes_find(site, unit, destination, &next_hop, &hops)) {
         return;
     }
-    uint32_t too_late = (uint32_t)(self->update_taken[check_fresh(site, unit, next_hop)] + SILENCE_MS + 1);
+    uint32_t too_late = (uint32_t)(self->update_taken[check_fresh(site, unit, next_hop)] + BRAIDLARK_USABLE_MS + 1);
     uint8_t status = braidlark_lookup(self->table, sizeof self->table, destination, too_late, &next_hop, &hops);
     check_status(site, "braidlark_lookup", status, REFUSAL(BRAIDLARK_NO_ROUTE));
     if (status == BRAIDLARK_ACCEPTED) {
@@ -145,9 +146,17 @@ void check_turn(struct site *site, int unit)
     }
 }
 
-/* The relay counts as gone: the 300,000 ms until then have to be ones in which the network's time began again at 0. */
-void check_top(struct site *site)
+/* A unit counts as gone: its last word is longer ago than a member is live. If it is the relay, the network's time has
+ * to have begun again at 0 since its unbolting. */
+void check_gone(struct site *site, int unit)
 {
+    uint64_t silence = site->now - site->manager.last_word[unit];
+    if (silence <= BRAIDLARK_LIVE_MS) {
+        fail(site, "%s counts as gone, %u ms after its last word", site->units[unit].name, (unsigned)silence);
+    }
+    if (unit != MIDDLE_RELAY) {
+        return;
+    }
     if (site->script.clock_top <= site->script.unbolted || site->script.clock_top >= site->now) {
         fail(site, "the office's clock did not begin again between the unbolting of the relay and its being noticed");
     }
@@ -195,16 +204,16 @@ static void check_joining(struct site *site)
     }
 }
 
-/* The end of the night: every order that had time to arrive did, where there was a way in the end. */
+/* The end of the night: every order that had time to arrive did, where there was a way in the end. For as long as a
+ * route outlives its next hop, orders may be lost. */
 void check_end(struct site *site)
 {
-    enum { TIME_TO_ARRIVE_MS = 300000 };
     check_ways(site);
     check_joining(site);
     for (int number = 0; number < site->manager.order_count; number++) {
         const struct order *order = &site->manager.orders[number];
         bool had_way = order->head != BENCH_5 || (site->live[BENCH_5] && !order->replaced);
-        if (!order->arrived && had_way && site->now - order->given >= TIME_TO_ARRIVE_MS) {
+        if (!order->arrived && had_way && site->now - order->given >= BRAIDLARK_USABLE_MS) {
             fail(site, "order %d for %s never arrived", number + 1, site->units[order->head].name);
         }
     }

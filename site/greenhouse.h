@@ -1,7 +1,7 @@
 /*
  * What the greenhouse is made of: its units and links, what is in the air, the manager's side, and the record of the
  * night. All of it is one `struct site`, which every function is handed. The subjects are a file each; what they offer
- * one another stands at the end.
+ * one another is in subjects.h.
  *
  * A moment of the night is 64 bits of ms from its start and never wraps: the story, what is told and what is checked go
  * by moments. What a unit's clock shows is 32 bits, as the library takes it and frames carry it, and begins again at 0
@@ -26,7 +26,6 @@ enum {
     DATA_SLOTS = 20,
     SLOT_MS = 200,
     SUPERFRAME_MS = BRAIDLARK_MOST_SLOTS * SLOT_MS,
-    SILENCE_MS = 300000, /* how long a route is used, and a member kept, without a word: document 01's number */
     CLOCK_TOLERANCE_MS = 60
 };
 
@@ -50,16 +49,14 @@ enum {
 };
 
 enum {
-    EVERYBODY = 0xFFFF, /* as the receiver of a packet */
     QUEUE_LENGTH = 24,
     MOST_IN_AIR = 64,
     MOST_ORDERS = 96,
     MOST_CARRIERS = 8,
     MOST_CHANGES = 256,
-    MOST_MARKS = 192,
-    MOST_HELD = 4,
-    RESPONSE_LENGTH = BRAIDLARK_MOST_RESPONSES / 5,
-    MOST_PAYLOAD = 1 + BRAIDLARK_MOST_RESPONSES
+    MOST_LOSSES = 96,
+    MOST_PAYLOAD = 1 + BRAIDLARK_RESPONSES_SIZE,
+    SOON_MS = 30000 /* an order that takes longer is late */
 };
 
 /* What the payload of a data frame is, its first byte; the frames of a request or of its answer follow theirs. */
@@ -68,7 +65,7 @@ enum { ORDER = 1, REPORT, REQUEST, ANSWER };
 /* What goes from one unit to another, or to all: a frame, or the responses to one request in a row. A slot has room
  * for BRAIDLARK_MOST_FRAME bytes of them. */
 struct packet {
-    uint16_t to;
+    uint16_t to; /* an address, or BRAIDLARK_EVERY_UNIT */
     uint8_t length;
     uint8_t frame_length; /* of each frame in it */
     uint8_t bytes[BRAIDLARK_MOST_FRAME];
@@ -91,7 +88,7 @@ struct holding {
     bool held;
     bool denied; /* since it was told */
     uint16_t control_slot;
-    uint16_t data_slots[MOST_HELD];
+    uint16_t data_slots[BRAIDLARK_MOST_HELD];
     int data_count;
     uint32_t told;
 };
@@ -194,10 +191,10 @@ struct record {
     int count;
 };
 
-/* An order that arrived, or was handed to a unit that was gone. */
-struct mark {
+/* A try of an order that was handed to a unit that was gone. */
+struct loss {
     uint64_t time;
-    bool lost;
+    int order; /* its place among the manager's */
 };
 
 /* Orders that arrived as they should while nothing else happened; they are told in one line. */
@@ -223,6 +220,14 @@ struct script {
     uint64_t returned;
     uint64_t taken_out;
     uint64_t end;
+};
+
+/* The middle relay as the office knew it when it fell silent. */
+struct silence {
+    int row;              /* NOBODY before */
+    uint32_t held;        /* data slots, one bit each */
+    uint64_t last_word;   /* when a frame of it came in last, from which its place in the book grows old */
+    uint64_t last_update; /* the same of an update, from which the routes by it do */
 };
 
 /* The clocks that have begun again at 0. */
@@ -261,138 +266,17 @@ struct site {
     bool live[UNITS];     /* as the schedules said last */
     uint32_t held[UNITS]; /* data slots, one bit each, as the schedules said last */
     int row[UNITS];       /* of the book, by the control slot in the schedule */
-    uint32_t middle_held; /* what the middle relay held when it fell silent */
-    int middle_row;
+    struct silence silence;
     uint64_t next_order;
     int orders_given;
     struct record slot_holders[DATA_SLOTS];
     struct record next_hops[UNITS]; /* the manager's next hop to each unit */
-    struct mark marks[MOST_MARKS];
-    int mark_count;
+    struct loss losses[MOST_LOSSES];
+    int loss_count;
     struct quiet quiet;
     struct tally tally;
 };
 
-/* layout.c: the units, their links, and the times of the story */
-void layout_set(struct site *site, uint32_t seed, uint32_t length_ms);
-int layout_find(const struct site *site, uint16_t address);
-
-/* medium.c: what is in the air in a slot and who hears it */
-uint32_t medium_random(struct site *site, uint32_t below);
-void medium_send(struct site *site, int sender, const struct packet *packet);
-void medium_deliver(struct site *site);
-
-/* packet.c: frames in packets, and packets that wait for a slot */
-void packet_set(struct packet *packet, uint16_t to, const uint8_t *bytes, size_t length, size_t frame_length);
-void packet_write(struct site *site, struct packet *packet, uint16_t to, const uint32_t *fields, size_t count,
-                  const uint8_t *part, size_t part_length);
-void frame_read(struct site *site, const uint8_t *bytes, size_t length, struct frame *frame);
-void queue_put(struct queue *queue, const struct packet *packet);
-bool queue_take(struct queue *queue, size_t room, struct packet *packet);
-
-/* clocks.c: what the clocks of the units show, and that they begin again at 0 */
-uint64_t unit_wide_time(const struct site *site, int unit);
-uint32_t unit_time(const struct site *site, int unit);
-uint32_t unit_network_time(const struct site *site, int unit);
-bool time_before(uint32_t one, uint32_t other);
-void clocks_watch(struct site *site);
-
-/* unit.c: a unit's power, state, clock step, beacons and routing updates */
-void unit_power_on(struct site *site, int unit);
-void unit_power_off(struct site *site, int unit);
-bool unit_sends(const struct site *site, int unit);
-void unit_tell(struct site *site, int unit, uint8_t event);
-void unit_begin(struct site *site, int unit);
-void unit_tick(struct site *site, int unit);
-bool unit_turn(struct site *site, int unit, int slot, size_t room, struct packet *packet);
-void unit_hear(struct site *site, int unit, int sender, uint8_t quality, const struct packet *packet);
-
-/* membership.c: asking for a place in the book, carrying such requests for others, and what was granted */
-void membership_drop(struct unit *unit);
-bool membership_counts(const struct site *site, int unit);
-void membership_begin(struct site *site, int unit);
-void membership_ask(struct site *site, int unit, struct packet *packet);
-void membership_sponsor(struct site *site, int unit, const struct packet *packet, uint16_t node);
-void membership_answer(struct site *site, int unit, const uint8_t *bytes, size_t length);
-
-/* traffic.c: data frames, hop by hop */
-void traffic_send(struct site *site, int unit, uint16_t destination, uint8_t kind, const uint8_t *rest, size_t length);
-bool traffic_turn(struct site *site, int unit, size_t room, struct packet *packet);
-void traffic_hear(struct site *site, int unit, const struct packet *packet, const struct frame *frame);
-void traffic_report(struct site *site, int unit);
-
-/* manager.c: the book, the answers and the beacon */
-void manager_begin(struct site *site);
-size_t manager_answer(struct site *site, const uint8_t *request, size_t length, uint8_t *out, size_t room);
-void manager_hears(struct site *site, uint16_t address);
-void manager_takes_out(struct site *site, int unit);
-
-/* power.c: the stored image of the book, and a power cut at the office */
-void power_store(struct site *site);
-void power_fails(struct site *site);
-void power_returns(struct site *site);
-void power_restore(struct site *site);
-void power_watch(struct site *site);
-
-/* schedules.c: the schedules, who is a live member, and who holds which slots */
-bool schedule_of(struct site *site, int unit, uint8_t hop, uint8_t kinds[BRAIDLARK_MOST_SLOTS]);
-void schedules_copy(struct site *site, struct schedules *copy);
-void check_schedules(struct site *site);
-void check_full(struct site *site);
-void check_holdings(struct site *site);
-
-/* orders.c: the orders for the valves */
-void orders_give(struct site *site, int head, uint8_t setting);
-void orders_repeat(struct site *site);
-void orders_arrive(struct site *site, int unit, const uint8_t *words);
-void orders_confirm(struct site *site, int unit, const uint8_t *words);
-void orders_carried(struct site *site, int carrier, const struct packet *packet);
-
-/* routes.c: the ways that units know, and the office's over the night */
-bool routes_find(struct site *site, int unit, uint16_t destination, uint16_t *next_hop, uint8_t *hops);
-void routes_watch(struct site *site);
-
-/* story.c: what happens when */
-void story_slot(struct site *site);
-void story_orders(struct site *site);
-bool story_is_quiet(const struct site *site);
-
-/* superframes.c: the night, superframe by superframe */
-void superframes_run(struct site *site);
-
-/* checks.c: what the program holds the library and itself to */
-#define REFUSAL(number) (1u << (number))
-void check_status(struct site *site, const char *call, uint8_t status, uint32_t refusals);
-void check_next_hop(struct site *site, int unit, uint16_t next_hop);
-void check_routes(struct site *site);
-void check_air(struct site *site, int slot);
-void check_clocks(struct site *site);
-void check_silence(struct site *site, int unit, uint8_t before);
-void check_turn(struct site *site, int unit);
-void check_top(struct site *site);
-void check_end(struct site *site);
-
-/* timeline.c: the lines for the grower */
-#ifdef __GNUC__
-#define LIKE_PRINTF __attribute__((format(printf, 2, 3)))
-#else
-#define LIKE_PRINTF
-#endif
-void scene(struct site *site, const char *title);
-void say(struct site *site, const char *format, ...) LIKE_PRINTF;
-void fail(struct site *site, const char *format, ...) LIKE_PRINTF;
-void clock_words(uint64_t time, char words[9]);
-void number_words(uint32_t numbers, char words[80]);
-void timeline_quiet(struct site *site, uint64_t took_ms);
-
-/* summary.c: the night in numbers, and what it was held to */
-void summary_print(struct site *site);
-
-/* record.c: values over the night */
-void record_note(struct record *record, uint64_t time, int unit);
-void record_order(struct site *site, bool lost);
-
-/* drawing.c: the night as one picture */
-void drawing_write(const struct site *site, FILE *file);
+#include "subjects.h"
 
 #endif

@@ -68,7 +68,7 @@ static void set_script(struct script *script, uint32_t length_ms)
     script->orders_begin = 13 * MINUTE;
     script->new_head = 14 * MINUTE;
     script->unbolted = 19 * MINUTE;
-    script->clock_top = script->unbolted + SILENCE_MS / 2;
+    script->clock_top = script->unbolted + BRAIDLARK_LIVE_MS / 2;
     script->returned = length_ms - 20 * MINUTE;
     uint64_t half_way = (script->unbolted + script->returned) / 2;
     script->power_fails = half_way / SUPERFRAME_MS * SUPERFRAME_MS + INTO_SUPERFRAME_MS;
@@ -81,7 +81,7 @@ void layout_set(struct site *site, uint32_t seed, uint32_t length_ms)
 {
     memset(site, 0, sizeof *site);
     site->random = seed;
-    site->middle_row = NOBODY;
+    site->silence.row = NOBODY;
     set_script(&site->script, length_ms);
     for (int index = 0; index < UNITS; index++) {
         struct unit *unit = &site->units[index];

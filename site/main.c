@@ -21,25 +21,28 @@ static const char USAGE[] =
     "others within a minute of it, so that they begin again at 0 after the unbolting and before it is noticed.\n"
     "\n"
     "  --hours N    the night has N hours, 2 to 12 (9 if nothing is said)\n"
-    "  --short      the night has one hour, with all that happens\n"
+    "  --short      the night has one hour, with all that happens; not together with --hours\n"
     "  --seed N     which packets are lost: the same for the same number, 0 to 4294967295 (7 if nothing is said)\n"
-    "  --svg FILE   also draws the night: who held which slots, and the ways of the orders\n"
+    "  --svg FILE   also draws the night: the links, who held which slots, and what became of the orders\n"
     "  --help       this text\n"
     "\n"
     "Status 0: every check held. 1: one did not, or the drawing could not be written. 2: a bad argument.\n";
 
 static void refuse(const char *reason, const char *argument)
 {
-    fprintf(stderr, "greenhouse: %s%s\n%s", reason, argument, USAGE);
+    fprintf(stderr, "greenhouse: %s'%s'; --help says what there is\n", reason, argument);
     exit(2);
 }
 
-static uint32_t number_of(const char *words, uint32_t least, uint32_t most)
+static uint32_t number_for(const char *option, const char *words, uint32_t least, uint32_t most)
 {
     size_t digits = strspn(words, "0123456789");
     unsigned long long value = strtoull(words, NULL, 10);
     if (digits == 0 || digits > 10 || words[digits] != '\0' || value < least || value > most) {
-        refuse("not a number that will do: ", words);
+        char reason[80];
+        snprintf(reason, sizeof reason, "%s takes a number from %u to %u, not ", option, (unsigned)least,
+                 (unsigned)most);
+        refuse(reason, words);
     }
     return (uint32_t)value;
 }
@@ -48,24 +51,30 @@ static struct wishes read_wishes(int count, char **words)
 {
     enum { HOUR = 3600000 };
     struct wishes wishes = {.length_ms = 9 * HOUR, .seed = 7, .drawing = NULL};
+    bool is_short = false, has_hours = false;
     for (int index = 1; index < count; index++) {
         const char *word = words[index];
         if (strcmp(word, "--help") == 0) {
             fputs(USAGE, stdout);
             exit(EXIT_SUCCESS);
         } else if (strcmp(word, "--short") == 0) {
+            is_short = true;
             wishes.length_ms = HOUR;
         } else if (strcmp(word, "--hours") != 0 && strcmp(word, "--seed") != 0 && strcmp(word, "--svg") != 0) {
-            refuse("not known here: ", word);
+            refuse("there is no option ", word);
         } else if (++index == count) {
             refuse("nothing follows ", word);
         } else if (strcmp(word, "--hours") == 0) {
-            wishes.length_ms = number_of(words[index], 2, 12) * HOUR;
+            has_hours = true;
+            wishes.length_ms = number_for(word, words[index], 2, 12) * HOUR;
         } else if (strcmp(word, "--seed") == 0) {
-            wishes.seed = number_of(words[index], 0, UINT32_MAX);
+            wishes.seed = number_for(word, words[index], 0, UINT32_MAX);
         } else {
             wishes.drawing = words[index];
         }
+    }
+    if (is_short && has_hours) {
+        refuse("--short does not go together with ", "--hours");
     }
     return wishes;
 }

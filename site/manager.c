@@ -14,26 +14,26 @@ static void make_plan(struct site *site, uint8_t plan[BRAIDLARK_PLAN_SIZE])
 
 static void find_regions(struct site *site, const uint8_t plan[BRAIDLARK_PLAN_SIZE])
 {
-    uint32_t numbers[BRAIDLARK_PLAN_NUMBERS] = {0};
-    uint8_t status = braidlark_plan_numbers(plan, BRAIDLARK_PLAN_SIZE, numbers, BRAIDLARK_PLAN_NUMBERS);
+    uint32_t numbers[BRAIDLARK_FIELDS_PLAN] = {0};
+    uint8_t status = braidlark_plan_numbers(plan, BRAIDLARK_PLAN_SIZE, numbers, BRAIDLARK_FIELDS_PLAN);
     check_status(site, "braidlark_plan_numbers", status, 0);
-    if (numbers[BRAIDLARK_PLAN_SUPERFRAME_MS] != SUPERFRAME_MS) {
+    if (numbers[BRAIDLARK_FIELD_PLAN_SUPERFRAME_MS] != SUPERFRAME_MS) {
         fail(site, "a superframe has %u ms, and the site counts on %d",
-             (unsigned)numbers[BRAIDLARK_PLAN_SUPERFRAME_MS], SUPERFRAME_MS);
+             (unsigned)numbers[BRAIDLARK_FIELD_PLAN_SUPERFRAME_MS], SUPERFRAME_MS);
     }
-    site->manager.regions = (struct regions){.control = (int)numbers[BRAIDLARK_PLAN_CONTROL_AT],
-                                             .data = (int)numbers[BRAIDLARK_PLAN_DATA_AT],
-                                             .discovery = (int)numbers[BRAIDLARK_PLAN_DISCOVERY_AT],
-                                             .end = (int)numbers[BRAIDLARK_PLAN_SLEEP_AT]};
+    site->manager.regions = (struct regions){.control = (int)numbers[BRAIDLARK_FIELD_PLAN_CONTROL_AT],
+                                             .data = (int)numbers[BRAIDLARK_FIELD_PLAN_DATA_AT],
+                                             .discovery = (int)numbers[BRAIDLARK_FIELD_PLAN_DISCOVERY_AT],
+                                             .end = (int)numbers[BRAIDLARK_FIELD_PLAN_SLEEP_AT]};
 }
 
 /* The book has that plan: the manager's own schedule shows the same regions. */
 static void check_regions(struct site *site, const uint8_t *kinds)
 {
     const struct regions *regions = &site->manager.regions;
-    if (kinds[regions->control] != BRAIDLARK_CONTROL_TX || kinds[regions->data - 1] != BRAIDLARK_CONTROL_RX ||
-        kinds[regions->discovery - 1] > BRAIDLARK_RX || kinds[regions->discovery] != BRAIDLARK_DISCOVERY_TX ||
-        kinds[regions->end - 1] != BRAIDLARK_DISCOVERY_TX || kinds[regions->end] != BRAIDLARK_SLEEP) {
+    if (kinds[regions->control] != BRAIDLARK_SLOT_CONTROL_TX || kinds[regions->data - 1] != BRAIDLARK_SLOT_CONTROL_RX ||
+        kinds[regions->discovery - 1] > BRAIDLARK_SLOT_RX || kinds[regions->discovery] != BRAIDLARK_SLOT_DISCOVERY_TX ||
+        kinds[regions->end - 1] != BRAIDLARK_SLOT_DISCOVERY_TX || kinds[regions->end] != BRAIDLARK_SLOT_SLEEP) {
         fail(site, "the manager's schedule has other regions than the plan");
     }
 }
@@ -43,9 +43,9 @@ static void take_own_slots(const uint8_t *kinds, struct holding *holding)
 {
     *holding = (struct holding){.held = true};
     for (int slot = 0; slot < BRAIDLARK_MOST_SLOTS; slot++) {
-        if (kinds[slot] == BRAIDLARK_CONTROL_TX) {
+        if (kinds[slot] == BRAIDLARK_SLOT_CONTROL_TX) {
             holding->control_slot = (uint16_t)slot;
-        } else if (kinds[slot] == BRAIDLARK_TX && holding->data_count < MOST_HELD) {
+        } else if (kinds[slot] == BRAIDLARK_SLOT_TX && holding->data_count < BRAIDLARK_MOST_HELD) {
             holding->data_slots[holding->data_count++] = (uint16_t)slot;
         }
     }
@@ -57,8 +57,8 @@ static void make_book(struct site *site, const uint8_t plan[BRAIDLARK_PLAN_SIZE]
     uint8_t status = braidlark_book_fresh(manager->book, sizeof manager->book, plan, BRAIDLARK_PLAN_SIZE,
                                           unit_time(site, OFFICE));
     check_status(site, "braidlark_book_fresh", status, 0);
-    say(site, "the office heard no other manager for 30 s and manages: %d slots of %d ms, room for %d members",
-        BRAIDLARK_MOST_SLOTS, SLOT_MS, MEMBER_ROWS);
+    say(site, "the office heard no other manager for %d s and manages: %d slots of %d ms, room for %d members",
+        BRAIDLARK_DISCOVERY_MS / 1000, BRAIDLARK_MOST_SLOTS, SLOT_MS, MEMBER_ROWS);
 }
 
 /* The office becomes the manager: with the book of its stored image, or with a fresh one if nothing is stored. */
@@ -83,22 +83,22 @@ static void start(struct site *site)
 static void write_beacon(struct site *site, struct packet *packet)
 {
     uint32_t time = unit_time(site, OFFICE), number = time / SUPERFRAME_MS;
-    uint32_t fields[BRAIDLARK_BEACON_FIELDS] = {
-        [BRAIDLARK_TYPE] = BRAIDLARK_BEACON,
-        [BRAIDLARK_BEACON_DESTINATION] = EVERYBODY,
-        [BRAIDLARK_BEACON_SOURCE] = site->units[OFFICE].address,
-        [BRAIDLARK_BEACON_SIZE] = 27,
-        [BRAIDLARK_BEACON_NETWORK] = NETWORK,
-        [BRAIDLARK_BEACON_SUPERFRAME_NUMBER] = number,
-        [BRAIDLARK_BEACON_SUPERFRAME_MS] = SUPERFRAME_MS,
-        [BRAIDLARK_BEACON_TOTAL_SLOTS] = BRAIDLARK_MOST_SLOTS,
-        [BRAIDLARK_BEACON_SLOT_MS] = SLOT_MS,
-        [BRAIDLARK_BEACON_ORIGINAL_SOURCE] = site->units[OFFICE].address,
-        [BRAIDLARK_BEACON_ORIGINAL_TIME] = time,
-        [BRAIDLARK_BEACON_MAX_HOPS] = MOST_HOPS,
-        [BRAIDLARK_BEACON_SEQUENCE] = number & 0xFFFF,
+    uint32_t fields[BRAIDLARK_FIELDS_BEACON] = {
+        [BRAIDLARK_FIELD_TYPE] = BRAIDLARK_TYPE_BEACON,
+        [BRAIDLARK_FIELD_BEACON_DESTINATION] = BRAIDLARK_EVERY_UNIT,
+        [BRAIDLARK_FIELD_BEACON_SOURCE] = site->units[OFFICE].address,
+        [BRAIDLARK_FIELD_BEACON_SIZE] = BRAIDLARK_BEACON_BODY_SIZE,
+        [BRAIDLARK_FIELD_BEACON_NETWORK] = NETWORK,
+        [BRAIDLARK_FIELD_BEACON_SUPERFRAME_NUMBER] = number,
+        [BRAIDLARK_FIELD_BEACON_SUPERFRAME_MS] = SUPERFRAME_MS,
+        [BRAIDLARK_FIELD_BEACON_TOTAL_SLOTS] = BRAIDLARK_MOST_SLOTS,
+        [BRAIDLARK_FIELD_BEACON_SLOT_MS] = SLOT_MS,
+        [BRAIDLARK_FIELD_BEACON_ORIGINAL_SOURCE] = site->units[OFFICE].address,
+        [BRAIDLARK_FIELD_BEACON_ORIGINAL_TIME] = time,
+        [BRAIDLARK_FIELD_BEACON_MAX_HOPS] = MOST_HOPS,
+        [BRAIDLARK_FIELD_BEACON_SEQUENCE] = number & UINT16_MAX,
     };
-    packet_write(site, packet, EVERYBODY, fields, BRAIDLARK_BEACON_FIELDS, NULL, 0);
+    packet_write(site, packet, BRAIDLARK_EVERY_UNIT, fields, BRAIDLARK_FIELDS_BEACON, NULL, 0);
 }
 
 /* The start of a superframe: the first time a book, every time a beacon in slot 0. */
@@ -114,16 +114,16 @@ void manager_begin(struct site *site)
 /* The response that says no. */
 static size_t write_denial(struct site *site, uint32_t node, uint8_t *out, size_t room)
 {
-    uint32_t fields[BRAIDLARK_JOIN_RESPONSE_FIELDS] = {
-        [BRAIDLARK_TYPE] = BRAIDLARK_JOIN_RESPONSE,
-        [BRAIDLARK_JOIN_RESPONSE_NODE] = node,
-        [BRAIDLARK_JOIN_RESPONSE_STATUS] = 1,
-        [BRAIDLARK_JOIN_RESPONSE_SLOT] = 0xFFFF,
-        [BRAIDLARK_JOIN_RESPONSE_SUPERFRAME_TIME] = unit_time(site, OFFICE),
-        [BRAIDLARK_JOIN_RESPONSE_NETWORK] = NETWORK,
+    uint32_t fields[BRAIDLARK_FIELDS_JOIN_RESPONSE] = {
+        [BRAIDLARK_FIELD_TYPE] = BRAIDLARK_TYPE_JOIN_RESPONSE,
+        [BRAIDLARK_FIELD_JOIN_RESPONSE_NODE] = node,
+        [BRAIDLARK_FIELD_JOIN_RESPONSE_STATUS] = BRAIDLARK_STATUS_REFUSED,
+        [BRAIDLARK_FIELD_JOIN_RESPONSE_SLOT] = BRAIDLARK_NO_SLOT,
+        [BRAIDLARK_FIELD_JOIN_RESPONSE_SUPERFRAME_TIME] = unit_time(site, OFFICE),
+        [BRAIDLARK_FIELD_JOIN_RESPONSE_NETWORK] = NETWORK,
     };
     uint32_t written = 0;
-    uint8_t status = braidlark_write(fields, BRAIDLARK_JOIN_RESPONSE_FIELDS, NULL, 0, out, room, &written);
+    uint8_t status = braidlark_write(fields, BRAIDLARK_FIELDS_JOIN_RESPONSE, NULL, 0, out, room, &written);
     check_status(site, "braidlark_write", status, 0);
     return written;
 }
@@ -138,8 +138,8 @@ static void note_refusal(struct site *site, int unit, uint8_t status)
     check_full(site);
     site->tally.refused_joins++;
     if (!asker->was_refused) {
-        say(site, "%s asks to join and is refused, with number 12: all %d rows of the book are taken", asker->name,
-            MEMBER_ROWS);
+        say(site, "%s asks to join and is refused, with number %d: all %d rows of the book are taken", asker->name,
+            BRAIDLARK_FULL, MEMBER_ROWS);
     }
     asker->was_refused = true;
 }
@@ -150,9 +150,9 @@ size_t manager_answer(struct site *site, const uint8_t *request, size_t length, 
     struct manager *manager = &site->manager;
     struct frame frame;
     frame_read(site, request, length, &frame);
-    bool joins = frame.fields[BRAIDLARK_TYPE] == BRAIDLARK_JOIN_REQUEST;
-    uint32_t node = frame.fields[joins ? BRAIDLARK_JOIN_REQUEST_NODE : BRAIDLARK_SLOT_REQUEST_NODE], written = 0;
-    uint32_t time = unit_time(site, OFFICE);
+    bool joins = frame.fields[BRAIDLARK_FIELD_TYPE] == BRAIDLARK_TYPE_JOIN_REQUEST;
+    uint32_t node = frame.fields[joins ? BRAIDLARK_FIELD_JOIN_REQUEST_NODE : BRAIDLARK_FIELD_SLOT_REQUEST_NODE];
+    uint32_t time = unit_time(site, OFFICE), written = 0;
     int unit = layout_find(site, (uint16_t)node);
     uint8_t status;
     if (joins) {

@@ -61,7 +61,7 @@ static void listen(struct site *site, int unit)
     for (int index = 0; sender != NOBODY && index < site->air_count; index++) {
         const struct on_air *air = &site->air[index];
         uint8_t quality = site->quality[sender][unit];
-        bool for_unit = air->packet.to == EVERYBODY || air->packet.to == site->units[unit].address;
+        bool for_unit = air->packet.to == BRAIDLARK_EVERY_UNIT || air->packet.to == site->units[unit].address;
         if (air->sender == sender && for_unit && comes_through(site, quality)) {
             unit_hear(site, unit, sender, quality, &air->packet);
         }

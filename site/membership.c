@@ -28,26 +28,26 @@ void membership_drop(struct unit *unit)
 bool membership_counts(const struct site *site, int unit)
 {
     const struct holding *holding = &site->units[unit].holding;
-    uint32_t end = holding->told + SILENCE_MS - GUARD_MS;
+    uint32_t end = holding->told + BRAIDLARK_LIVE_MS - GUARD_MS;
     bool in_time = !holding->denied && time_before(unit_network_time(site, unit), end);
     return holding->held && (unit == OFFICE || in_time);
 }
 
 static void write_join_request(struct site *site, const struct unit *unit, struct packet *packet)
 {
-    uint32_t fields[BRAIDLARK_JOIN_REQUEST_FIELDS] = {[BRAIDLARK_TYPE] = BRAIDLARK_JOIN_REQUEST,
-                                                      [BRAIDLARK_JOIN_REQUEST_NODE] = unit->address,
-                                                      [BRAIDLARK_JOIN_REQUEST_NETWORK] = NETWORK,
-                                                      [BRAIDLARK_JOIN_REQUEST_SLOTS] = unit->wanted_slots};
-    packet_write(site, packet, unit->sponsor, fields, BRAIDLARK_JOIN_REQUEST_FIELDS, NULL, 0);
+    uint32_t fields[BRAIDLARK_FIELDS_JOIN_REQUEST] = {[BRAIDLARK_FIELD_TYPE] = BRAIDLARK_TYPE_JOIN_REQUEST,
+                                                      [BRAIDLARK_FIELD_JOIN_REQUEST_NODE] = unit->address,
+                                                      [BRAIDLARK_FIELD_JOIN_REQUEST_NETWORK] = NETWORK,
+                                                      [BRAIDLARK_FIELD_JOIN_REQUEST_SLOTS] = unit->wanted_slots};
+    packet_write(site, packet, unit->sponsor, fields, BRAIDLARK_FIELDS_JOIN_REQUEST, NULL, 0);
 }
 
 static void write_slot_request(struct site *site, const struct unit *unit, struct packet *packet)
 {
-    uint32_t fields[BRAIDLARK_SLOT_REQUEST_FIELDS] = {[BRAIDLARK_TYPE] = BRAIDLARK_SLOT_REQUEST,
-                                                      [BRAIDLARK_SLOT_REQUEST_NODE] = unit->address,
-                                                      [BRAIDLARK_SLOT_REQUEST_SLOTS] = unit->wanted_slots};
-    packet_write(site, packet, unit->sponsor, fields, BRAIDLARK_SLOT_REQUEST_FIELDS, NULL, 0);
+    uint32_t fields[BRAIDLARK_FIELDS_SLOT_REQUEST] = {[BRAIDLARK_FIELD_TYPE] = BRAIDLARK_TYPE_SLOT_REQUEST,
+                                                      [BRAIDLARK_FIELD_SLOT_REQUEST_NODE] = unit->address,
+                                                      [BRAIDLARK_FIELD_SLOT_REQUEST_SLOTS] = unit->wanted_slots};
+    packet_write(site, packet, unit->sponsor, fields, BRAIDLARK_FIELDS_SLOT_REQUEST, NULL, 0);
 }
 
 /* A member asks for its slots again well before its time is over; one that lost the beacons meanwhile asks to join, in
@@ -81,10 +81,10 @@ void membership_sponsor(struct site *site, int unit, const struct packet *packet
 {
     struct unit *self = &site->units[unit];
     if (unit == OFFICE) {
-        uint8_t answer[BRAIDLARK_MOST_RESPONSES];
+        uint8_t answer[BRAIDLARK_RESPONSES_SIZE];
         size_t written = manager_answer(site, packet->bytes, packet->length, answer, sizeof answer);
         struct packet responses;
-        packet_set(&responses, node, answer, written, RESPONSE_LENGTH);
+        packet_set(&responses, node, answer, written, BRAIDLARK_LENGTH_JOIN_RESPONSE);
         queue_put(&self->control, &responses);
     } else if (unit_sends(site, unit)) {
         traffic_send(site, unit, site->units[OFFICE].address, REQUEST, packet->bytes, packet->length);
@@ -96,14 +96,14 @@ static void take_slots(struct site *site, int unit, const uint8_t *bytes, size_t
 {
     struct unit *self = &site->units[unit];
     struct holding holding = {.held = true};
-    for (size_t at = 0; at < length; at += RESPONSE_LENGTH) {
+    for (size_t at = 0; at < length; at += BRAIDLARK_LENGTH_JOIN_RESPONSE) {
         struct frame frame;
-        frame_read(site, bytes + at, RESPONSE_LENGTH, &frame);
-        uint16_t slot = (uint16_t)frame.fields[BRAIDLARK_JOIN_RESPONSE_SLOT];
+        frame_read(site, bytes + at, BRAIDLARK_LENGTH_JOIN_RESPONSE, &frame);
+        uint16_t slot = (uint16_t)frame.fields[BRAIDLARK_FIELD_JOIN_RESPONSE_SLOT];
         if (at == 0) {
             holding.control_slot = slot;
-            holding.told = frame.fields[BRAIDLARK_JOIN_RESPONSE_SUPERFRAME_TIME];
-        } else if (holding.data_count < MOST_HELD) {
+            holding.told = frame.fields[BRAIDLARK_FIELD_JOIN_RESPONSE_SUPERFRAME_TIME];
+        } else if (holding.data_count < BRAIDLARK_MOST_HELD) {
             holding.data_slots[holding.data_count++] = slot;
         }
     }
@@ -119,16 +119,16 @@ void membership_answer(struct site *site, int unit, const uint8_t *bytes, size_t
 {
     struct unit *self = &site->units[unit];
     struct frame frame;
-    frame_read(site, bytes, RESPONSE_LENGTH, &frame);
-    uint16_t node = (uint16_t)frame.fields[BRAIDLARK_JOIN_RESPONSE_NODE];
+    frame_read(site, bytes, BRAIDLARK_LENGTH_JOIN_RESPONSE, &frame);
+    uint16_t node = (uint16_t)frame.fields[BRAIDLARK_FIELD_JOIN_RESPONSE_NODE];
     if (node != self->address) {
         struct packet packet;
-        packet_set(&packet, node, bytes, length, RESPONSE_LENGTH);
+        packet_set(&packet, node, bytes, length, BRAIDLARK_LENGTH_JOIN_RESPONSE);
         queue_put(&self->control, &packet);
         return;
     }
-    bool accepted = frame.fields[BRAIDLARK_JOIN_RESPONSE_STATUS] == 0;
-    unit_tell(site, unit, accepted ? BRAIDLARK_JOIN_ACCEPTED : BRAIDLARK_JOIN_DENIED);
+    bool accepted = frame.fields[BRAIDLARK_FIELD_JOIN_RESPONSE_STATUS] == BRAIDLARK_STATUS_ACCEPTED;
+    unit_tell(site, unit, accepted ? BRAIDLARK_EVENT_JOIN_ACCEPTED : BRAIDLARK_EVENT_JOIN_DENIED);
     if (accepted && self->state[0] == BRAIDLARK_NORMAL) {
         take_slots(site, unit, bytes, length);
     } else if (!accepted && self->holding.held) {

@@ -4,7 +4,7 @@
  */
 #include "greenhouse.h"
 
-enum { TRY_EVERY_MS = 100000, SOON_MS = 30000 };
+enum { TRY_EVERY_MS = 100000 };
 
 void orders_give(struct site *site, int head, uint8_t setting)
 {
@@ -89,7 +89,6 @@ void orders_arrive(struct site *site, int unit, const uint8_t *words)
     }
     order->arrived = true;
     order->arrival = site->now;
-    record_order(site, false);
     if (story_is_quiet(site) && site->now - order->given < SOON_MS) {
         timeline_quiet(site, site->now - order->given);
     } else {
@@ -114,7 +113,7 @@ static void note_loss(struct site *site, int number, struct order *order, int ca
 {
     uint64_t age = unit_wide_time(site, carrier) - site->units[carrier].update_taken[next];
     order->lost_at_silent++;
-    record_order(site, true);
+    record_loss(site, number - 1);
     say(site, "order %d for %s is lost: %s hands it to %s, last heard of %u s ago", number,
         site->units[order->head].name, site->units[carrier].name, site->units[next].name, (unsigned)(age / 1000));
 }
@@ -124,7 +123,7 @@ void orders_carried(struct site *site, int carrier, const struct packet *packet)
 {
     struct frame frame;
     frame_read(site, packet->bytes, packet->frame_length, &frame);
-    if (frame.fields[BRAIDLARK_TYPE] != BRAIDLARK_DATA || packet->bytes[frame.place] != ORDER) {
+    if (frame.fields[BRAIDLARK_FIELD_TYPE] != BRAIDLARK_TYPE_DATA || packet->bytes[frame.place] != ORDER) {
         return;
     }
     int number;

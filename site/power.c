@@ -49,7 +49,8 @@ void power_fails(struct site *site)
 
 void power_returns(struct site *site)
 {
-    say(site, "the power is back; the office listens for 30 s, as every unit does, before it manages");
+    say(site, "the power is back; the office listens for %d s, as every unit does, before it manages",
+        BRAIDLARK_DISCOVERY_MS / 1000);
     unit_power_on(site, OFFICE);
     unit_power_on(site, BENCH_8);
 }
@@ -102,7 +103,7 @@ static int still_missing(const struct site *site)
     return NOBODY;
 }
 
-/* After the cut: every member speaks again before its 300,000 ms are over, and holds what it held. */
+/* After the cut: every member speaks again while it is live, and holds what it held. */
 void power_watch(struct site *site)
 {
     struct cut *cut = &site->cut;
@@ -116,7 +117,7 @@ void power_watch(struct site *site)
         say(site,
             "all %d members have spoken again and hold what they held; bench 8 had lost its memory and joined anew",
             cut->members);
-    } else if (site->now - cut->restored > SILENCE_MS) {
+    } else if (site->now - cut->restored > BRAIDLARK_LIVE_MS) {
         fail(site, "%s has not found its place again after the power cut", site->units[missing].name);
     }
 }

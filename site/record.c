@@ -1,6 +1,6 @@
 /*
  * What the picture of the night is drawn from: values that belong to one unit at a time, of which only the changes are
- * kept, and what became of orders.
+ * kept, and the tries of orders that were lost.
  */
 #include "greenhouse.h"
 
@@ -15,9 +15,9 @@ void record_note(struct record *record, uint64_t time, int unit)
     record->count++;
 }
 
-void record_order(struct site *site, bool lost)
+void record_loss(struct site *site, int order)
 {
-    if (site->mark_count < MOST_MARKS) {
-        site->marks[site->mark_count++] = (struct mark){.time = site->now, .lost = lost};
+    if (site->loss_count < MOST_LOSSES) {
+        site->losses[site->loss_count++] = (struct loss){.time = site->now, .order = order};
     }
 }

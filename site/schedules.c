@@ -44,7 +44,7 @@ static void read_schedule(struct site *site, int unit, const uint8_t *kinds, int
     const struct regions *regions = &site->manager.regions;
     site->held[unit] = 0;
     for (int slot = regions->control; slot < regions->discovery; slot++) {
-        if (kinds[slot] != BRAIDLARK_TX && kinds[slot] != BRAIDLARK_CONTROL_TX) {
+        if (kinds[slot] != BRAIDLARK_SLOT_TX && kinds[slot] != BRAIDLARK_SLOT_CONTROL_TX) {
             continue;
         }
         if (senders[slot] != NOBODY) {
@@ -63,12 +63,12 @@ static void read_schedule(struct site *site, int unit, const uint8_t *kinds, int
 /* The head that was refused is in: it must have been refused before, and have come by the silent relay's place. */
 static void check_new_head(struct site *site)
 {
-    if (!site->units[BENCH_9].was_refused || site->middle_row == NOBODY) {
+    if (!site->units[BENCH_9].was_refused || site->silence.row == NOBODY) {
         fail(site, "bench 9 joined a book that should have been full");
     }
-    if (site->row[BENCH_9] != site->middle_row || (site->held[BENCH_9] & ~site->middle_held) != 0) {
+    if (site->row[BENCH_9] != site->silence.row || (site->held[BENCH_9] & ~site->silence.held) != 0) {
         fail(site, "bench 9 got row %d and slots %04X, not those of the silent relay: row %d, slots %04X",
-             site->row[BENCH_9], (unsigned)site->held[BENCH_9], site->middle_row, (unsigned)site->middle_held);
+             site->row[BENCH_9], (unsigned)site->held[BENCH_9], site->silence.row, (unsigned)site->silence.held);
     }
 }
 
@@ -85,10 +85,9 @@ static void note_live(struct site *site, int unit, bool live, uint32_t held_befo
     } else if (live && unit != OFFICE && site->held[unit] != held_before) {
         say(site, "%s now holds data slot%s %s", site->units[unit].name, plural, slots);
     } else if (!live && site->live[unit]) {
-        say(site, "%s counts as gone: 300 s without a word; its row and slots are free", site->units[unit].name);
-        if (unit == MIDDLE_RELAY) {
-            check_top(site);
-        }
+        say(site, "%s counts as gone: %d s without a word; its row and slots are free", site->units[unit].name,
+            BRAIDLARK_LIVE_MS / 1000);
+        check_gone(site, unit);
     }
     site->live[unit] = live;
     if (joined && unit == BENCH_9) {

@@ -39,19 +39,23 @@ static void switch_on(struct site *site)
 static void unbolt(struct site *site)
 {
     const uint64_t *last_word = site->manager.last_word;
-    if (site->middle_row != NOBODY || site->now < site->script.unbolted ||
+    if (site->silence.row != NOBODY || site->now < site->script.unbolted ||
         last_word[BENCH_5] < last_word[MIDDLE_RELAY]) {
         return;
     }
     char slots[80];
     number_words(site->held[MIDDLE_RELAY], slots);
     site->script.unbolted = site->now;
-    site->middle_row = site->row[MIDDLE_RELAY];
-    site->middle_held = site->held[MIDDLE_RELAY];
+    uint64_t update_age = unit_wide_time(site, OFFICE) - site->units[OFFICE].update_taken[MIDDLE_RELAY];
+    site->silence = (struct silence){.row = site->row[MIDDLE_RELAY],
+                                     .held = site->held[MIDDLE_RELAY],
+                                     .last_word = last_word[MIDDLE_RELAY],
+                                     .last_update = site->now - update_age};
     unit_power_off(site, MIDDLE_RELAY);
     scene(site, "A relay is gone");
-    say(site, "SOMEBODY UNBOLTS THE MIDDLE RELAY, which holds row %d and data slots %s", site->middle_row, slots);
-    say(site, "nobody knows yet: orders by it are lost until its routes are 300 s old, but not longer");
+    say(site, "SOMEBODY UNBOLTS THE MIDDLE RELAY, which holds row %d and data slots %s", site->silence.row, slots);
+    say(site, "nobody knows yet: orders by it are lost until its routes are %d s old, but not longer",
+        BRAIDLARK_USABLE_MS / 1000);
     say(site, "benches 1 to 4 can also be reached by the north relay; bench 5 is cut off");
 }
 

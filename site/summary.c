@@ -7,10 +7,18 @@
 struct outcome {
     int arrived;
     int replaced;
+    int waited; /* of those that arrived */
+    int slowest;
+    uint64_t slowest_ms;
     int lost_tries;
-    int late;
+    int late; /* of those that arrived, for a lost try */
     uint64_t latest_ms;
 };
+
+static uint64_t greater(uint64_t one, uint64_t other)
+{
+    return one > other ? one : other;
+}
 
 static struct outcome count_orders(const struct site *site)
 {
@@ -20,10 +28,16 @@ static struct outcome count_orders(const struct site *site)
         outcome.arrived += order->arrived;
         outcome.replaced += !order->arrived && order->replaced;
         outcome.lost_tries += order->lost_at_silent;
-        if (order->arrived && order->lost_at_silent > 0) {
-            uint64_t took_ms = order->arrival - order->given;
+        if (!order->arrived) {
+            continue;
+        }
+        uint64_t took_ms = order->arrival - order->given;
+        outcome.waited += order->waits_for_route;
+        outcome.slowest = took_ms > outcome.slowest_ms ? index : outcome.slowest;
+        outcome.slowest_ms = greater(took_ms, outcome.slowest_ms);
+        if (order->lost_at_silent > 0) {
             outcome.late++;
-            outcome.latest_ms = took_ms > outcome.latest_ms ? took_ms : outcome.latest_ms;
+            outcome.latest_ms = greater(took_ms, outcome.latest_ms);
         }
     }
     return outcome;
@@ -37,11 +51,15 @@ static void print_orders(const struct site *site)
     printf(
         "  orders     %d given; arrived: %d, replaced by a later one for the same bench: %d, still on their way: %d\n",
         given, outcome.arrived, outcome.replaced, given - outcome.arrived - outcome.replaced);
-    printf("  the relay  %d tries were lost at it, and orders late for that: %d, the latest by %u s\n",
+    const struct order *slowest = &site->manager.orders[outcome.slowest];
+    printf(
+        "             the slowest was order %d, which %s followed after %u s; %d that arrived had waited for a way\n",
+        outcome.slowest + 1, site->units[slowest->head].name, (unsigned)(outcome.slowest_ms / 1000), outcome.waited);
+    printf("  the relay  %d tries were lost at it; orders late for that: %d, the slowest of them after %u s\n",
            outcome.lost_tries, outcome.late, (unsigned)(outcome.latest_ms / 1000));
-    printf("             no frame went to a unit gone for more than 300 s; the last to one that was gone, after %u s\n",
-           (unsigned)(site->tally.latest_loss_ms / 1000));
-    number_words(site->held[BENCH_9] & site->middle_held, slots);
+    printf("             no frame went to a unit gone for more than %d s; the last to one that was gone, after %u s\n",
+           BRAIDLARK_USABLE_MS / 1000, (unsigned)(site->tally.latest_loss_ms / 1000));
+    number_words(site->held[BENCH_9] & site->silence.held, slots);
     printf("             its row and its data slots %s went to bench 9, which was refused before\n", slots);
 }
 
@@ -70,8 +88,8 @@ void summary_print(struct site *site)
     scene(site, "The night in numbers");
     print_orders(site);
     print_power(site);
-    printf("  routes     %u looked at: none outlives the last update of its next hop by more than 300,000 ms\n",
-           (unsigned)tally->routes);
+    printf("  routes     %u looked at: none outlives the last update of its next hop by more than %d ms\n",
+           (unsigned)tally->routes, BRAIDLARK_USABLE_MS);
     printf("             %u frames handed to a next hop, whose last update was at most %u ms old; %u had no way\n",
            (unsigned)tally->handed_over, (unsigned)tally->oldest_word_ms, (unsigned)tally->without_route);
     printf("  slots      %u schedules, and all that was in the air: no control or data slot has two senders\n",

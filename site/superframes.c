@@ -30,6 +30,31 @@ static void begin_superframe(struct site *site)
     check_clocks(site);
 }
 
+/* Whether an age has passed its limit since the slot before. */
+static bool runs_out(uint64_t age, uint64_t limit)
+{
+    return age > limit && age - limit <= SLOT_MS;
+}
+
+/* Within a superframe too the office looks at its book or its routes when one of them has just grown too old: so the
+ * record of the night has the moment. */
+static void look_at_ages(struct site *site)
+{
+    const struct unit *office = &site->units[OFFICE];
+    uint64_t time = unit_wide_time(site, OFFICE);
+    bool book = false, routes = false;
+    for (int unit = OFFICE + 1; unit < UNITS && site->manager.running; unit++) {
+        book = book || runs_out(site->now - site->manager.last_word[unit], BRAIDLARK_LIVE_MS);
+        routes = routes || (office->was_told[unit] && runs_out(time - office->update_taken[unit], BRAIDLARK_USABLE_MS));
+    }
+    if (routes) {
+        routes_watch(site);
+    }
+    if (book) {
+        check_schedules(site);
+    }
+}
+
 static void tick_units(struct site *site)
 {
     for (int unit = 0; unit < UNITS; unit++) {
@@ -64,6 +89,8 @@ void superframes_run(struct site *site)
             story_slot(site);
             if (slot == 0) {
                 begin_superframe(site);
+            } else {
+                look_at_ages(site);
             }
             if (slot < site->manager.regions.end) {
                 run_slot(site, slot);

@@ -14,12 +14,12 @@ void traffic_send(struct site *site, int unit, uint16_t destination, uint8_t kin
     struct unit *self = &site->units[unit];
     uint8_t payload[MOST_PAYLOAD] = {kind};
     memcpy(payload + 1, rest, length);
-    uint32_t fields[BRAIDLARK_DATA_FIELDS] = {
-        [BRAIDLARK_TYPE] = BRAIDLARK_DATA,          [BRAIDLARK_DATA_SOURCE] = self->address,
-        [BRAIDLARK_DATA_DESTINATION] = destination, [BRAIDLARK_DATA_TTL] = TIME_TO_LIVE,
-        [BRAIDLARK_DATA_SEQUENCE] = self->sequence, [BRAIDLARK_DATA_COUNT] = (uint32_t)length + 1};
+    uint32_t fields[BRAIDLARK_FIELDS_DATA] = {
+        [BRAIDLARK_FIELD_TYPE] = BRAIDLARK_TYPE_DATA,     [BRAIDLARK_FIELD_DATA_SOURCE] = self->address,
+        [BRAIDLARK_FIELD_DATA_DESTINATION] = destination, [BRAIDLARK_FIELD_DATA_TTL] = TIME_TO_LIVE,
+        [BRAIDLARK_FIELD_DATA_SEQUENCE] = self->sequence, [BRAIDLARK_FIELD_DATA_COUNT] = (uint32_t)length + 1};
     struct packet packet;
-    packet_write(site, &packet, 0, fields, BRAIDLARK_DATA_FIELDS, payload, length + 1);
+    packet_write(site, &packet, 0, fields, BRAIDLARK_FIELDS_DATA, payload, length + 1);
     self->sequence++;
     queue_put(&self->data, &packet);
 }
@@ -39,7 +39,7 @@ static bool route_own(struct site *site, int unit, const struct packet *waiting,
     frame_read(site, waiting->bytes, waiting->length, &frame);
     uint8_t hops = 0;
     *packet = *waiting;
-    return routes_find(site, unit, (uint16_t)frame.fields[BRAIDLARK_DATA_DESTINATION], &packet->to, &hops);
+    return routes_find(site, unit, (uint16_t)frame.fields[BRAIDLARK_FIELD_DATA_DESTINATION], &packet->to, &hops);
 }
 
 /* Chooses the way of another unit's frame, with its time to live one less, if there is one. */
@@ -78,7 +78,7 @@ bool traffic_turn(struct site *site, int unit, size_t room, struct packet *packe
 /* What came for this unit itself. */
 static void take_payload(struct site *site, int unit, uint16_t source, const uint8_t *payload, size_t length)
 {
-    uint8_t answer[BRAIDLARK_MOST_RESPONSES];
+    uint8_t answer[BRAIDLARK_RESPONSES_SIZE];
     const uint8_t *rest = payload + 1;
     switch (payload[0]) {
     case ORDER:
@@ -100,7 +100,7 @@ static void take_payload(struct site *site, int unit, uint16_t source, const uin
 void traffic_hear(struct site *site, int unit, const struct packet *packet, const struct frame *frame)
 {
     struct unit *self = &site->units[unit];
-    if (frame->fields[BRAIDLARK_DATA_DESTINATION] != self->address) {
+    if (frame->fields[BRAIDLARK_FIELD_DATA_DESTINATION] != self->address) {
         if (unit_sends(site, unit)) {
             queue_put(&self->data, packet);
         }
@@ -111,7 +111,7 @@ void traffic_hear(struct site *site, int unit, const struct packet *packet, cons
     uint8_t status = braidlark_relay(self->table, sizeof self->table, packet->bytes, packet->length,
                                      unit_time(site, unit), NULL, 0, &next_hop, &place, &length);
     check_status(site, "braidlark_relay", status, 0);
-    uint16_t source = (uint16_t)frame->fields[BRAIDLARK_DATA_SOURCE];
+    uint16_t source = (uint16_t)frame->fields[BRAIDLARK_FIELD_DATA_SOURCE];
     if (unit == OFFICE) {
         manager_hears(site, source);
     }

@@ -13,7 +13,8 @@ void unit_tell(struct site *site, int unit, uint8_t event)
     struct unit *self = &site->units[unit];
     uint8_t status = braidlark_state_event(self->state, sizeof self->state, event, unit_time(site, unit));
     check_status(site, "braidlark_state_event", status, REFUSAL(BRAIDLARK_NOT_ALLOWED));
-    if (status == BRAIDLARK_ACCEPTED && (event == BRAIDLARK_BEACON_HEARD || event == BRAIDLARK_JOIN_ACCEPTED)) {
+    if (status == BRAIDLARK_ACCEPTED &&
+        (event == BRAIDLARK_EVENT_BEACON_HEARD || event == BRAIDLARK_EVENT_JOIN_ACCEPTED)) {
         self->beacon_taken = unit_wide_time(site, unit);
     }
 }
@@ -23,7 +24,7 @@ static void start_over(struct site *site, int unit)
     struct unit *self = &site->units[unit];
     uint8_t status = braidlark_state_fresh(self->state, sizeof self->state, unit_time(site, unit));
     check_status(site, "braidlark_state_fresh", status, 0);
-    unit_tell(site, unit, BRAIDLARK_READY);
+    unit_tell(site, unit, BRAIDLARK_EVENT_READY);
     membership_drop(self);
 }
 
@@ -61,7 +62,7 @@ bool unit_sends(const struct site *site, int unit)
 static void queue_update(struct site *site, int unit)
 {
     struct unit *self = &site->units[unit];
-    struct packet packet = {.to = EVERYBODY};
+    struct packet packet = {.to = BRAIDLARK_EVERY_UNIT};
     for (uint32_t page = 0;; page++) {
         uint32_t written = 0;
         uint8_t status = braidlark_page(self->table, sizeof self->table, page, unit_time(site, unit), packet.bytes,
@@ -94,10 +95,10 @@ static void look_again(struct site *site, int unit)
 {
     struct unit *self = &site->units[unit];
     if (self->state[0] == BRAIDLARK_MANAGER && unit != OFFICE) {
-        unit_tell(site, unit, BRAIDLARK_FAULT);
+        unit_tell(site, unit, BRAIDLARK_EVENT_FAULT);
     }
     if (self->state[0] == BRAIDLARK_RECOVERY) {
-        unit_tell(site, unit, BRAIDLARK_RECOVERED);
+        unit_tell(site, unit, BRAIDLARK_EVENT_RECOVERED);
         self->next_request = 0;
     }
 }
@@ -175,7 +176,7 @@ bool unit_turn(struct site *site, int unit, int slot, size_t room, struct packet
 static void forward_beacon(struct site *site, int unit, const struct packet *packet)
 {
     struct unit *self = &site->units[unit];
-    struct packet copy = {.to = EVERYBODY};
+    struct packet copy = {.to = BRAIDLARK_EVERY_UNIT};
     uint32_t written = 0;
     uint8_t status = braidlark_forward(self->table, sizeof self->table, NETWORK, packet->bytes, packet->length, SLOT_MS,
                                        unit_time(site, unit), copy.bytes, sizeof copy.bytes, &written);
@@ -187,7 +188,7 @@ static void forward_beacon(struct site *site, int unit, const struct packet *pac
     frame_read(site, copy.bytes, written, &frame);
     copy.length = copy.frame_length = (uint8_t)written;
     self->beacon = copy;
-    self->beacon_slot = (int)frame.fields[BRAIDLARK_BEACON_HOP];
+    self->beacon_slot = (int)frame.fields[BRAIDLARK_FIELD_BEACON_HOP];
 }
 
 static void hear_beacon(struct site *site, int unit, int sender, const struct packet *packet)
@@ -202,7 +203,7 @@ static void hear_beacon(struct site *site, int unit, int sender, const struct pa
         self->beacon_heard = true;
         self->sponsor = site->units[sender].address;
     }
-    unit_tell(site, unit, BRAIDLARK_BEACON_HEARD);
+    unit_tell(site, unit, BRAIDLARK_EVENT_BEACON_HEARD);
     if (self->holding.held) {
         forward_beacon(site, unit, packet);
     } else if (self->state[0] == BRAIDLARK_JOINING && site->now >= self->next_request) {
@@ -235,23 +236,23 @@ void unit_hear(struct site *site, int unit, int sender, uint8_t quality, const s
     }
     struct frame frame;
     frame_read(site, packet->bytes, packet->frame_length, &frame);
-    switch (frame.fields[BRAIDLARK_TYPE]) {
-    case BRAIDLARK_BEACON:
+    switch (frame.fields[BRAIDLARK_FIELD_TYPE]) {
+    case BRAIDLARK_TYPE_BEACON:
         hear_beacon(site, unit, sender, packet);
         break;
-    case BRAIDLARK_UPDATE:
+    case BRAIDLARK_TYPE_UPDATE:
         hear_update(site, unit, sender, quality, packet);
         break;
-    case BRAIDLARK_DATA:
+    case BRAIDLARK_TYPE_DATA:
         traffic_hear(site, unit, packet, &frame);
         break;
-    case BRAIDLARK_JOIN_REQUEST:
-        membership_sponsor(site, unit, packet, (uint16_t)frame.fields[BRAIDLARK_JOIN_REQUEST_NODE]);
+    case BRAIDLARK_TYPE_JOIN_REQUEST:
+        membership_sponsor(site, unit, packet, (uint16_t)frame.fields[BRAIDLARK_FIELD_JOIN_REQUEST_NODE]);
         break;
-    case BRAIDLARK_SLOT_REQUEST:
-        membership_sponsor(site, unit, packet, (uint16_t)frame.fields[BRAIDLARK_SLOT_REQUEST_NODE]);
+    case BRAIDLARK_TYPE_SLOT_REQUEST:
+        membership_sponsor(site, unit, packet, (uint16_t)frame.fields[BRAIDLARK_FIELD_SLOT_REQUEST_NODE]);
         break;
-    case BRAIDLARK_JOIN_RESPONSE:
+    case BRAIDLARK_TYPE_JOIN_RESPONSE:
         membership_answer(site, unit, packet->bytes, packet->length);
         break;
     }

@@ -20,26 +20,32 @@ impl Book {
     pub fn write_image(&self, time: Moment, out: &mut [u8]) -> Result<usize, Refusal> {
         self.check()?;
         accept(self.time, time)?;
-        let mut live = self.clone();
-        for place in (0..MOST_ROWS).filter(|place| !self.is_live(*place, time)) {
-            live.rows[place] = Row::EMPTY;
-        }
-        let image = live.to_image();
-        out.get_mut(..image.len()).ok_or(Refusal::Room)?.copy_from_slice(&image);
-        Ok(image.len())
+        let length = image_length(self.plan.rows);
+        let image = out.get_mut(..length).ok_or(Refusal::Room)?;
+        self.put_image(|place| self.is_live(place, time), image);
+        Ok(length)
     }
 
     /// The bytes of the plan and of all its rows, within rule or not.
     pub fn to_image(&self) -> Vec<u8> {
-        let mut image = contents(self.plan.rows).to_vec();
-        image.resize(ROWS_AT, 0);
-        self.plan.to_bytes(&mut image[PLAN_AT..]);
-        for place in 0..usize::from(self.plan.rows) {
-            let row = self.rows.get(place).unwrap_or(&Row::EMPTY);
-            image.extend(row.unit.to_le_bytes());
-            image.extend(row.slots.to_le_bytes());
-        }
+        let mut image = vec![0; image_length(self.plan.rows)];
+        self.put_image(|_| true, &mut image);
         image
+    }
+
+    /// Fills an image's bytes; rows that are not kept, and those past the last, are empty.
+    fn put_image(&self, is_kept: impl Fn(usize) -> bool, image: &mut [u8]) {
+        let (head, rest) = image.split_at_mut(ROWS_AT);
+        head[..PLAN_AT].copy_from_slice(&contents(self.plan.rows));
+        self.plan.to_bytes(&mut head[PLAN_AT..]);
+        for (place, bytes) in rest.chunks_exact_mut(IMAGE_ROW_LENGTH).enumerate() {
+            let row = match self.rows.get(place) {
+                Some(row) if is_kept(place) => row,
+                _ => &Row::EMPTY,
+            };
+            bytes[..2].copy_from_slice(&row.unit.to_le_bytes());
+            bytes[2..].copy_from_slice(&row.slots.to_le_bytes());
+        }
     }
 
     /// The book that an image holds, all its members heard at this time.
@@ -47,8 +53,7 @@ impl Book {
     pub fn restore(image: &[u8], time: Moment) -> Result<Book, Refusal> {
         let head = image.get(..ROWS_AT).ok_or(Refusal::OutOfRule)?;
         let plan = Plan::from_bytes(&head[PLAN_AT..])?.checked()?;
-        let length = ROWS_AT + IMAGE_ROW_LENGTH * usize::from(plan.rows);
-        if head[..PLAN_AT] != contents(plan.rows) || image.len() != length {
+        if head[..PLAN_AT] != contents(plan.rows) || image.len() != image_length(plan.rows) {
             return Err(Refusal::OutOfRule);
         }
         let mut rows = [Row::EMPTY; MOST_ROWS];
@@ -62,6 +67,11 @@ impl Book {
         let book = Book { plan, time, rows };
         book.check().map(|()| book)
     }
+}
+
+/// How long an image of so many rows is.
+fn image_length(rows: u8) -> usize {
+    ROWS_AT + IMAGE_ROW_LENGTH * usize::from(rows)
 }
 
 /// What an image of so many rows begins with: how many bodies it has, then the number, place and length of each.

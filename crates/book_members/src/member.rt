@@ -1,8 +1,8 @@
 // One row of a member book.
 
-// `slots` has a bit for each data slot that the unit holds; `time` is that of its last accepted call.
+// The largest field first, so that rows have no gaps. `slots` has a bit for each data slot that the unit holds; `time` is that of its last accepted call.
 pub struct Member {
-    pub unit: u16,
     pub slots: u64,
     pub time: u32,
+    pub unit: u16,
 }

@@ -7,12 +7,13 @@ use moments::age;
 use moments::in_order;
 use octets::addresses::is_address;
 
+// The largest field first, so that rows have no gaps.
 pub struct Row {
+    pub time: u32,
     pub destination: u16,
     pub next_hop: u16,
     pub hops: u8,
     pub quality: u8,
-    pub time: u32,
     pub withdrawn: bool,
 }
 

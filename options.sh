@@ -45,6 +45,7 @@ check_options() { # PROGRAM OPTION..
             exit 0
             ;;
         'site --short') short=yes ;;
+        'site --short-beacons') ;;
         *)
             range=$(range_of "$program" "$1") || exit
             [ $# -gt 1 ] || refuse "$1 needs a number behind it"

@@ -1,7 +1,8 @@
 //! `compare` puts the same calls to the library and to an implementation written from the paper, subject by
 //! subject, and stops at the first difference. This file is the command line and the order of the subjects.
 //!
-//! The paper is document 01, with times and the clock as request 104 of document 02 has them (`shared::moments`).
+//! The paper is document 01, with beacons, plans and images as request 101 of document 02 has them, and times and the
+//! clock as its request 104 (`shared::moments`).
 
 #![deny(warnings)]
 

@@ -1,19 +1,20 @@
 /*
- * Every call of the header, from the firmware's side: a manager's plan and book, then a unit that joins it, learns
- * routes from its neighbour and passes frames on, and calls on both sides of the moment when a clock begins again at 0.
- * Each answer is checked. firmware/check builds it as C99 and as C++.
+ * Every call of the header, from the firmware's side: a manager's plan and book, one more site with short beacons, then
+ * a unit that joins, learns routes from its neighbour and passes frames and beacons on, and calls on both sides of the
+ * moment when a clock begins again at 0. Each answer is checked. firmware/check builds it as C99 and as C++.
  */
 #include "braidlark.h"
 
 #include <stdio.h>
 #include <string.h>
 
-#if BRAIDLARK_VERSION_MAJOR != 3 || !defined BRAIDLARK_VERSION_MINOR
-#error "these are the calls of version 3"
+#if BRAIDLARK_VERSION_MAJOR != 4 || !defined BRAIDLARK_VERSION_MINOR
+#error "these are the calls of version 4"
 #endif
 
 enum { NETWORK = 1, MANAGER = 0x0100, UNIT = 0x0201, FAR_UNIT = 0x0300, STRANGER = 0x0400 };
 enum { MAX_HOPS = 3, ROWS = 4, DATA_SLOTS = 6, SLOT_MS = 1000, SLOTS = 54 };
+enum { LONG_BEACONS = BRAIDLARK_TYPE_BEACON, SHORT_BEACONS = BRAIDLARK_TYPE_SHORT_BEACON };
 enum { NOW = 1000000, QUALITY = 200 };
 #define LAST_MS 0xFFFFFFFFu /* of the clock, before 0 */
 
@@ -121,10 +122,12 @@ static void numbers_fit(void)
     EXPECT(BRAIDLARK_MOST_FRAME == BRAIDLARK_LENGTH_DATA + BRAIDLARK_MOST_PAYLOAD);
     EXPECT(BRAIDLARK_MOST_FRAME >= BRAIDLARK_LENGTH_UPDATE + BRAIDLARK_MOST_ENTRIES * BRAIDLARK_ENTRY_SIZE);
     EXPECT((int)BRAIDLARK_MOST_FIELDS == (int)BRAIDLARK_FIELDS_BEACON);
+    EXPECT((int)BRAIDLARK_FIELDS_SHORT_BEACON < (int)BRAIDLARK_FIELDS_BEACON);
     EXPECT(BRAIDLARK_RESPONSES_SIZE == (1 + BRAIDLARK_MOST_HELD) * BRAIDLARK_LENGTH_JOIN_RESPONSE);
     EXPECT(BRAIDLARK_TABLE_SIZE == 11 + BRAIDLARK_MOST_ROUTES * 11);
     EXPECT(BRAIDLARK_BOOK_SIZE == BRAIDLARK_PLAN_SIZE + 4 + BRAIDLARK_MOST_MEMBERS * 14);
-    EXPECT(BRAIDLARK_MOST_IMAGE == 11 + BRAIDLARK_PLAN_SIZE + BRAIDLARK_MOST_MEMBERS * 10);
+    EXPECT(BRAIDLARK_MOST_IMAGE == 11 + (BRAIDLARK_PLAN_SIZE - 1) + BRAIDLARK_MOST_MEMBERS * 10); /* without the kind */
+    EXPECT(BRAIDLARK_LONGEST_SUPERFRAME_MS == BRAIDLARK_MOST_SLOTS * BRAIDLARK_LONGEST_SLOT_MS);
 }
 
 /* ---- the manager's side */
@@ -143,18 +146,35 @@ static void tell_numbers(const uint8_t *plan)
     EXPECT(numbers[BRAIDLARK_FIELD_PLAN_DISCOVERY_AT] == 14 && numbers[BRAIDLARK_FIELD_PLAN_SLEEP_AT] == 16);
 }
 
+static uint8_t plan_with(uint8_t *plan, uint32_t rows, uint32_t slot_ms, uint32_t beacon)
+{
+    return braidlark_plan(plan, BRAIDLARK_PLAN_SIZE, NETWORK, MANAGER, MAX_HOPS, rows, DATA_SLOTS, slot_ms, beacon);
+}
+
+/* There are two kinds of beacons. With the short one only the slot itself is bounded, not the superframe. */
+static void choose_beacons(void)
+{
+    static const uint32_t no_kinds[] = {0, LONG_BEACONS - 1, SHORT_BEACONS + 1, 256 + LONG_BEACONS,
+                                        256 + SHORT_BEACONS};
+    uint8_t plan[BRAIDLARK_PLAN_SIZE];
+    size_t each;
+    for (each = 0; each < sizeof no_kinds / sizeof no_kinds[0]; each++)
+        EXPECT(plan_with(plan, ROWS, SLOT_MS, no_kinds[each]) == BRAIDLARK_OUT_OF_RULE);
+    EXPECT(plan_with(plan, ROWS, 1214, SHORT_BEACONS) == BRAIDLARK_ACCEPTED);
+    EXPECT(plan[BRAIDLARK_PLAN_SIZE - 1] == SHORT_BEACONS);
+    EXPECT(plan_with(plan, ROWS, BRAIDLARK_LONGEST_SLOT_MS, SHORT_BEACONS) == BRAIDLARK_ACCEPTED);
+    EXPECT(plan_with(plan, ROWS, BRAIDLARK_LONGEST_SLOT_MS + 1, SHORT_BEACONS) == BRAIDLARK_OUT_OF_RULE);
+    EXPECT(plan_with(plan, ROWS, 0, SHORT_BEACONS) == BRAIDLARK_OUT_OF_RULE);
+}
+
 static void make_book(uint8_t *book)
 {
-    static const uint8_t expected[BRAIDLARK_PLAN_SIZE] = {0x01, 0x00, 0x00, 0x01, 0x03, 0x04, 0x06, 0xE8, 0x03};
+    static const uint8_t expected[BRAIDLARK_PLAN_SIZE] = {0x01, 0x00, 0x00, 0x01, 0x03, 0x04, 0x06, 0xE8, 0x03, 0x46};
     uint8_t plan[BRAIDLARK_PLAN_SIZE];
-    EXPECT(braidlark_plan(plan, sizeof plan, NETWORK, MANAGER, MAX_HOPS, ROWS, DATA_SLOTS, 1214) ==
-           BRAIDLARK_OUT_OF_RULE);
-    EXPECT(braidlark_plan(plan, sizeof plan, NETWORK, MANAGER, MAX_HOPS, 256 + ROWS, DATA_SLOTS, SLOT_MS) ==
-           BRAIDLARK_OUT_OF_RULE);
-    EXPECT(braidlark_plan(plan, sizeof plan, NETWORK, MANAGER, MAX_HOPS, ROWS, DATA_SLOTS, 65536 + SLOT_MS) ==
-           BRAIDLARK_OUT_OF_RULE);
-    EXPECT(braidlark_plan(plan, sizeof plan, NETWORK, MANAGER, MAX_HOPS, ROWS, DATA_SLOTS, SLOT_MS) ==
-           BRAIDLARK_ACCEPTED);
+    EXPECT(plan_with(plan, ROWS, 1214, LONG_BEACONS) == BRAIDLARK_OUT_OF_RULE);
+    EXPECT(plan_with(plan, 256 + ROWS, SLOT_MS, LONG_BEACONS) == BRAIDLARK_OUT_OF_RULE);
+    EXPECT(plan_with(plan, ROWS, 65536 + SLOT_MS, LONG_BEACONS) == BRAIDLARK_OUT_OF_RULE);
+    EXPECT(plan_with(plan, ROWS, SLOT_MS, LONG_BEACONS) == BRAIDLARK_ACCEPTED);
     EXPECT(memcmp(plan, expected, sizeof plan) == 0);
     tell_numbers(plan);
     EXPECT(braidlark_book_fresh(book, BRAIDLARK_BOOK_SIZE, plan, sizeof plan, NOW) == BRAIDLARK_ACCEPTED);
@@ -231,9 +251,38 @@ static void leave(uint8_t *book)
     EXPECT(braidlark_leave(book, BRAIDLARK_BOOK_SIZE, UNIT, NOW + 1) == BRAIDLARK_NO_MEMBER);
 }
 
+/* Eight units and slots of a second: 70 s are too long for what a long beacon says of a superframe. */
+static void plan_eight_units(uint8_t *plan)
+{
+    uint32_t numbers[BRAIDLARK_FIELDS_PLAN];
+    EXPECT(braidlark_plan(plan, BRAIDLARK_PLAN_SIZE, NETWORK, MANAGER, 1, 8, 8, SLOT_MS, LONG_BEACONS) ==
+           BRAIDLARK_OUT_OF_RULE);
+    EXPECT(braidlark_plan(plan, BRAIDLARK_PLAN_SIZE, NETWORK, MANAGER, 1, 8, 8, SLOT_MS, SHORT_BEACONS) ==
+           BRAIDLARK_ACCEPTED);
+    EXPECT(braidlark_plan_numbers(plan, BRAIDLARK_PLAN_SIZE, numbers, BRAIDLARK_FIELDS_PLAN) == BRAIDLARK_ACCEPTED);
+    EXPECT(numbers[BRAIDLARK_FIELD_PLAN_SLOTS] == 70);
+    EXPECT(numbers[BRAIDLARK_FIELD_PLAN_SUPERFRAME_MS] == 70000);
+}
+
+/* Its book works as any, but has no image: that is said behind a time that is too early, and before want of room. */
+static void manage_eight_units(void)
+{
+    uint8_t plan[BRAIDLARK_PLAN_SIZE], book[BRAIDLARK_BOOK_SIZE], image[BRAIDLARK_MOST_IMAGE];
+    uint32_t written = 1;
+    plan_eight_units(plan);
+    EXPECT(braidlark_book_fresh(book, sizeof book, plan, sizeof plan, NOW) == BRAIDLARK_ACCEPTED);
+    EXPECT(memcmp(book, plan, sizeof plan) == 0);
+    EXPECT(braidlark_heard(book, sizeof book, MANAGER, NOW) == BRAIDLARK_ACCEPTED);
+    EXPECT(braidlark_image(book, sizeof book, NOW - 1, image, 0, &written) == BRAIDLARK_TOO_EARLY);
+    EXPECT(braidlark_image(book, sizeof book, NOW, image, 0, &written) == BRAIDLARK_OUT_OF_RULE);
+    EXPECT(braidlark_image(book, sizeof book, NOW, image, sizeof image, &written) == BRAIDLARK_OUT_OF_RULE);
+    EXPECT(written == 1);
+}
+
 static void manage_a_site(void)
 {
     uint8_t book[BRAIDLARK_BOOK_SIZE];
+    choose_beacons();
     make_book(book);
     join(book);
     ask_for_fewer(book);
@@ -355,14 +404,84 @@ static void hear_beacon(uint8_t *table)
     EXPECT(length == BRAIDLARK_LENGTH_BEACON);
     EXPECT(braidlark_clock_step(&offset, NOW, NETWORK, frame, length) == BRAIDLARK_ACCEPTED);
     EXPECT(offset == 35); /* 70 ms behind the network: half of that is made good */
-    EXPECT(braidlark_forward(table, BRAIDLARK_TABLE_SIZE, NETWORK, frame, length, 30, NOW, out, sizeof out, &written) ==
-           BRAIDLARK_ACCEPTED);
+    EXPECT(braidlark_forward(table, BRAIDLARK_TABLE_SIZE, NETWORK, 0, frame, length, 30, NOW, out, sizeof out,
+                             &written) == BRAIDLARK_BAD_FIELD);
+    EXPECT(braidlark_forward(table, BRAIDLARK_TABLE_SIZE, NETWORK, MANAGER, frame, length, 0xFFFFFFFFu - 69, NOW, out,
+                             sizeof out, &written) == BRAIDLARK_BAD_FIELD);
+    EXPECT(written == 0);
+    EXPECT(braidlark_forward(table, BRAIDLARK_TABLE_SIZE, NETWORK, FAR_UNIT, frame, length, 30, NOW, out, sizeof out,
+                             &written) == BRAIDLARK_ACCEPTED); /* it says itself whose it was */
     EXPECT(written == BRAIDLARK_LENGTH_BEACON);
     read_whole(out, sizeof out, fields);
+    EXPECT(fields[BRAIDLARK_FIELD_TYPE] == BRAIDLARK_TYPE_BEACON);
     EXPECT(fields[BRAIDLARK_FIELD_BEACON_SOURCE] == UNIT && fields[BRAIDLARK_FIELD_BEACON_HOP] == 1);
-    EXPECT(fields[BRAIDLARK_FIELD_BEACON_DELAY] == 100);
-    EXPECT(braidlark_forward(table, BRAIDLARK_TABLE_SIZE, NETWORK, frame, length, 30, NOW, out, sizeof out, &written) ==
-           BRAIDLARK_NOT_OURS);
+    EXPECT(fields[BRAIDLARK_FIELD_BEACON_ORIGINAL_SOURCE] == MANAGER && fields[BRAIDLARK_FIELD_BEACON_DELAY] == 100);
+    EXPECT(braidlark_forward(table, BRAIDLARK_TABLE_SIZE, NETWORK, MANAGER, frame, length, 30, NOW, out, sizeof out,
+                             &written) == BRAIDLARK_NOT_OURS);
+}
+
+/* The manager's own short beacon of a time, 70 ms on its way. */
+static uint32_t write_short_beacon(uint8_t *frame, uint32_t time, uint32_t sequence)
+{
+    uint32_t fields[BRAIDLARK_FIELDS_SHORT_BEACON] = {BRAIDLARK_TYPE_SHORT_BEACON};
+    fields[BRAIDLARK_FIELD_SHORT_BEACON_SOURCE] = MANAGER;
+    fields[BRAIDLARK_FIELD_SHORT_BEACON_NETWORK] = NETWORK;
+    fields[BRAIDLARK_FIELD_SHORT_BEACON_TOTAL_SLOTS] = SLOTS;
+    fields[BRAIDLARK_FIELD_SHORT_BEACON_SLOT_MS] = SLOT_MS;
+    fields[BRAIDLARK_FIELD_SHORT_BEACON_HOP] = 0;
+    fields[BRAIDLARK_FIELD_SHORT_BEACON_ORIGINAL_TIME] = time;
+    fields[BRAIDLARK_FIELD_SHORT_BEACON_DELAY] = 70;
+    fields[BRAIDLARK_FIELD_SHORT_BEACON_MAX_HOPS] = MAX_HOPS;
+    fields[BRAIDLARK_FIELD_SHORT_BEACON_SEQUENCE] = sequence;
+    return write_whole(fields, BRAIDLARK_FIELDS_SHORT_BEACON, NULL, 0, frame);
+}
+
+/* It goes by the manager handed in, is not forwarded again as the other kind, and has 16 bits for its delay. */
+static void refuse_short_beacon(uint8_t *table)
+{
+    static const struct {
+        uint32_t sequence, delay;
+        uint16_t manager;
+        uint8_t room, refusal;
+    } cases[] = {
+        {10, 30, 0, BRAIDLARK_LENGTH_SHORT_BEACON, BRAIDLARK_BAD_FIELD},
+        {10, 30, BRAIDLARK_EVERY_UNIT, BRAIDLARK_LENGTH_SHORT_BEACON, BRAIDLARK_BAD_FIELD},
+        {10, 30, UNIT, BRAIDLARK_LENGTH_SHORT_BEACON, BRAIDLARK_NO_ROUTE},
+        {10, 30, STRANGER, BRAIDLARK_LENGTH_SHORT_BEACON, BRAIDLARK_NO_ROUTE},
+        {10, 30, FAR_UNIT, BRAIDLARK_LENGTH_SHORT_BEACON, BRAIDLARK_NOT_OURS},
+        {9, 30, MANAGER, BRAIDLARK_LENGTH_SHORT_BEACON, BRAIDLARK_NOT_OURS},
+        {10, 65536 - 70, MANAGER, 0, BRAIDLARK_BAD_FIELD},
+        {10, 65535 - 70, MANAGER, BRAIDLARK_LENGTH_SHORT_BEACON - 1, BRAIDLARK_NO_SPACE},
+    };
+    uint8_t frame[BRAIDLARK_MOST_FRAME], out[BRAIDLARK_LENGTH_SHORT_BEACON], before[BRAIDLARK_TABLE_SIZE];
+    uint32_t written = 1;
+    size_t each;
+    memcpy(before, table, sizeof before);
+    for (each = 0; each < sizeof cases / sizeof cases[0]; each++) {
+        uint32_t length = write_short_beacon(frame, NOW, cases[each].sequence);
+        EXPECT(braidlark_forward(table, BRAIDLARK_TABLE_SIZE, NETWORK, cases[each].manager, frame, length,
+                                 cases[each].delay, NOW, out, cases[each].room, &written) == cases[each].refusal);
+    }
+    EXPECT(written == 1 && memcmp(before, table, sizeof before) == 0);
+}
+
+static void hear_short_beacon(uint8_t *table)
+{
+    static const uint32_t numbers[BRAIDLARK_FIELDS_SHORT_BEACON] = {
+        BRAIDLARK_TYPE_SHORT_BEACON, UNIT, NETWORK, SLOTS, SLOT_MS, 1, NOW, 65535, MAX_HOPS, 10};
+    uint8_t frame[BRAIDLARK_MOST_FRAME], out[BRAIDLARK_LENGTH_SHORT_BEACON], skipped = 1;
+    uint32_t fields[BRAIDLARK_MOST_FIELDS], written = 0, length = write_short_beacon(frame, NOW, 10), offset = 0;
+    EXPECT(length == BRAIDLARK_LENGTH_SHORT_BEACON);
+    EXPECT(braidlark_clock_step(&offset, NOW, NETWORK, frame, length) == BRAIDLARK_ACCEPTED);
+    EXPECT(offset == 35);
+    EXPECT(braidlark_merge(table, BRAIDLARK_TABLE_SIZE, frame, length, QUALITY, NOW, &skipped) == BRAIDLARK_BAD_TYPE);
+    EXPECT(braidlark_forward(table, BRAIDLARK_TABLE_SIZE, NETWORK, MANAGER, frame, length, 65535 - 70, NOW, out,
+                             sizeof out, &written) == BRAIDLARK_ACCEPTED);
+    EXPECT(written == BRAIDLARK_LENGTH_SHORT_BEACON);
+    read_whole(out, sizeof out, fields);
+    EXPECT(memcmp(fields, numbers, sizeof numbers) == 0);
+    EXPECT(braidlark_forward(table, BRAIDLARK_TABLE_SIZE, NETWORK, MANAGER, frame, length, 30, NOW, out, sizeof out,
+                             &written) == BRAIDLARK_NOT_OURS);
 }
 
 static void forget(uint8_t *table)
@@ -396,6 +515,8 @@ static void be_a_unit(void)
     relay(table);
     relay_own(table);
     hear_beacon(table);
+    refuse_short_beacon(table);
+    hear_short_beacon(table);
     forget(table);
     live();
 }
@@ -472,6 +593,7 @@ int main(void)
     write_none_and_more();
     write_wrong_numbers();
     manage_a_site();
+    manage_eight_units();
     be_a_unit();
     pass_the_top();
     printf("every_call: %u of %u checks hold\n", checks - failures, checks);

@@ -78,12 +78,14 @@ static void make_frames(struct scene *made)
                                70,
                                3,
                                9};
+    const uint32_t short_beacon[] = {BRAIDLARK_TYPE_SHORT_BEACON, MANAGER, NETWORK, 100, 20, 0, NOW, 70, 3, 9};
     const uint32_t join[] = {BRAIDLARK_TYPE_JOIN_REQUEST, NEWCOMER, 0, NETWORK, 4};
     const uint32_t slots[] = {BRAIDLARK_TYPE_SLOT_REQUEST, FIRST_MEMBER, 4, 0, 0};
     memcpy(made->data_fields, data, sizeof data);
     memcpy(made->beacon_fields, beacon, sizeof beacon);
     write_frame(data, BRAIDLARK_FIELDS_DATA, made->payload, sizeof made->payload, made->data);
     write_frame(beacon, BRAIDLARK_FIELDS_BEACON, NULL, 0, made->beacon);
+    write_frame(short_beacon, BRAIDLARK_FIELDS_SHORT_BEACON, NULL, 0, made->short_beacon);
     write_frame(join, BRAIDLARK_FIELDS_JOIN_REQUEST, NULL, 0, made->join_request);
     write_frame(slots, BRAIDLARK_FIELDS_SLOT_REQUEST, NULL, 0, made->slot_request);
 }
@@ -105,7 +107,8 @@ static void join_members(struct scene *made, uint32_t first, int count, uint32_t
  * four. */
 static void make_book(struct scene *made, int mixed)
 {
-    need(braidlark_plan(made->plan, sizeof made->plan, NETWORK, MANAGER, 1, mixed ? 20 : 21, mixed ? 23 : 22, 20),
+    need(braidlark_plan(made->plan, sizeof made->plan, NETWORK, MANAGER, 1, mixed ? 20 : 21, mixed ? 23 : 22, 20,
+                        BRAIDLARK_TYPE_BEACON),
          "a plan");
     need(braidlark_book_fresh(made->book, sizeof made->book, made->plan, sizeof made->plan, LONG_AGO), "a book");
     if (mixed) {

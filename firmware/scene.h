@@ -14,6 +14,7 @@ struct scene {
     uint8_t table[BRAIDLARK_TABLE_SIZE], state[BRAIDLARK_STATE_SIZE];
     uint8_t plan[BRAIDLARK_PLAN_SIZE], book[BRAIDLARK_BOOK_SIZE], image[BRAIDLARK_MOST_IMAGE];
     uint8_t update[BRAIDLARK_MOST_FRAME], data[BRAIDLARK_MOST_FRAME], beacon[BRAIDLARK_MOST_FRAME];
+    uint8_t short_beacon[BRAIDLARK_MOST_FRAME];
     uint8_t join_request[BRAIDLARK_MOST_FRAME], slot_request[BRAIDLARK_MOST_FRAME];
     uint32_t beacon_fields[BRAIDLARK_FIELDS_BEACON], data_fields[BRAIDLARK_FIELDS_DATA];
     uint8_t payload[BRAIDLARK_MOST_PAYLOAD];

@@ -83,8 +83,14 @@ static uint8_t call_relay(void)
 
 static uint8_t call_forward(void)
 {
-    return braidlark_forward(scene.table, sizeof scene.table, NETWORK, scene.beacon, BRAIDLARK_LENGTH_BEACON, 5, NOW,
-                             scene.out, sizeof scene.out, &scene.length);
+    return braidlark_forward(scene.table, sizeof scene.table, NETWORK, MANAGER, scene.beacon, BRAIDLARK_LENGTH_BEACON,
+                             5, NOW, scene.out, sizeof scene.out, &scene.length);
+}
+
+static uint8_t call_forward_short(void)
+{
+    return braidlark_forward(scene.table, sizeof scene.table, NETWORK, MANAGER, scene.short_beacon,
+                             BRAIDLARK_LENGTH_SHORT_BEACON, 5, NOW, scene.out, sizeof scene.out, &scene.length);
 }
 
 static uint8_t call_state_fresh(void)
@@ -107,9 +113,14 @@ static uint8_t call_clock_step(void)
     return braidlark_clock_step(&scene.offset, NOW, NETWORK, scene.beacon, BRAIDLARK_LENGTH_BEACON);
 }
 
+static uint8_t call_clock_step_short(void)
+{
+    return braidlark_clock_step(&scene.offset, NOW, NETWORK, scene.short_beacon, BRAIDLARK_LENGTH_SHORT_BEACON);
+}
+
 static uint8_t call_plan(void)
 {
-    return braidlark_plan(scene.plan, sizeof scene.plan, NETWORK, MANAGER, 1, 21, 22, 20);
+    return braidlark_plan(scene.plan, sizeof scene.plan, NETWORK, MANAGER, 1, 21, 22, 20, BRAIDLARK_TYPE_BEACON);
 }
 
 static uint8_t call_plan_numbers(void)
@@ -175,11 +186,13 @@ static const struct {
     {"lookup", call_lookup},
     {"page", call_page},
     {"relay", call_relay},
-    {"forward", call_forward},
+    {"forward, a beacon", call_forward},
+    {"forward, a short beacon", call_forward_short},
     {"state_fresh", call_state_fresh},
     {"state_event", call_state_event},
     {"state_tick", call_state_tick},
-    {"clock_step", call_clock_step},
+    {"clock_step, a beacon", call_clock_step},
+    {"clock_step, a short beacon", call_clock_step_short},
     {"plan", call_plan},
     {"plan_numbers", call_plan_numbers},
     {"book_fresh", call_book_fresh},

@@ -53,7 +53,7 @@ extern "C" {
  * ---- the version of this interface: MAJOR is raised where a name, a call or a buffer's length changes, MINOR where
  * something is only added; docs/changes says what a caller has to change
  */
-#define BRAIDLARK_VERSION_MAJOR 3
+#define BRAIDLARK_VERSION_MAJOR 4
 #define BRAIDLARK_VERSION_MINOR 0
 
 /* ---- refusals; braidlark_refusal_text says what each means */
@@ -83,7 +83,7 @@ static inline const char *braidlark_refusal_text(int number)
         "frame empty, over 255 bytes, or not as long as its type and count say",
         "type unknown, or not one that the call wants",
         "checksum not that of the bytes before it",
-        "a field rule broken, or a sum of delays over 2^32 - 1",
+        "a field rule broken, or a sum of delays that its kind of beacon has no room for",
         "output buffer shorter than what would be written",
         "the frame's sender, or the unit to forget, is this unit",
         "event not allowed in this state",
@@ -105,11 +105,11 @@ static inline const char *braidlark_refusal_text(int number)
 #define BRAIDLARK_MOST_PAYLOAD 245
 #define BRAIDLARK_MOST_ENTRIES 24 /* entries of one update */
 #define BRAIDLARK_ENTRY_SIZE 10
-#define BRAIDLARK_MOST_FIELDS 15 /* numbers of the frame with the most, a beacon: its type and 14 fields */
+#define BRAIDLARK_MOST_FIELDS 15 /* numbers of the frame with the most, a long beacon: its type and 14 fields */
 #define BRAIDLARK_TABLE_SIZE 539
 #define BRAIDLARK_STATE_SIZE 13
-#define BRAIDLARK_PLAN_SIZE 9
-#define BRAIDLARK_BOOK_SIZE 307
+#define BRAIDLARK_PLAN_SIZE 10
+#define BRAIDLARK_BOOK_SIZE 308
 #define BRAIDLARK_RESPONSES_SIZE 65 /* of a join or a slot request: five frames of 13 */
 #define BRAIDLARK_MOST_SLOTS 100    /* slots of a superframe, which are the bytes of a schedule */
 #define BRAIDLARK_MOST_IMAGE 230
@@ -123,12 +123,13 @@ static inline const char *braidlark_refusal_text(int number)
 #define BRAIDLARK_LENGTH_DISCOVERY_RESPONSE 13
 #define BRAIDLARK_LENGTH_UPDATE 9 /* and BRAIDLARK_ENTRY_SIZE for each entry */
 #define BRAIDLARK_LENGTH_BEACON 34
+#define BRAIDLARK_LENGTH_SHORT_BEACON 19
 
 /* ---- numbers that fields may or must hold */
 #define BRAIDLARK_LOWEST_ADDRESS 1
 #define BRAIDLARK_HIGHEST_ADDRESS 0xFFFE
-#define BRAIDLARK_EVERY_UNIT 0xFFFF   /* a beacon's destination, and no unit's address */
-#define BRAIDLARK_BEACON_BODY_SIZE 27 /* a beacon's size field */
+#define BRAIDLARK_EVERY_UNIT 0xFFFF   /* a long beacon's destination, and no unit's address */
+#define BRAIDLARK_BEACON_BODY_SIZE 27 /* a long beacon's size field */
 #define BRAIDLARK_STATUS_ACCEPTED 0   /* of a join response, with a slot below BRAIDLARK_MOST_SLOTS */
 #define BRAIDLARK_STATUS_REFUSED 1    /* of a join response, with BRAIDLARK_NO_SLOT */
 #define BRAIDLARK_NO_SLOT 0xFFFF
@@ -148,7 +149,8 @@ static inline const char *braidlark_refusal_text(int number)
 #define BRAIDLARK_FEWEST_ROWS 2
 #define BRAIDLARK_MOST_DATA_SLOTS 44
 #define BRAIDLARK_MOST_ACTIVE_SLOTS 50
-#define BRAIDLARK_LONGEST_PLAN_MS 65535 /* of a superframe, all slots together */
+#define BRAIDLARK_LONGEST_SLOT_MS 65535
+#define BRAIDLARK_LONGEST_PLAN_MS 65535 /* of a superframe, all slots together, where beacons are long */
 
 /* ---- greatest ages, in ms */
 #define BRAIDLARK_USABLE_MS 300000   /* of a route that is used */
@@ -170,7 +172,8 @@ static inline const char *braidlark_refusal_text(int number)
 #define BRAIDLARK_TYPE_DISCOVERY_REQUEST 0x24
 #define BRAIDLARK_TYPE_DISCOVERY_RESPONSE 0x25
 #define BRAIDLARK_TYPE_UPDATE 0x31
-#define BRAIDLARK_TYPE_BEACON 0x46
+#define BRAIDLARK_TYPE_BEACON 0x46 /* the long one, where two kinds have to be told apart */
+#define BRAIDLARK_TYPE_SHORT_BEACON 0x47
 
 /* ---- where each field stands among a frame's numbers, and how many numbers there are */
 enum { BRAIDLARK_FIELD_TYPE };
@@ -250,6 +253,18 @@ enum {
     BRAIDLARK_FIELD_BEACON_MAX_HOPS,
     BRAIDLARK_FIELD_BEACON_SEQUENCE,
     BRAIDLARK_FIELDS_BEACON
+};
+enum {
+    BRAIDLARK_FIELD_SHORT_BEACON_SOURCE = 1,
+    BRAIDLARK_FIELD_SHORT_BEACON_NETWORK,
+    BRAIDLARK_FIELD_SHORT_BEACON_TOTAL_SLOTS,
+    BRAIDLARK_FIELD_SHORT_BEACON_SLOT_MS,
+    BRAIDLARK_FIELD_SHORT_BEACON_HOP,
+    BRAIDLARK_FIELD_SHORT_BEACON_ORIGINAL_TIME,
+    BRAIDLARK_FIELD_SHORT_BEACON_DELAY,
+    BRAIDLARK_FIELD_SHORT_BEACON_MAX_HOPS,
+    BRAIDLARK_FIELD_SHORT_BEACON_SEQUENCE,
+    BRAIDLARK_FIELDS_SHORT_BEACON
 };
 
 /* ---- states, the first byte of a stored state, and events */
@@ -354,9 +369,13 @@ uint8_t braidlark_relay(const uint8_t *table, size_t table_length, const uint8_t
                         uint32_t *length);
 
 /* Forwards a beacon of this network with this delay added, the ms until the copy goes out, and says how many bytes were
- * written. The unit sends the copy in the beacon slot of its own hop, which is the copy's.
- * Refusals: 14 1 2 1 3 4 6 15 8 11 16 4 5. */
-uint8_t braidlark_forward(uint8_t *table, size_t table_length, uint16_t network, const uint8_t *frame,
+ * written. The unit sends the copy in the beacon slot of its own hop, which is the copy's. Either kind is taken,
+ * whatever this unit's plan says, and the copy has the kind that was heard. A short beacon does not say whose it was at
+ * first: that is the manager handed in, the one of the plan. A long one does, so that it goes by its own original
+ * source; the manager has to be an address all the same. A beacon that was forwarded is not forwarded again as the
+ * other kind (16). Delays may come to 65,535 ms in a short beacon, to 2^32 - 1 ms in a long one.
+ * Refusals: 14 1 2 1 3 4 6 15 8 11 16 4 (the sum of delays) 5. */
+uint8_t braidlark_forward(uint8_t *table, size_t table_length, uint16_t network, uint16_t manager, const uint8_t *frame,
                           size_t frame_length, uint32_t delay, uint32_t time, uint8_t *out, size_t out_length,
                           uint32_t *written);
 
@@ -374,18 +393,22 @@ uint8_t braidlark_state_tick(uint8_t *state, size_t state_length, uint32_t super
 
 /* ---- a unit's clock */
 
-/* Steps the offset by a beacon of this network that came in at a local time. Local time plus offset, modulo 2^32, is
- * network time; the offset is any number of 32 bits, at first 0, and 2^32 - 1 is 1 ms back. The drift from network time
- * is taken modulo 2^32 too, as a number from -2^31 to 2^31 - 1. Refusals: 1 2 1 3 4 15. */
+/* Steps the offset by a beacon of this network, of either kind, that came in at a local time. Local time plus offset,
+ * modulo 2^32, is network time; the offset is any number of 32 bits, at first 0, and 2^32 - 1 is 1 ms back. The drift
+ * from network time is taken modulo 2^32 too, as a number from -2^31 to 2^31 - 1. Refusals: 1 2 1 3 4 15. */
 uint8_t braidlark_clock_step(uint32_t *offset, uint32_t local_time, uint16_t network, const uint8_t *frame,
                              size_t frame_length);
 
 /* ---- the manager's plan, BRAIDLARK_PLAN_SIZE bytes, and book, BRAIDLARK_BOOK_SIZE bytes */
 
-/* Makes the plan of a site. A number that is too large is refused, not cut: 260 rows are not 4.
- * Refusals: 14 (the buffer's length, or any rule of a plan). */
+/* Makes the plan of a site. The last number is the kind of beacons that its manager sends, BRAIDLARK_TYPE_BEACON or
+ * BRAIDLARK_TYPE_SHORT_BEACON: the plan says so, and braidlark_write writes either. A slot has 1 to
+ * BRAIDLARK_LONGEST_SLOT_MS. A long beacon says the ms of a superframe, which are BRAIDLARK_LONGEST_PLAN_MS at most; a
+ * short one does not, and then there is no such limit. But units whose firmware is of before version 4 take a short
+ * beacon for a frame of no known type (2), and a book whose plan has short ones has no image. A number that is too
+ * large is refused, not cut: 260 rows are not 4. Refusals: 14 (the buffer's length, or any rule of a plan). */
 uint8_t braidlark_plan(uint8_t *plan, size_t plan_length, uint16_t network, uint16_t manager, uint32_t max_hops,
-                       uint32_t rows, uint32_t data_slots, uint32_t slot_ms);
+                       uint32_t rows, uint32_t data_slots, uint32_t slot_ms, uint32_t beacon);
 
 /* Tells the BRAIDLARK_FIELDS_PLAN numbers of a plan: how many slots it has, how long a superframe is, and where each
  * region of slots begins. Refusals: 14 (the plan's length, or any rule of a plan) 5. */
@@ -396,9 +419,10 @@ uint8_t braidlark_plan_numbers(const uint8_t *plan, size_t plan_length, uint32_t
 uint8_t braidlark_book_fresh(uint8_t *book, size_t book_length, const uint8_t *plan, size_t plan_length, uint32_t time);
 
 /* Lets a unit join: writes a response for its control slot and for each data slot that it then holds, ascending, with
- * the call's time as superframe time, and says how many bytes they have. Store the book's image before they go out:
- * after a power cut the manager would else give away slots that a unit counts on. A refusal writes no response: where
- * no row is free (12), write one to the unit with braidlark_write, of BRAIDLARK_STATUS_REFUSED and BRAIDLARK_NO_SLOT.
+ * the call's time as superframe time, and says how many bytes they have. Store the book's image, where its plan has
+ * one, before they go out: after a power cut the manager would else give away slots that a unit counts on. A refusal
+ * writes no response: where no row is free (12), write one to the unit with braidlark_write, of
+ * BRAIDLARK_STATUS_REFUSED and BRAIDLARK_NO_SLOT.
  * Refusals: 14 1 2 1 3 4 6 15 8 12 5. */
 uint8_t braidlark_join(uint8_t *book, size_t book_length, const uint8_t *frame, size_t frame_length, uint32_t time,
                        uint8_t *out, size_t out_length, uint32_t *written);
@@ -423,12 +447,17 @@ uint8_t braidlark_schedule(const uint8_t *book, size_t book_length, uint16_t uni
 /* ---- the stored image of a book, at most BRAIDLARK_MOST_IMAGE bytes */
 
 /* Writes the image of a book, its live members alone, and says how many bytes it has. It is all that a manager has to
- * keep over a power cut. There is no time in it: it changes only where members or slots do. Refusals: 14 8 5. */
+ * keep over a power cut. There is no time in it: it changes only where members or slots do.
+ *
+ * An image does not say the kind of beacons: its plan is one with long ones, and of a plan with short ones there is
+ * none (14). A manager that lost such a book cannot know who holds what. It makes a fresh one, but not before its power
+ * has been back for BRAIDLARK_LIVE_MS, since units may count on their slots for so long.
+ * Refusals: 14 8 14 (short beacons) 5. */
 uint8_t braidlark_image(const uint8_t *book, size_t book_length, uint32_t time, uint8_t *out, size_t out_length,
                         uint32_t *written);
 
-/* Makes the book of an image, every time the given one: each member is live for BRAIDLARK_LIVE_MS from then on.
- * Refusals: 14 (the buffer's length, or the image). */
+/* Makes the book of an image, every time the given one: each member is live for BRAIDLARK_LIVE_MS from then on. The
+ * plan of the book has long beacons. Refusals: 14 (the buffer's length, or the image). */
 uint8_t braidlark_restore(uint8_t *book, size_t book_length, const uint8_t *image, size_t image_length, uint32_t time);
 
 #ifdef __cplusplus

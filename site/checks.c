@@ -33,7 +33,7 @@ static int check_fresh(struct site *site, int unit, uint16_t next_hop)
  * usable. */
 static void check_loss(struct site *site, int unit, int next)
 {
-    uint64_t gone_for = site->now - site->units[next].silent_since;
+    uint64_t gone_for = site->now - site->units[next].switched;
     if (gone_for > BRAIDLARK_USABLE_MS) {
         fail(site, "%s hands a frame to %s, which is gone for %u ms", site->units[unit].name, site->units[next].name,
              (unsigned)gone_for);
@@ -100,13 +100,14 @@ void check_air(struct site *site, int slot)
 /* The clocks of those who send agree with the network's time as closely as the slots need. */
 void check_clocks(struct site *site)
 {
+    uint32_t tolerance = plan_clock_tolerance_ms(&site->plan);
     for (int unit = 0; unit < UNITS; unit++) {
         if (!site->units[unit].powered || !unit_sends(site, unit)) {
             continue;
         }
         uint32_t ahead = unit_network_time(site, unit) - unit_time(site, OFFICE), behind = 0 - ahead;
         uint32_t error = ahead < behind ? ahead : behind;
-        if (error > CLOCK_TOLERANCE_MS) {
+        if (error > tolerance) {
             fail(site, "the clock of %s is %u ms off", site->units[unit].name, (unsigned)error);
         }
         if (error > site->tally.worst_clock_ms) {
@@ -121,7 +122,7 @@ void check_silence(struct site *site, int unit, uint8_t before)
 {
     const struct unit *self = &site->units[unit];
     uint64_t silence = unit_wide_time(site, unit) - self->beacon_taken;
-    uint8_t expected = silence > 3 * SUPERFRAME_MS ? BRAIDLARK_RECOVERY : BRAIDLARK_NORMAL;
+    uint8_t expected = silence > 3 * site->plan.superframe_ms ? BRAIDLARK_RECOVERY : BRAIDLARK_NORMAL;
     if (before == BRAIDLARK_NORMAL && self->state[0] != expected) {
         fail(site, "%s heard a beacon %u ms ago and goes to state %d", self->name, (unsigned)silence, self->state[0]);
     }
@@ -191,8 +192,8 @@ static void check_ways(struct site *site)
 static void check_joining(struct site *site)
 {
     static const int GONE[] = {MIDDLE_RELAY, BENCH_5};
-    if (!site->live[BENCH_9]) {
-        fail(site, "bench 9 never got into the book");
+    if (!site->live[BENCH_9] || site->silence.inherited == 0) {
+        fail(site, "bench 9 never got into the book, or not in the relay's place");
     }
     if (site->cut.recovered == 0) {
         fail(site, "the site did not get over the power cut");
@@ -205,15 +206,17 @@ static void check_joining(struct site *site)
 }
 
 /* The end of the night: every order that had time to arrive did, where there was a way in the end. For as long as a
- * route outlives its next hop, orders may be lost. */
+ * route outlives its next hop, orders may be lost. One that was open while its head was cut off, or had to join anew,
+ * may have been replaced instead; one whose head was taken out was withdrawn. */
 void check_end(struct site *site)
 {
     check_ways(site);
     check_joining(site);
     for (int number = 0; number < site->manager.order_count; number++) {
         const struct order *order = &site->manager.orders[number];
-        bool had_way = order->head != BENCH_5 || (site->live[BENCH_5] && !order->replaced);
-        if (!order->arrived && had_way && site->now - order->given >= BRAIDLARK_USABLE_MS) {
+        bool cut_off = order->head == BENCH_5 || order->head_rejoins;
+        bool had_way = !cut_off || (site->live[order->head] && !order->replaced);
+        if (!order->arrived && !order->withdrawn && had_way && site->now - order->given >= BRAIDLARK_USABLE_MS) {
             fail(site, "order %d for %s never arrived", number + 1, site->units[order->head].name);
         }
     }

@@ -90,14 +90,18 @@ static void draw_head(const struct site *site, FILE *file)
 
 void drawing_write(const struct site *site, FILE *file)
 {
-    uint64_t unbolted = site->script.unbolted, cut = site->script.power_fails, end = site->script.end;
+    uint64_t unbolted = site->script.unbolted, end = site->script.end;
+    uint64_t cut_from = site->script.power_fails - 3 * MINUTE, cut_to = site->script.settled;
+    uint64_t cut_tick = tick_for(cut_to - cut_from);
+    const char *cut_title =
+        site->cut.book_lost ? "The power cut in the office: routes and book are lost, every member joins anew"
+                            : "The power cut in the office: the routes are lost and learned again, every slot is kept";
     int first = FIRST_TOP, second = first + PANEL_STEP, third = second + PANEL_STEP;
     const struct panel panels[PANELS] = {
         {site, file, first, "The whole night", 0, end, tick_for(end), false},
         {site, file, second, "The relay is unbolted: its slots go to bench 9, its orders go round it",
          unbolted - 4 * MINUTE, unbolted + 11 * MINUTE, 2 * MINUTE, true},
-        {site, file, third, "The power cut in the office: the routes are lost and learned again, every slot is kept",
-         cut - 3 * MINUTE, cut + 9 * MINUTE, 2 * MINUTE, true},
+        {site, file, third, cut_title, cut_from, cut_to, cut_tick < 2 * MINUTE ? 2 * MINUTE : cut_tick, true},
     };
     draw_head(site, file);
     for (int index = 0; index < PANELS; index++) {

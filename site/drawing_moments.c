@@ -73,8 +73,8 @@ void drawing_moments(const struct panel *panel)
         {script->clock_top, "clocks begin again at 0", true},
         {script->power_fails, "power fails", false},
         {script->power_returns, "power back", true},
-        {cut->restored, "book restored", true},
-        {cut->recovered, "all have spoken again", true},
+        {cut->restored, cut->book_lost ? "a fresh book" : "book restored", true},
+        {cut->recovered, cut->book_lost ? "all have joined anew" : "all have spoken again", true},
         {script->returned, "relay back", false},
         {script->taken_out, "bench 8 taken out", false},
     };
@@ -115,5 +115,10 @@ void drawing_ages(const struct panel *panel)
              "row and slots are kept for the relay");
     draw_age(panel, site->silence.last_update, BRAIDLARK_USABLE_MS, WAYS_TOP, PANEL_HEIGHT,
              "routes by the relay are used");
-    draw_age(panel, site->cut.restored, BRAIDLARK_LIVE_MS, 0, SLOTS_HEIGHT, "every member has to speak again");
+    if (site->cut.book_lost) {
+        draw_age(panel, site->script.power_returns, BRAIDLARK_LIVE_MS, 0, SLOTS_HEIGHT,
+                 "the office waits until nobody counts on the lost book");
+    } else {
+        draw_age(panel, site->cut.restored, BRAIDLARK_LIVE_MS, 0, SLOTS_HEIGHT, "every member has to speak again");
+    }
 }

@@ -65,7 +65,10 @@ static uint64_t next_given(const struct site *site, int number)
 static uint64_t end_of(const struct site *site, int number)
 {
     const struct order *order = &site->manager.orders[number];
-    return order->arrived ? order->arrival : order->replaced ? next_given(site, number) : site->script.end;
+    return order->arrived     ? order->arrival
+           : order->replaced  ? next_given(site, number)
+           : order->withdrawn ? site->script.taken_out
+                              : site->script.end;
 }
 
 /* The part of an order's line within a stretch in which the way was known, or not. */

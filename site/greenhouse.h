@@ -17,16 +17,14 @@
 
 #include "braidlark.h"
 
-/* The plan: 12 rows, and 13 units that will want one. Slots of 200 ms leave room for the 50 ms by which the
- * clock step lets a unit's clock be off, on either side of 100 ms of air. */
-enum {
-    NETWORK = 1,
-    MOST_HOPS = 4,
-    MEMBER_ROWS = 12,
-    DATA_SLOTS = 20,
-    SLOT_MS = 200,
-    SUPERFRAME_MS = BRAIDLARK_MOST_SLOTS * SLOT_MS,
-    CLOCK_TOLERANCE_MS = 60
+/* Of the plan: 12 rows, and 13 units that will want one. */
+enum { NETWORK = 1, MOST_HOPS = 4, MEMBER_ROWS = 12, DATA_SLOTS = 20 };
+
+/* The rest of the plan, which goes by the kind of beacons. */
+struct plan {
+    uint32_t beacon; /* the kind: BRAIDLARK_TYPE_BEACON or BRAIDLARK_TYPE_SHORT_BEACON */
+    uint32_t slot_ms;
+    uint32_t superframe_ms;
 };
 
 /* The units, in the order of their places in the struct. */
@@ -47,6 +45,9 @@ enum {
     UNITS,
     NOBODY = -1
 };
+
+/* When relays and heads are switched on in the evening, one after the other. */
+enum { RELAYS_FROM_MS = 60000, RELAYS_EVERY_MS = 60000, HEADS_FROM_MS = 300000, HEADS_EVERY_MS = 40000 };
 
 enum {
     QUEUE_LENGTH = 24,
@@ -98,7 +99,7 @@ struct unit {
     uint16_t address;
     uint8_t wanted_slots;
     bool powered;
-    uint64_t silent_since; /* where it is not powered */
+    uint64_t switched; /* when its power came or went */
     int32_t skew_ms;
     int32_t drift_ppm;
     bool began_again; /* its clock, at 0 */
@@ -134,8 +135,10 @@ struct order {
     int lost_at_silent;
     bool arrived;
     bool confirmed;
-    bool replaced; /* by a later order for the same head */
+    bool replaced;  /* by a later order for the same head */
+    bool withdrawn; /* as its head was taken out */
     bool waits_for_route;
+    bool head_rejoins; /* its head had to join anew while the order was open, as the book was lost */
     uint64_t arrival;
     int carriers[MOST_CARRIERS];
     int carrier_count;
@@ -176,8 +179,9 @@ struct schedules {
 struct cut {
     struct schedules before;
     int members;        /* in them, other than the office */
-    uint64_t restored;  /* when the office had its book again, 0 before */
-    uint64_t recovered; /* when every member had spoken again, 0 before */
+    bool book_lost;     /* for ever, as there was no image of it */
+    uint64_t restored;  /* when the office had its book again, or a fresh one where it was lost; 0 before */
+    uint64_t recovered; /* when every member had spoken again, or had joined anew; 0 before */
 };
 
 struct change {
@@ -217,6 +221,7 @@ struct script {
     uint64_t clock_top; /* the office's clock, which is the network's time, begins again at 0 */
     uint64_t power_fails;
     uint64_t power_returns;
+    uint64_t settled; /* what the power cut brought about is over */
     uint64_t returned;
     uint64_t taken_out;
     uint64_t end;
@@ -226,6 +231,7 @@ struct script {
 struct silence {
     int row;              /* NOBODY before */
     uint32_t held;        /* data slots, one bit each */
+    uint32_t inherited;   /* of them, those that bench 9 got */
     uint64_t last_word;   /* when a frame of it came in last, from which its place in the book grows old */
     uint64_t last_update; /* the same of an update, from which the routes by it do */
 };
@@ -239,6 +245,8 @@ struct turns {
 
 struct tally {
     uint32_t packets;
+    uint32_t beacons;
+    uint32_t beacon_bytes;
     uint32_t lost_on_links;
     uint32_t handed_over;
     uint32_t without_route;
@@ -254,6 +262,7 @@ struct tally {
 struct site {
     uint64_t now;
     uint32_t random;
+    struct plan plan;
     struct script script;
     struct turns turns;
     struct unit units[UNITS];

@@ -56,33 +56,38 @@ static const struct link LINKS[] = {
 
 enum { MINUTE = 60000, SKEW_STEP_MS = MINUTE / (UNITS - 1) };
 
-/* The first quarter of an hour is the same in every run, and the relay is away for all but the rest. The power fails
- * half way between, in the middle of the data slots.
+/* The site is up ten superframes after its last head was switched on, and orders begin. How long it then is to the
+ * unbolting, and from when the relay is back to the end, is the same in every run of the plan. The power fails half way
+ * between, and earlier where members need time to join anew; that is in the middle of the data slots.
  *
  * The office's clock passes its top half way between the unbolting and its being noticed, and the other clocks within a
  * minute of it. So what grows old meanwhile has a time before the top and runs out after it: the relay's row in the
  * book, the routes by it, and the slots that bench 5 counts on. */
-static void set_script(struct script *script, uint32_t length_ms)
+static void set_script(struct script *script, const struct plan *plan, uint32_t length_ms)
 {
-    static const uint32_t INTO_SUPERFRAME_MS = 5000;
-    script->orders_begin = 13 * MINUTE;
-    script->new_head = 14 * MINUTE;
-    script->unbolted = 19 * MINUTE;
+    enum { LAST_HEAD_MS = HEADS_FROM_MS + (BENCH_8 - BENCH_1) * HEADS_EVERY_MS, CUT_SLOT = 25 };
+    uint64_t superframe_ms = plan->superframe_ms;
+    uint64_t joining_ms = plan_has_image(plan) ? 0 : BRAIDLARK_LIVE_MS + 12 * superframe_ms;
+    script->orders_begin = LAST_HEAD_MS + 10 * superframe_ms;
+    script->new_head = script->orders_begin + MINUTE;
+    script->unbolted = script->orders_begin + 6 * MINUTE;
     script->clock_top = script->unbolted + BRAIDLARK_LIVE_MS / 2;
-    script->returned = length_ms - 20 * MINUTE;
-    uint64_t half_way = (script->unbolted + script->returned) / 2;
-    script->power_fails = half_way / SUPERFRAME_MS * SUPERFRAME_MS + INTO_SUPERFRAME_MS;
+    script->taken_out = length_ms - 8 * MINUTE - 12 * superframe_ms;
+    script->returned = script->taken_out - 8 * MINUTE;
+    uint64_t half_way = (script->unbolted + script->returned - joining_ms) / 2;
+    script->power_fails = half_way / superframe_ms * superframe_ms + CUT_SLOT * plan->slot_ms;
     script->power_returns = script->power_fails + MINUTE;
-    script->taken_out = length_ms - 12 * MINUTE;
+    script->settled = script->power_fails + 9 * MINUTE + joining_ms;
     script->end = length_ms;
 }
 
-void layout_set(struct site *site, uint32_t seed, uint32_t length_ms)
+void layout_set(struct site *site, uint32_t seed, uint32_t length_ms, bool short_beacons)
 {
     memset(site, 0, sizeof *site);
     site->random = seed;
     site->silence.row = NOBODY;
-    set_script(&site->script, length_ms);
+    plan_set(&site->plan, short_beacons);
+    set_script(&site->script, &site->plan, length_ms);
     for (int index = 0; index < UNITS; index++) {
         struct unit *unit = &site->units[index];
         unit->name = PLACES[index].name;

@@ -9,22 +9,27 @@
 
 struct wishes {
     uint32_t length_ms;
+    bool short_beacons;
     uint32_t seed;
     const char *drawing;
 };
 
 static const char USAGE[] =
-    "usage: greenhouse [--hours N | --short] [--seed N] [--svg FILE] [--help]\n"
+    "usage: greenhouse [--hours N | --short] [--short-beacons] [--seed N] [--svg FILE] [--help]\n"
     "\n"
     "Plays a night in a greenhouse whose middle relay is unbolted and whose office has a power cut, and checks what\n"
-    "happens. The clocks of the units have run for 49.7 days: the office's starts 21 min 30 s before 2^32 ms and the\n"
-    "others within a minute of it, so that they begin again at 0 after the unbolting and before it is noticed.\n"
+    "happens. The clocks of the units have run for 49.7 days: the office's starts 21 min 30 s before 2^32 ms (with\n"
+    "--short-beacons 34 min 50 s) and the others within a minute of it, so that they begin again at 0 after the\n"
+    "unbolting and before it is noticed.\n"
     "\n"
-    "  --hours N    the night has N hours, 2 to 12 (9 if nothing is said)\n"
-    "  --short      the night has one hour, with all that happens; not together with --hours\n"
-    "  --seed N     which packets are lost: the same for the same number, 0 to 4294967295 (7 if nothing is said)\n"
-    "  --svg FILE   also draws the night: the links, who held which slots, and what became of the orders\n"
-    "  --help       this text\n"
+    "  --hours N        the night has N hours, 2 to 12 (9 if nothing is said)\n"
+    "  --short          the night has one hour (with --short-beacons two), with all that happens; not together with\n"
+    "                   --hours\n"
+    "  --short-beacons  the plan has short beacons and slots of 1,000 ms, not 200: a superframe of 100 s, which is\n"
+    "                   longer than long beacons can say, and no image of the book\n"
+    "  --seed N         which packets are lost: the same for the same number, 0 to 4294967295 (7 if nothing is said)\n"
+    "  --svg FILE       also draws the night: the links, who held which slots, and what became of the orders\n"
+    "  --help           this text\n"
     "\n"
     "Status 0: every check held. 1: one did not, or the drawing could not be written. 2: a bad argument.\n";
 
@@ -50,7 +55,7 @@ static uint32_t number_for(const char *option, const char *words, uint32_t least
 static struct wishes read_wishes(int count, char **words)
 {
     enum { HOUR = 3600000 };
-    struct wishes wishes = {.length_ms = 9 * HOUR, .seed = 7, .drawing = NULL};
+    struct wishes wishes = {.length_ms = 9 * HOUR, .short_beacons = false, .seed = 7, .drawing = NULL};
     bool is_short = false, has_hours = false;
     for (int index = 1; index < count; index++) {
         const char *word = words[index];
@@ -59,7 +64,8 @@ static struct wishes read_wishes(int count, char **words)
             exit(EXIT_SUCCESS);
         } else if (strcmp(word, "--short") == 0) {
             is_short = true;
-            wishes.length_ms = HOUR;
+        } else if (strcmp(word, "--short-beacons") == 0) {
+            wishes.short_beacons = true;
         } else if (strcmp(word, "--hours") != 0 && strcmp(word, "--seed") != 0 && strcmp(word, "--svg") != 0) {
             refuse("there is no option ", word);
         } else if (++index == count) {
@@ -75,6 +81,9 @@ static struct wishes read_wishes(int count, char **words)
     }
     if (is_short && has_hours) {
         refuse("--short does not go together with ", "--hours");
+    }
+    if (is_short) {
+        wishes.length_ms = wishes.short_beacons ? 2 * HOUR : HOUR;
     }
     return wishes;
 }
@@ -94,7 +103,7 @@ int main(int count, char **words)
         fprintf(stderr, "greenhouse: %s cannot be written\n", wishes.drawing);
         return EXIT_FAILURE;
     }
-    layout_set(&site, wishes.seed, wishes.length_ms);
+    layout_set(&site, wishes.seed, wishes.length_ms, wishes.short_beacons);
     superframes_run(&site);
     check_end(&site);
     summary_print(&site);

@@ -1,14 +1,25 @@
 /*
- * The manager's side: the book, the answers to requests, and the beacon. Of the book it knows only what the calls
- * answer.
+ * The manager's side: the plan, the book, and the answers to requests. Of the book it knows only what the calls answer.
  */
 #include "greenhouse.h"
 
-/* The plan is made of the numbers that the site was built with, after a power cut too. */
+static uint8_t plan_with(const struct site *site, uint32_t beacon, uint8_t plan[BRAIDLARK_PLAN_SIZE])
+{
+    return braidlark_plan(plan, BRAIDLARK_PLAN_SIZE, NETWORK, site->units[OFFICE].address, MOST_HOPS, MEMBER_ROWS,
+                          DATA_SLOTS, site->plan.slot_ms, beacon);
+}
+
+/* The plan is made of the numbers that the site was built with, after a power cut too. With long beacons it is one
+ * exactly if they can say how long its superframe is. */
 static void make_plan(struct site *site, uint8_t plan[BRAIDLARK_PLAN_SIZE])
 {
-    uint8_t status = braidlark_plan(plan, BRAIDLARK_PLAN_SIZE, NETWORK, site->units[OFFICE].address, MOST_HOPS,
-                                    MEMBER_ROWS, DATA_SLOTS, SLOT_MS);
+    bool can_be_said = site->plan.superframe_ms <= BRAIDLARK_LONGEST_PLAN_MS;
+    uint8_t status = plan_with(site, BRAIDLARK_TYPE_BEACON, plan);
+    if (status != (can_be_said ? BRAIDLARK_ACCEPTED : BRAIDLARK_OUT_OF_RULE)) {
+        fail(site, "braidlark_plan answered %d for long beacons and a superframe of %u ms", status,
+             (unsigned)site->plan.superframe_ms);
+    }
+    status = plan_with(site, site->plan.beacon, plan);
     check_status(site, "braidlark_plan", status, 0);
 }
 
@@ -17,9 +28,9 @@ static void find_regions(struct site *site, const uint8_t plan[BRAIDLARK_PLAN_SI
     uint32_t numbers[BRAIDLARK_FIELDS_PLAN] = {0};
     uint8_t status = braidlark_plan_numbers(plan, BRAIDLARK_PLAN_SIZE, numbers, BRAIDLARK_FIELDS_PLAN);
     check_status(site, "braidlark_plan_numbers", status, 0);
-    if (numbers[BRAIDLARK_FIELD_PLAN_SUPERFRAME_MS] != SUPERFRAME_MS) {
-        fail(site, "a superframe has %u ms, and the site counts on %d",
-             (unsigned)numbers[BRAIDLARK_FIELD_PLAN_SUPERFRAME_MS], SUPERFRAME_MS);
+    if (numbers[BRAIDLARK_FIELD_PLAN_SUPERFRAME_MS] != site->plan.superframe_ms) {
+        fail(site, "a superframe has %u ms, and the site counts on %u",
+             (unsigned)numbers[BRAIDLARK_FIELD_PLAN_SUPERFRAME_MS], (unsigned)site->plan.superframe_ms);
     }
     site->manager.regions = (struct regions){.control = (int)numbers[BRAIDLARK_FIELD_PLAN_CONTROL_AT],
                                              .data = (int)numbers[BRAIDLARK_FIELD_PLAN_DATA_AT],
@@ -57,8 +68,17 @@ static void make_book(struct site *site, const uint8_t plan[BRAIDLARK_PLAN_SIZE]
     uint8_t status = braidlark_book_fresh(manager->book, sizeof manager->book, plan, BRAIDLARK_PLAN_SIZE,
                                           unit_time(site, OFFICE));
     check_status(site, "braidlark_book_fresh", status, 0);
-    say(site, "the office heard no other manager for %d s and manages: %d slots of %d ms, room for %d members",
-        BRAIDLARK_DISCOVERY_MS / 1000, BRAIDLARK_MOST_SLOTS, SLOT_MS, MEMBER_ROWS);
+    if (site->cut.book_lost) {
+        power_begin_anew(site);
+        return;
+    }
+    say(site, "the office heard no other manager for %u s and manages: %d slots of %u ms, room for %d members",
+        (unsigned)(plan_listening_ms(&site->plan) / 1000), BRAIDLARK_MOST_SLOTS, (unsigned)site->plan.slot_ms,
+        MEMBER_ROWS);
+    if (site->plan.beacon == BRAIDLARK_TYPE_SHORT_BEACON) {
+        say(site, "no long beacon can say that a superframe has %u s: it sends short ones, of %d bytes instead of %d",
+            (unsigned)(site->plan.superframe_ms / 1000), BRAIDLARK_LENGTH_SHORT_BEACON, BRAIDLARK_LENGTH_BEACON);
+    }
 }
 
 /* The office becomes the manager: with the book of its stored image, or with a fresh one if nothing is stored. */
@@ -78,37 +98,19 @@ static void start(struct site *site)
     site->manager.running = true;
 }
 
-/* The beacon of the superframe that begins now. Its number is that of the clock, so that a power cut repeats none; it
- * begins again with the clock. */
-static void write_beacon(struct site *site, struct packet *packet)
-{
-    uint32_t time = unit_time(site, OFFICE), number = time / SUPERFRAME_MS;
-    uint32_t fields[BRAIDLARK_FIELDS_BEACON] = {
-        [BRAIDLARK_FIELD_TYPE] = BRAIDLARK_TYPE_BEACON,
-        [BRAIDLARK_FIELD_BEACON_DESTINATION] = BRAIDLARK_EVERY_UNIT,
-        [BRAIDLARK_FIELD_BEACON_SOURCE] = site->units[OFFICE].address,
-        [BRAIDLARK_FIELD_BEACON_SIZE] = BRAIDLARK_BEACON_BODY_SIZE,
-        [BRAIDLARK_FIELD_BEACON_NETWORK] = NETWORK,
-        [BRAIDLARK_FIELD_BEACON_SUPERFRAME_NUMBER] = number,
-        [BRAIDLARK_FIELD_BEACON_SUPERFRAME_MS] = SUPERFRAME_MS,
-        [BRAIDLARK_FIELD_BEACON_TOTAL_SLOTS] = BRAIDLARK_MOST_SLOTS,
-        [BRAIDLARK_FIELD_BEACON_SLOT_MS] = SLOT_MS,
-        [BRAIDLARK_FIELD_BEACON_ORIGINAL_SOURCE] = site->units[OFFICE].address,
-        [BRAIDLARK_FIELD_BEACON_ORIGINAL_TIME] = time,
-        [BRAIDLARK_FIELD_BEACON_MAX_HOPS] = MOST_HOPS,
-        [BRAIDLARK_FIELD_BEACON_SEQUENCE] = number & UINT16_MAX,
-    };
-    packet_write(site, packet, BRAIDLARK_EVERY_UNIT, fields, BRAIDLARK_FIELDS_BEACON, NULL, 0);
-}
-
-/* The start of a superframe: the first time a book, every time a beacon in slot 0. */
+/* The start of a superframe: the first time a book, every time a beacon in slot 0. Before there is a book the office
+ * listens for its time. */
 void manager_begin(struct site *site)
 {
+    struct unit *office = &site->units[OFFICE];
     if (!site->manager.running) {
+        if (site->now - office->switched < plan_listening_ms(&site->plan)) {
+            return;
+        }
         start(site);
     }
-    write_beacon(site, &site->units[OFFICE].beacon);
-    site->units[OFFICE].beacon_slot = 0;
+    beacons_write(site, &office->beacon);
+    office->beacon_slot = 0;
 }
 
 /* The response that says no. */

@@ -24,13 +24,15 @@ void medium_send(struct site *site, int sender, const struct packet *packet)
     site->air[site->air_count].packet = *packet;
     site->air_count++;
     site->tally.packets++;
+    beacons_note(site, sender, packet);
     orders_carried(site, sender, packet);
 }
 
-/* At quality 100 nothing is lost, at 60 one packet in twenty. */
+/* At quality 100 nothing is lost; at 60 one packet in twenty with slots of 200 ms. The longer slots are, the slower a
+ * radio sends what goes into one, and the less is lost. */
 static bool comes_through(struct site *site, uint8_t quality)
 {
-    if (medium_random(site, 800) >= (uint32_t)(100 - quality)) {
+    if (medium_random(site, 4 * site->plan.slot_ms) >= (uint32_t)(100 - quality)) {
         return true;
     }
     site->tally.lost_on_links++;

@@ -10,7 +10,7 @@
 enum {
     RENEW_EVERY_MS = 50000,
     ASK_AGAIN_MS = 40000,
-    GUARD_MS = 1000 /* a unit lets go of its slots this long before the manager may give them away */
+    GUARD_MS = 800 /* a unit lets go of its slots this long, and a slot, before the manager may give them away */
 };
 
 void membership_drop(struct unit *unit)
@@ -28,7 +28,7 @@ void membership_drop(struct unit *unit)
 bool membership_counts(const struct site *site, int unit)
 {
     const struct holding *holding = &site->units[unit].holding;
-    uint32_t end = holding->told + BRAIDLARK_LIVE_MS - GUARD_MS;
+    uint32_t end = holding->told + BRAIDLARK_LIVE_MS - GUARD_MS - site->plan.slot_ms;
     bool in_time = !holding->denied && time_before(unit_network_time(site, unit), end);
     return holding->held && (unit == OFFICE || in_time);
 }

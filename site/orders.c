@@ -17,7 +17,32 @@ void orders_give(struct site *site, int head, uint8_t setting)
         order->replaced = order->replaced || (order->head == head && !order->confirmed);
     }
     manager->orders[manager->order_count++] =
-        (struct order){.head = head, .setting = setting, .given = site->now, .next_try = site->now};
+        (struct order){.head = head,
+                       .setting = setting,
+                       .given = site->now,
+                       .next_try = site->now,
+                       .head_rejoins = site->cut.book_lost && site->cut.recovered == 0};
+}
+
+/* The book is lost: whoever an open order is for has to join anew. */
+void orders_meet_lost_book(struct site *site)
+{
+    for (int number = 0; number < site->manager.order_count; number++) {
+        struct order *order = &site->manager.orders[number];
+        order->head_rejoins = !order->arrived && !order->replaced;
+    }
+}
+
+/* Where a head is taken out, nobody is there to follow what was still on its way. */
+void orders_withdraw(struct site *site, int head)
+{
+    for (int number = 0; number < site->manager.order_count; number++) {
+        struct order *order = &site->manager.orders[number];
+        if (order->head == head && !order->arrived && !order->replaced) {
+            order->withdrawn = true;
+            say(site, "order %d is withdrawn: %s has no head any more", number + 1, site->units[head].name);
+        }
+    }
 }
 
 static void try_order(struct site *site, int number)
@@ -42,7 +67,7 @@ void orders_repeat(struct site *site)
 {
     for (int number = 0; number < site->manager.order_count; number++) {
         struct order *order = &site->manager.orders[number];
-        if (!order->confirmed && !order->replaced && site->now >= order->next_try) {
+        if (!order->confirmed && !order->replaced && !order->withdrawn && site->now >= order->next_try) {
             try_order(site, number);
         }
     }

@@ -1,14 +1,16 @@
 /*
  * A power cut at the office. Its memory is lost, and with it the book and the routes; its flash keeps the last image of
  * the book, and its clock has a battery. When the power is back it makes its book of the image, and every member must
- * find what it held.
+ * find what it held. Of a plan with short beacons there is no image: the office then waits until nobody counts on the
+ * lost book any more, begins with a fresh one, and every member must join anew.
  */
 #include <string.h>
 
 #include "greenhouse.h"
 
-/* Stores the image of the book if it is another than the stored one: flash wears out. Whoever changes the book calls
- * this before it tells anybody, so that no unit ever counts on a slot that a power cut would make the office forget. */
+/* Stores the image of the book, if the plan has one and it is another than the stored one: flash wears out. Whoever
+ * changes the book calls this before it tells anybody, so that no unit ever counts on a slot that a power cut would
+ * make the office forget. */
 void power_store(struct site *site)
 {
     const struct manager *manager = &site->manager;
@@ -17,6 +19,12 @@ void power_store(struct site *site)
     uint32_t length = 0;
     uint8_t status = braidlark_image(manager->book, sizeof manager->book, unit_time(site, OFFICE), image, sizeof image,
                                      &length);
+    if (!plan_has_image(&site->plan)) {
+        if (status != BRAIDLARK_OUT_OF_RULE) {
+            fail(site, "braidlark_image answered %d for a plan with short beacons", status);
+        }
+        return;
+    }
     check_status(site, "braidlark_image", status, 0);
     if (length == flash->length && memcmp(image, flash->image, length) == 0) {
         return;
@@ -24,6 +32,18 @@ void power_store(struct site *site)
     memcpy(flash->image, image, length);
     flash->length = length;
     flash->writes++;
+}
+
+/* What of the book outlives the cut. */
+static void say_what_is_left(struct site *site)
+{
+    if (site->cut.book_lost) {
+        say(site, "nothing of the book is in its flash: with short beacons its image is refused, with number %d",
+            BRAIDLARK_OUT_OF_RULE);
+    } else {
+        say(site, "the last image of the book is in its flash: %u bytes, written %u times since the evening",
+            (unsigned)site->flash.length, (unsigned)site->flash.writes);
+    }
 }
 
 /* The office's memory is lost, and bench 8, which hangs on the same line, is dark too. */
@@ -35,6 +55,10 @@ void power_fails(struct site *site)
     for (int unit = OFFICE + 1; unit < UNITS; unit++) {
         cut->members += cut->before.live[unit];
     }
+    cut->book_lost = site->flash.length == 0;
+    if (cut->book_lost) {
+        orders_meet_lost_book(site);
+    }
     unit_power_off(site, OFFICE);
     unit_power_off(site, BENCH_8);
     manager->running = false;
@@ -43,14 +67,18 @@ void power_fails(struct site *site)
     routes_watch(site);
     say(site, "THE POWER FAILS IN THE OFFICE: its book of %d members and its routes are lost; bench 8 is dark too",
         cut->members);
-    say(site, "the last image of the book is in its flash: %u bytes, written %u times since the evening",
-        (unsigned)site->flash.length, (unsigned)site->flash.writes);
+    say_what_is_left(site);
 }
 
 void power_returns(struct site *site)
 {
-    say(site, "the power is back; the office listens for %d s, as every unit does, before it manages",
-        BRAIDLARK_DISCOVERY_MS / 1000);
+    unsigned listening_s = plan_listening_ms(&site->plan) / 1000;
+    if (site->cut.book_lost) {
+        say(site, "the power is back; the office waits for %u s: so long may units count on slots of the lost book",
+            listening_s);
+    } else {
+        say(site, "the power is back; the office listens for %u s, as every unit does, before it manages", listening_s);
+    }
     unit_power_on(site, OFFICE);
     unit_power_on(site, BENCH_8);
 }
@@ -91,11 +119,48 @@ void power_restore(struct site *site)
     say(site, "the office has its book again: every member has its row and its slots, every schedule is as before");
 }
 
+/* Begins with a fresh book in place of the lost one, on whose slots nobody may count any more. */
+void power_begin_anew(struct site *site)
+{
+    for (int unit = OFFICE + 1; unit < UNITS; unit++) {
+        if (site->units[unit].powered && membership_counts(site, unit)) {
+            fail(site, "%s still counts on slots of the lost book", site->units[unit].name);
+        }
+        site->live[unit] = false;
+    }
+    site->cut.restored = site->now;
+    say(site, "the office begins with a fresh book: all %d members have to join anew", site->cut.members);
+}
+
+/* The data slots in a schedule that its unit sends in. */
+static int count_held(const struct site *site, const uint8_t *kinds)
+{
+    const struct regions *regions = &site->manager.regions;
+    int count = 0;
+    for (int slot = regions->data; slot < regions->discovery; slot++) {
+        count += kinds[slot] == BRAIDLARK_SLOT_TX;
+    }
+    return count;
+}
+
+/* Every member of before the cut is in the fresh book, with as many data slots as it had. */
+static void check_joined_anew(struct site *site)
+{
+    const struct schedules *before = &site->cut.before;
+    for (int unit = 0; unit < UNITS; unit++) {
+        uint8_t kinds[BRAIDLARK_MOST_SLOTS];
+        if (before->live[unit] && (!schedule_of(site, unit, before->hops[unit], kinds) ||
+                                   count_held(site, kinds) != count_held(site, before->kinds[unit]))) {
+            fail(site, "%s has not as many data slots as before the power cut", site->units[unit].name);
+        }
+    }
+}
+
 /* A member of before the cut that has not spoken since, or has not been told its slots; NOBODY if there is none. */
 static int still_missing(const struct site *site)
 {
     for (int unit = OFFICE + 1; unit < UNITS; unit++) {
-        bool spoke = site->manager.last_word[unit] > 0;
+        bool spoke = site->manager.last_word[unit] > 0 && site->live[unit];
         if (site->cut.before.live[unit] && !(spoke && membership_counts(site, unit))) {
             return unit;
         }
@@ -103,21 +168,36 @@ static int still_missing(const struct site *site)
     return NOBODY;
 }
 
-/* After the cut: every member speaks again while it is live, and holds what it held. */
-void power_watch(struct site *site)
+/* All members are there again. */
+static void recover(struct site *site)
 {
     struct cut *cut = &site->cut;
-    if (cut->restored == 0 || cut->recovered > 0) {
-        return;
-    }
-    int missing = still_missing(site);
-    if (missing == NOBODY) {
-        cut->recovered = site->now;
+    cut->recovered = site->now;
+    if (cut->book_lost) {
+        check_joined_anew(site);
+        say(site, "all %d members have joined anew and hold as many slots as they held", cut->members);
+    } else {
         check_agreement(site);
         say(site,
             "all %d members have spoken again and hold what they held; bench 8 had lost its memory and joined anew",
             cut->members);
-    } else if (site->now - cut->restored > BRAIDLARK_LIVE_MS) {
+    }
+}
+
+/* After the cut: every member speaks again while it is live, and holds what it held; or, where the book is lost, has
+ * joined anew in good time. */
+void power_watch(struct site *site)
+{
+    static const uint64_t SUPERFRAMES_TO_JOIN = 24;
+    const struct cut *cut = &site->cut;
+    if (cut->restored == 0 || cut->recovered > 0) {
+        return;
+    }
+    uint64_t limit_ms = cut->book_lost ? SUPERFRAMES_TO_JOIN * site->plan.superframe_ms : BRAIDLARK_LIVE_MS;
+    int missing = still_missing(site);
+    if (missing == NOBODY) {
+        recover(site);
+    } else if (site->now - cut->restored > limit_ms) {
         fail(site, "%s has not found its place again after the power cut", site->units[missing].name);
     }
 }

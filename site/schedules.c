@@ -24,7 +24,7 @@ bool schedule_of(struct site *site, int unit, uint8_t hop, uint8_t kinds[BRAIDLA
     uint8_t status = braidlark_schedule(manager->book, sizeof manager->book, site->units[unit].address, hop,
                                         unit_time(site, OFFICE), kinds, BRAIDLARK_MOST_SLOTS, &slots);
     check_status(site, "braidlark_schedule", status, unit == OFFICE ? 0 : REFUSAL(BRAIDLARK_NO_MEMBER));
-    if (status == BRAIDLARK_ACCEPTED && slots * SLOT_MS != SUPERFRAME_MS) {
+    if (status == BRAIDLARK_ACCEPTED && slots * site->plan.slot_ms != site->plan.superframe_ms) {
         fail(site, "a schedule has %u slots, and the site counts on %d", (unsigned)slots, BRAIDLARK_MOST_SLOTS);
     }
     return status == BRAIDLARK_ACCEPTED;
@@ -60,7 +60,8 @@ static void read_schedule(struct site *site, int unit, const uint8_t *kinds, int
     }
 }
 
-/* The head that was refused is in: it must have been refused before, and have come by the silent relay's place. */
+/* The head that was refused is in: it must have been refused before, and have come by the silent relay's place. In a
+ * book that began anew any place is as good. */
 static void check_new_head(struct site *site)
 {
     if (!site->units[BENCH_9].was_refused || site->silence.row == NOBODY) {
@@ -70,6 +71,7 @@ static void check_new_head(struct site *site)
         fail(site, "bench 9 got row %d and slots %04X, not those of the silent relay: row %d, slots %04X",
              site->row[BENCH_9], (unsigned)site->held[BENCH_9], site->silence.row, (unsigned)site->silence.held);
     }
+    site->silence.inherited = site->held[BENCH_9];
 }
 
 /* Tells the grower who has joined, who holds other slots, and who is gone. */
@@ -90,7 +92,7 @@ static void note_live(struct site *site, int unit, bool live, uint32_t held_befo
         check_gone(site, unit);
     }
     site->live[unit] = live;
-    if (joined && unit == BENCH_9) {
+    if (joined && unit == BENCH_9 && !site->cut.book_lost) {
         check_new_head(site);
     }
 }

@@ -9,21 +9,19 @@ enum { SECOND = 1000, MINUTE = 60 * SECOND };
 /* Whether a moment falls into the slot that begins now. */
 static bool due(const struct site *site, uint64_t moment)
 {
-    return moment <= site->now && site->now - moment < SLOT_MS;
+    return moment <= site->now && site->now - moment < site->plan.slot_ms;
 }
 
 static void switch_on(struct site *site)
 {
-    static const uint64_t RELAYS_FROM = 60 * SECOND, RELAYS_EVERY = 60 * SECOND;
-    static const uint64_t HEADS_FROM = 300 * SECOND, HEADS_EVERY = 40 * SECOND;
     if (due(site, 0)) {
         unit_power_on(site, OFFICE);
         scene(site, "The site comes up");
         say(site, "night falls; the office is switched on, then the relays and the valve heads of eight benches");
     }
     for (int unit = MIDDLE_RELAY; unit <= BENCH_8; unit++) {
-        uint64_t moment = unit < BENCH_1 ? RELAYS_FROM + RELAYS_EVERY * (uint64_t)(unit - MIDDLE_RELAY)
-                                         : HEADS_FROM + HEADS_EVERY * (uint64_t)(unit - BENCH_1);
+        uint64_t moment = unit < BENCH_1 ? RELAYS_FROM_MS + RELAYS_EVERY_MS * (uint64_t)(unit - MIDDLE_RELAY)
+                                         : HEADS_FROM_MS + HEADS_EVERY_MS * (uint64_t)(unit - BENCH_1);
         if (due(site, moment)) {
             unit_power_on(site, unit);
         }
@@ -69,6 +67,7 @@ static void bring_back(struct site *site)
     if (due(site, site->script.taken_out)) {
         say(site, "the grower takes out the head of bench 8 and tells the office so: its row is free at once");
         manager_takes_out(site, BENCH_8);
+        orders_withdraw(site, BENCH_8);
     }
 }
 
@@ -96,11 +95,12 @@ void story_slot(struct site *site)
 bool story_is_quiet(const struct site *site)
 {
     const struct script *script = &site->script;
-    bool power_cut = site->now + 4 * MINUTE >= script->power_fails && site->now < script->power_fails + 9 * MINUTE;
+    bool power_cut = site->now + 4 * MINUTE >= script->power_fails && site->now < script->settled;
     return !power_cut && site->now >= script->unbolted + 11 * MINUTE && site->now + 5 * MINUTE <= script->returned;
 }
 
-/* Orders come every 20 minutes, and more often while there is something to see. */
+/* Orders come every 20 minutes, and more often while there is something to see. A head that is new, or that has to join
+ * anew since the book was lost, gets none before it is in the book. */
 void story_orders(struct site *site)
 {
     static const int HEADS[] = {BENCH_1, BENCH_4, BENCH_6, BENCH_5, BENCH_2, BENCH_3, BENCH_7, BENCH_9, BENCH_8};
@@ -113,7 +113,8 @@ void story_orders(struct site *site)
     int head = HEADS[site->orders_given % count];
     int setting = 20 + 10 * (site->orders_given % 7);
     site->orders_given++;
-    if (site->units[head].powered && (head != BENCH_9 || site->live[head])) {
+    bool has_to_join = head == BENCH_9 || site->cut.book_lost;
+    if (site->units[head].powered && (!has_to_join || site->live[head])) {
         orders_give(site, head, (uint8_t)setting);
     }
 }

@@ -4,8 +4,15 @@
 #ifndef SUBJECTS_H
 #define SUBJECTS_H
 
+/* plan.c: the plan in numbers, and what it leaves time for */
+void plan_set(struct plan *plan, bool short_beacons);
+bool plan_has_image(const struct plan *plan);
+bool plan_is_slow(const struct plan *plan);
+uint32_t plan_listening_ms(const struct plan *plan);
+uint32_t plan_clock_tolerance_ms(const struct plan *plan);
+
 /* layout.c: the units, their links, and the times of the story */
-void layout_set(struct site *site, uint32_t seed, uint32_t length_ms);
+void layout_set(struct site *site, uint32_t seed, uint32_t length_ms, bool short_beacons);
 int layout_find(const struct site *site, uint16_t address);
 
 /* medium.c: what is in the air in a slot and who hears it */
@@ -28,7 +35,12 @@ uint32_t unit_network_time(const struct site *site, int unit);
 bool time_before(uint32_t one, uint32_t other);
 void clocks_watch(struct site *site);
 
-/* unit.c: a unit's power, state, clock step, beacons and routing updates */
+/* beacons.c: beacons of either kind, written, forwarded and in the air */
+void beacons_write(struct site *site, struct packet *packet);
+void beacons_forward(struct site *site, int unit, const struct packet *packet);
+void beacons_note(struct site *site, int sender, const struct packet *packet);
+
+/* unit.c: a unit's power, state, clock step and routing updates */
 void unit_power_on(struct site *site, int unit);
 void unit_power_off(struct site *site, int unit);
 bool unit_sends(const struct site *site, int unit);
@@ -52,7 +64,7 @@ bool traffic_turn(struct site *site, int unit, size_t room, struct packet *packe
 void traffic_hear(struct site *site, int unit, const struct packet *packet, const struct frame *frame);
 void traffic_report(struct site *site, int unit);
 
-/* manager.c: the book, the answers and the beacon */
+/* manager.c: the plan, the book and the answers */
 void manager_begin(struct site *site);
 size_t manager_answer(struct site *site, const uint8_t *request, size_t length, uint8_t *out, size_t room);
 void manager_hears(struct site *site, uint16_t address);
@@ -63,6 +75,7 @@ void power_store(struct site *site);
 void power_fails(struct site *site);
 void power_returns(struct site *site);
 void power_restore(struct site *site);
+void power_begin_anew(struct site *site);
 void power_watch(struct site *site);
 
 /* schedules.c: the schedules, who is a live member, and who holds which slots */
@@ -74,7 +87,9 @@ void check_holdings(struct site *site);
 
 /* orders.c: the orders for the valves */
 void orders_give(struct site *site, int head, uint8_t setting);
+void orders_withdraw(struct site *site, int head);
 void orders_repeat(struct site *site);
+void orders_meet_lost_book(struct site *site);
 void orders_arrive(struct site *site, int unit, const uint8_t *words);
 void orders_confirm(struct site *site, int unit, const uint8_t *words);
 void orders_carried(struct site *site, int carrier, const struct packet *packet);

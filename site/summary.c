@@ -7,6 +7,7 @@
 struct outcome {
     int arrived;
     int replaced;
+    int withdrawn;
     int waited; /* of those that arrived */
     int slowest;
     uint64_t slowest_ms;
@@ -27,6 +28,7 @@ static struct outcome count_orders(const struct site *site)
         const struct order *order = &site->manager.orders[index];
         outcome.arrived += order->arrived;
         outcome.replaced += !order->arrived && order->replaced;
+        outcome.withdrawn += order->withdrawn;
         outcome.lost_tries += order->lost_at_silent;
         if (!order->arrived) {
             continue;
@@ -48,9 +50,10 @@ static void print_orders(const struct site *site)
     struct outcome outcome = count_orders(site);
     char slots[80];
     int given = site->manager.order_count;
-    printf(
-        "  orders     %d given; arrived: %d, replaced by a later one for the same bench: %d, still on their way: %d\n",
-        given, outcome.arrived, outcome.replaced, given - outcome.arrived - outcome.replaced);
+    printf("  orders     %d given; arrived: %d, replaced by a later one for the same bench: %d, withdrawn: %d, still on "
+           "their way: %d\n",
+           given, outcome.arrived, outcome.replaced, outcome.withdrawn,
+           given - outcome.arrived - outcome.replaced - outcome.withdrawn);
     const struct order *slowest = &site->manager.orders[outcome.slowest];
     printf(
         "             the slowest was order %d, which %s followed after %u s; %d that arrived had waited for a way\n",
@@ -59,17 +62,23 @@ static void print_orders(const struct site *site)
            outcome.lost_tries, outcome.late, (unsigned)(outcome.latest_ms / 1000));
     printf("             no frame went to a unit gone for more than %d s; the last to one that was gone, after %u s\n",
            BRAIDLARK_USABLE_MS / 1000, (unsigned)(site->tally.latest_loss_ms / 1000));
-    number_words(site->held[BENCH_9] & site->silence.held, slots);
+    number_words(site->silence.inherited, slots);
     printf("             its row and its data slots %s went to bench 9, which was refused before\n", slots);
 }
 
 static void print_power(const struct site *site)
 {
-    const struct script *script = &site->script;
-    printf(
-        "  the power  %d members kept rows, slots and schedules; all had spoken again %u s after the power was back\n",
-        site->cut.members, (unsigned)((site->cut.recovered - script->power_returns) / 1000));
-    printf("             the flash was written %u times in the night\n", (unsigned)site->flash.writes);
+    const struct cut *cut = &site->cut;
+    unsigned took_s = (unsigned)((cut->recovered - site->script.power_returns) / 1000);
+    if (cut->book_lost) {
+        printf("  the power  the book was lost, as with short beacons it has no image; nothing went to the flash\n");
+        printf("             all %d members had joined anew %u s after the power was back\n", cut->members, took_s);
+    } else {
+        printf("  the power  %d members kept rows, slots and schedules; all had spoken again %u s after the power was "
+               "back\n",
+               cut->members, took_s);
+        printf("             the flash was written %u times in the night\n", (unsigned)site->flash.writes);
+    }
 }
 
 static void print_clocks(const struct site *site)
@@ -77,9 +86,20 @@ static void print_clocks(const struct site *site)
     char first[9], last[9];
     clock_words(site->turns.first, first);
     clock_words(site->turns.last, last);
-    printf("  clocks     the worst clock of a member was %u ms off, of %d that the slots leave room for\n",
-           (unsigned)site->tally.worst_clock_ms, CLOCK_TOLERANCE_MS);
+    printf("  clocks     the worst clock of a member was %u ms off, of %u that the slots leave room for\n",
+           (unsigned)site->tally.worst_clock_ms, (unsigned)plan_clock_tolerance_ms(&site->plan));
     printf("             %d passed 2^32 ms and began again at 0, from %s to %s\n", site->turns.count, first, last);
+}
+
+/* What beacons took of the air, and what they would have as the other kind. */
+static void print_beacons(const struct site *site)
+{
+    const struct tally *tally = &site->tally;
+    bool is_short = site->plan.beacon == BRAIDLARK_TYPE_SHORT_BEACON;
+    uint32_t other_bytes = tally->beacons * (is_short ? BRAIDLARK_LENGTH_BEACON : BRAIDLARK_LENGTH_SHORT_BEACON);
+    printf("  beacons    %u sent, all of them %s: %u bytes in the air; %s ones would have been %u\n",
+           (unsigned)tally->beacons, is_short ? "short" : "long", (unsigned)tally->beacon_bytes,
+           is_short ? "long" : "short", (unsigned)other_bytes);
 }
 
 void summary_print(struct site *site)
@@ -97,6 +117,7 @@ void summary_print(struct site *site)
     printf("  joining    %u requests refused, with every row live; places lost and asked for anew: %u\n",
            (unsigned)tally->refused_joins, (unsigned)tally->started_over);
     print_clocks(site);
+    print_beacons(site);
     printf("  the air    %u packets sent, %u losses on links\n", (unsigned)tally->packets,
            (unsigned)tally->lost_on_links);
     printf("All checks hold.\n");

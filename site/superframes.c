@@ -31,9 +31,9 @@ static void begin_superframe(struct site *site)
 }
 
 /* Whether an age has passed its limit since the slot before. */
-static bool runs_out(uint64_t age, uint64_t limit)
+static bool runs_out(const struct site *site, uint64_t age, uint64_t limit)
 {
-    return age > limit && age - limit <= SLOT_MS;
+    return age > limit && age - limit <= site->plan.slot_ms;
 }
 
 /* Within a superframe too the office looks at its book or its routes when one of them has just grown too old: so the
@@ -44,8 +44,9 @@ static void look_at_ages(struct site *site)
     uint64_t time = unit_wide_time(site, OFFICE);
     bool book = false, routes = false;
     for (int unit = OFFICE + 1; unit < UNITS && site->manager.running; unit++) {
-        book = book || runs_out(site->now - site->manager.last_word[unit], BRAIDLARK_LIVE_MS);
-        routes = routes || (office->was_told[unit] && runs_out(time - office->update_taken[unit], BRAIDLARK_USABLE_MS));
+        uint64_t update_age = time - office->update_taken[unit];
+        book = book || runs_out(site, site->now - site->manager.last_word[unit], BRAIDLARK_LIVE_MS);
+        routes = routes || (office->was_told[unit] && runs_out(site, update_age, BRAIDLARK_USABLE_MS));
     }
     if (routes) {
         routes_watch(site);
@@ -82,9 +83,9 @@ static void run_slot(struct site *site, int slot)
 /* The whole night. */
 void superframes_run(struct site *site)
 {
-    for (uint64_t start = 0; start < site->script.end; start += SUPERFRAME_MS) {
+    for (uint64_t start = 0; start < site->script.end; start += site->plan.superframe_ms) {
         for (int slot = 0; slot < BRAIDLARK_MOST_SLOTS; slot++) {
-            site->now = start + (uint64_t)(slot * SLOT_MS);
+            site->now = start + (uint64_t)slot * site->plan.slot_ms;
             clocks_watch(site);
             story_slot(site);
             if (slot == 0) {

@@ -1,5 +1,6 @@
 /*
- * What the firmware of one unit does with its power, its state, its clock, beacons and routing updates.
+ * What the firmware of one unit does with its power, its state, its clock, the slots that it sends in, and what it
+ * hears.
  */
 #include <string.h>
 
@@ -32,6 +33,7 @@ void unit_power_on(struct site *site, int unit)
 {
     struct unit *self = &site->units[unit];
     self->powered = true;
+    self->switched = site->now;
     self->offset = 0;
     self->sponsor = 0;
     self->was_refused = false;
@@ -46,7 +48,7 @@ void unit_power_on(struct site *site, int unit)
 void unit_power_off(struct site *site, int unit)
 {
     site->units[unit].powered = false;
-    site->units[unit].silent_since = site->now;
+    site->units[unit].switched = site->now;
     membership_drop(&site->units[unit]);
 }
 
@@ -131,7 +133,8 @@ void unit_tick(struct site *site, int unit)
 {
     struct unit *self = &site->units[unit];
     uint8_t before = self->state[0];
-    uint8_t status = braidlark_state_tick(self->state, sizeof self->state, SUPERFRAME_MS, unit_time(site, unit));
+    uint8_t status =
+        braidlark_state_tick(self->state, sizeof self->state, site->plan.superframe_ms, unit_time(site, unit));
     check_status(site, "braidlark_state_tick", status, 0);
     check_silence(site, unit, before);
     look_again(site, unit);
@@ -148,6 +151,19 @@ static bool holds_slot(const struct unit *unit, int slot)
     return false;
 }
 
+/* The next packet that a unit sends in a slot of its own, if any: what controls in a control slot, data in a data slot,
+ * and where superframes are long either in both. Of the discovery slots, which are the manager's to send in, it uses
+ * the first as one for control; in the others units ask. */
+static bool own_turn(struct site *site, int unit, int slot, size_t room, struct packet *packet)
+{
+    struct unit *self = &site->units[unit];
+    bool controls = slot == self->holding.control_slot || (unit == OFFICE && slot == site->manager.regions.discovery);
+    bool carries = holds_slot(self, slot);
+    bool either = plan_is_slow(&site->plan) && (controls || carries);
+    return ((controls || either) && queue_take(&self->control, room, packet)) ||
+           ((carries || either) && traffic_turn(site, unit, room, packet));
+}
+
 /* The next packet that a unit sends in a slot with room for so many more bytes, if any. */
 bool unit_turn(struct site *site, int unit, int slot, size_t room, struct packet *packet)
 {
@@ -162,33 +178,7 @@ bool unit_turn(struct site *site, int unit, int slot, size_t room, struct packet
         membership_ask(site, unit, packet);
         return true;
     }
-    if (!unit_sends(site, unit)) {
-        return false;
-    }
-    /* Of the discovery slots, which are the manager's to send in, it uses the first; in the others units ask. */
-    if (slot == self->holding.control_slot || (unit == OFFICE && slot == site->manager.regions.discovery)) {
-        return queue_take(&self->control, room, packet);
-    }
-    return holds_slot(self, slot) && traffic_turn(site, unit, room, packet);
-}
-
-/* A member passes the beacon on in the slot of its own hop, which is the next slot. */
-static void forward_beacon(struct site *site, int unit, const struct packet *packet)
-{
-    struct unit *self = &site->units[unit];
-    struct packet copy = {.to = BRAIDLARK_EVERY_UNIT};
-    uint32_t written = 0;
-    uint8_t status = braidlark_forward(self->table, sizeof self->table, NETWORK, packet->bytes, packet->length, SLOT_MS,
-                                       unit_time(site, unit), copy.bytes, sizeof copy.bytes, &written);
-    check_status(site, "braidlark_forward", status, REFUSAL(BRAIDLARK_NO_ROUTE) | REFUSAL(BRAIDLARK_NOT_OURS));
-    if (status != BRAIDLARK_ACCEPTED) {
-        return;
-    }
-    struct frame frame;
-    frame_read(site, copy.bytes, written, &frame);
-    copy.length = copy.frame_length = (uint8_t)written;
-    self->beacon = copy;
-    self->beacon_slot = (int)frame.fields[BRAIDLARK_FIELD_BEACON_HOP];
+    return unit_sends(site, unit) && own_turn(site, unit, slot, room, packet);
 }
 
 static void hear_beacon(struct site *site, int unit, int sender, const struct packet *packet)
@@ -205,7 +195,7 @@ static void hear_beacon(struct site *site, int unit, int sender, const struct pa
     }
     unit_tell(site, unit, BRAIDLARK_EVENT_BEACON_HEARD);
     if (self->holding.held) {
-        forward_beacon(site, unit, packet);
+        beacons_forward(site, unit, packet);
     } else if (self->state[0] == BRAIDLARK_JOINING && site->now >= self->next_request) {
         /* No frame says where the discovery slots are: a unit has that from its settings. */
         const struct regions *regions = &site->manager.regions;
@@ -238,6 +228,7 @@ void unit_hear(struct site *site, int unit, int sender, uint8_t quality, const s
     frame_read(site, packet->bytes, packet->frame_length, &frame);
     switch (frame.fields[BRAIDLARK_FIELD_TYPE]) {
     case BRAIDLARK_TYPE_BEACON:
+    case BRAIDLARK_TYPE_SHORT_BEACON:
         hear_beacon(site, unit, sender, packet);
         break;
     case BRAIDLARK_TYPE_UPDATE:

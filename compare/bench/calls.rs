@@ -26,7 +26,7 @@ pub struct Buffers {
     pub before: Option<Vec<u8>>,
     /// The bytes of a frame or of an image.
     pub input: Vec<u8>,
-    /// Whom a lookup or a schedule is for, or who is forgotten.
+    /// Whom a lookup or a schedule is for, who is forgotten, or the manager that a beacon is forwarded with.
     pub unit: u16,
     pub out: Vec<u8>,
     pub next_hop: u16,
@@ -92,10 +92,10 @@ pub mod library {
     }
 
     pub fn forward(buffers: &mut Buffers) -> u8 {
-        let Buffers { kept, input, out, length, .. } = buffers;
+        let Buffers { kept, input, unit, out, length, .. } = buffers;
         // SAFETY: as above.
         unsafe {
-            braidlark_forward(kept.as_mut_ptr(), kept.len(), NETWORK, input.as_ptr(), input.len(), DELAY, NOW,
+            braidlark_forward(kept.as_mut_ptr(), kept.len(), NETWORK, *unit, input.as_ptr(), input.len(), DELAY, NOW,
                               out.as_mut_ptr(), out.len(), length)
         }
     }
@@ -169,7 +169,8 @@ pub mod independent {
 
     pub fn forward(buffers: &mut Buffers) -> Result<(), Refusal> {
         let mut table = Table::from_bytes(&buffers.kept)?;
-        buffers.length = table.forward(NETWORK, &buffers.input, DELAY, NOW, &mut buffers.out)? as u32;
+        let Buffers { input, unit, out, .. } = buffers;
+        buffers.length = table.forward(NETWORK, *unit, input, DELAY, NOW, out)? as u32;
         table.to_bytes(&mut buffers.kept);
         Ok(())
     }

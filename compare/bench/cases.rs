@@ -4,7 +4,7 @@
 use crate::bench::calls::{independent, library, Buffers, NETWORK, NOW};
 use crate::book::drafts::{book_bytes, join_request};
 use crate::book::members::Row as Member;
-use crate::frames::kinds::{kind_of_type, DATA, MOST_BEACON_HOPS};
+use crate::frames::kinds::{kind_of_type, BEACON, DATA, MOST_BEACON_HOPS, SHORT_BEACON};
 use crate::image::files::full_book;
 use crate::routes::drafts::{beacon, data, update, Entry};
 use crate::routes::table::{Row, Table, MOST_ROWS};
@@ -39,7 +39,7 @@ const IMAGE: Call = Call { library: library::image, independent: independent::im
 const RESTORE: Call = Call { library: library::restore, independent: independent::restore };
 
 /// Tables are full where the name does not end in their rows.
-pub const CASES: [Case; 22] = [
+pub const CASES: [Case; 23] = [
     Case { name: "relay-10", call: RELAY, buffers: || relaying(10, MOST_ROWS), answer: ACCEPTED },
     Case { name: "relay-100", call: RELAY, buffers: || relaying(100, MOST_ROWS), answer: ACCEPTED },
     Case { name: "relay-255", call: RELAY, buffers: || relaying(255, MOST_ROWS), answer: ACCEPTED },
@@ -48,7 +48,8 @@ pub const CASES: [Case; 22] = [
     Case { name: "page", call: PAGE, buffers: || Buffers::new(table(MOST_ROWS), Vec::new(), OWN), answer: ACCEPTED },
     Case { name: "forget", call: FORGET, buffers: || forgetting(STRANGER), answer: ACCEPTED },
     Case { name: "forget-all", call: FORGET, buffers: || forgetting(NEIGHBOUR), answer: ACCEPTED },
-    Case { name: "forward", call: FORWARD, buffers: forwarding, answer: ACCEPTED },
+    Case { name: "forward", call: FORWARD, buffers: || forwarding(BEACON), answer: ACCEPTED },
+    Case { name: "forward-short", call: FORWARD, buffers: || forwarding(SHORT_BEACON), answer: ACCEPTED },
     Case { name: "relay-100-0", call: RELAY, buffers: || relaying(100, 0), answer: NO_ROUTE },
     Case { name: "relay-100-12", call: RELAY, buffers: || relaying(100, 12), answer: ACCEPTED },
     Case { name: "relay-100-24", call: RELAY, buffers: || relaying(100, 24), answer: ACCEPTED },
@@ -135,8 +136,9 @@ fn forgetting(unit: u16) -> Buffers {
     }
 }
 
-/// A beacon of the unit in the last row, one hop nearer to it. Once forwarded it would not be forwarded again.
-fn forwarding() -> Buffers {
+/// A beacon of this type, of the unit in the last row and one hop nearer to it. Once forwarded it would not be forwarded
+/// again.
+fn forwarding(code: u8) -> Buffers {
     let fields = [
         ("source", u32::from(NEIGHBOUR)),
         ("network", u32::from(NETWORK)),
@@ -145,7 +147,7 @@ fn forwarding() -> Buffers {
         ("max hops", MOST_BEACON_HOPS),
         ("delay", 1000),
     ];
-    Buffers::new(table(MOST_ROWS), beacon(&fields, &mut Random::new(BEACON_SEED)), OWN).reset_each_time()
+    Buffers::new(table(MOST_ROWS), beacon(code, &fields, &mut Random::new(BEACON_SEED)), LAST).reset_each_time()
 }
 
 /// A newcomer, to a site where half of the rows are taken.

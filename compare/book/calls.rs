@@ -24,6 +24,7 @@ extern "C" {
         rows: u32,
         data_slots: u32,
         slot_ms: u32,
+        beacon: u32,
     ) -> u8;
 
     fn braidlark_plan_numbers(plan: *const u8, plan_length: usize, numbers: *mut u32, numbers_length: usize) -> u8;
@@ -205,8 +206,8 @@ impl BookCall<'_> {
         // SAFETY: each address is that of a live buffer of the length given with it, or NULL with length 0.
         unsafe {
             match *self.ask {
-                Ask::Plan { wanted: Wanted { network, manager, max_hops, rows, data_slots, slot_ms } } =>
-                    braidlark_plan(book, book_length, network, manager, max_hops, rows, data_slots, slot_ms),
+                Ask::Plan { wanted: Wanted { network, manager, max_hops, rows, data_slots, slot_ms, beacon } } =>
+                    braidlark_plan(book, book_length, network, manager, max_hops, rows, data_slots, slot_ms, beacon),
                 Ask::Numbers { .. } => braidlark_plan_numbers(book, book_length, numbers, numbers_length),
                 Ask::Fresh { time, .. } => braidlark_book_fresh(book, book_length, input, input_length, time),
                 Ask::Join { time, .. } =>

@@ -8,6 +8,7 @@ use crate::book::members::*;
 use crate::book::refusals::every_refusal;
 use crate::book::site::*;
 use crate::book::story::*;
+use crate::frames::kinds::{BEACONS, SHORT_BEACON};
 use crate::shared::check::{Agreement, Check};
 use crate::shared::moment_drafts::{FORWARD, NOT_FORWARD, STARTS};
 use crate::shared::moments::{Moment, LONGEST_STEP};
@@ -15,11 +16,13 @@ use crate::shared::refusal::ACCEPTED;
 
 pub fn check(check: &mut Check) -> Agreement {
     plans_of_the_paper(check)?;
+    plans_with_short_beacons(check)?;
     numbers_too_wide(check)?;
     numbers_of_the_paper(check)?;
     for start in STARTS {
         story_of_the_paper(check, start)?;
         schedules_of_the_paper(check, start)?;
+        eight_unit_site(check, start)?;
         beacon_slots_of_every_hop(check, start)?;
         no_unit_is_granted_all_free_slots(check, start)?;
         live_up_to_its_age(check, start)?;
@@ -57,18 +60,53 @@ fn made(check: &mut Check, wanted: Wanted, status: u8) -> Agreement {
     check.is_answered(status, &[0xFF; Plan::LENGTH], &Ask::Plan { wanted }).map(drop)
 }
 
+/// "With h 1 and 8 data slots it has 70 slots of 1,000 ms": too many for beacons that say how long they are together.
+fn eight_units() -> Plan {
+    Plan { slot_ms: 1000, beacon: SHORT_BEACON, ..site(1, 8, 8) }
+}
+
+/// "With 0x47 the product rule of 65,535 ms is dropped and slot ms itself is at most 65,535." All other rules stay.
+fn plans_with_short_beacons(check: &mut Check) -> Agreement {
+    let eight = eight_units();
+    assert_eq!((eight.active(), eight.slots(), eight.superframe_ms()), (21, 70, 70_000));
+    let right = eight.wanted();
+    let left = check.is_answered(ACCEPTED, &[0xFF; 10], &Ask::Plan { wanted: right })?.left;
+    assert_eq!(left.book, [1, 0, 0, 1, 1, 8, 8, 0xE8, 3, 0x47], "the bytes of a plan");
+    made(check, Wanted { beacon: 0x46, ..right }, 14)?;
+    made(check, Wanted { beacon: 0x46, slot_ms: 936, ..right }, 0)?;
+    made(check, Wanted { beacon: 0x46, slot_ms: 937, ..right }, 14)?;
+    for (slot_ms, status) in [(0, 14), (1, 0), (936, 0), (937, 0), (65_534, 0), (65_535, 0), (65_536, 14)] {
+        made(check, Wanted { slot_ms, ..right }, status)?;
+    }
+    for beacon in [0, 1, 0x45, 0x48, 0xFF, 0x100, 0x146, 0x147, 0x1_0046, 0x8000_0047, 0xFFFF_FF46, 0xFFFF_FFFF] {
+        made(check, Wanted { beacon, ..right }, 14)?;
+        made(check, Wanted { beacon, slot_ms: 1, ..right }, 14)?;
+    }
+    for (max_hops, rows, data_slots) in [(0, 8, 8), (11, 8, 8), (1, 1, 8), (1, 8, 7), (3, 20, 22)] {
+        made(check, Wanted { max_hops, rows, data_slots, ..right }, 14)?;
+    }
+    made(check, Wanted { max_hops: 3, rows: 20, data_slots: 21, slot_ms: 65_535, ..right }, 0)?;
+    made(check, Wanted { network: 0, ..right }, 14)?;
+    made(check, Wanted { manager: 0xFFFF, ..right }, 14)
+}
+
 /// The two plans of the paper with slots as long as they may be. The first has four beacon slots, four of control, six of
 /// data, from the manager's slot 8 on, and two of discovery.
 fn numbers_of_the_paper(check: &mut Check) -> Agreement {
     let small = Plan { slot_ms: 1213, ..site(3, 4, 6) };
     tells(check, small, &[16, 54, 65_502, 4, 8, 14, 16])?;
     tells(check, Plan { slot_ms: 655, ..site(3, 20, 21) }, &[50, 100, 65_500, 4, 24, 45, 50])?;
+    tells(check, eight_units(), &[21, 70, 70_000, 2, 10, 18, 21])?;
+    let longest = Plan { slot_ms: 65_535, beacon: SHORT_BEACON, ..site(3, 20, 21) };
+    tells(check, longest, &[50, 100, 6_553_500, 4, 24, 45, 50])?;
     // 14 before 5.
     let broken = plan_bytes(Plan { slot_ms: 1214, ..small });
-    for (bytes, places, status) in [(&broken, 6, 14), (&broken, 7, 14), (&plan_bytes(small), 6, 5)] {
-        check.is_answered(status, bytes, &Ask::Numbers { places })?;
+    let (other, nine) = (plan_bytes(Plan { beacon: 0x48, ..small }), plan_bytes(small)[..9].to_vec());
+    for bytes in [broken, other, nine] {
+        check.is_answered(14, &bytes, &Ask::Numbers { places: 6 })?;
+        check.is_answered(14, &bytes, &Ask::Numbers { places: 7 })?;
     }
-    Ok(())
+    check.is_answered(5, &plan_bytes(small), &Ask::Numbers { places: 6 }).map(drop)
 }
 
 /// A plan tells exactly these numbers.
@@ -80,13 +118,17 @@ fn tells(check: &mut Check, plan: Plan, numbers: &[u32; Plan::NUMBERS]) -> Agree
 
 /// Of 260 rows a byte says 4, and so on: a number is refused, not cut.
 fn numbers_too_wide(check: &mut Check) -> Agreement {
-    let right = Plan { slot_ms: 1000, ..site(3, 4, 6) }.wanted();
-    made(check, right, 0)?;
-    for more in (8..32).map(|bit| 1 << bit) {
-        made(check, Wanted { max_hops: 3 + more, ..right }, 14)?;
-        made(check, Wanted { rows: 4 + more, ..right }, 14)?;
-        made(check, Wanted { data_slots: 6 + more, ..right }, 14)?;
-        made(check, Wanted { slot_ms: 1000 + more, ..right }, 14)?;
+    for beacon in BEACONS {
+        let right = Plan { slot_ms: 1000, beacon, ..site(3, 4, 6) }.wanted();
+        made(check, right, 0)?;
+        for more in (8..32).map(|bit| 1 << bit) {
+            made(check, Wanted { max_hops: 3 + more, ..right }, 14)?;
+            made(check, Wanted { rows: 4 + more, ..right }, 14)?;
+            made(check, Wanted { data_slots: 6 + more, ..right }, 14)?;
+            let longer = if beacon == SHORT_BEACON && more < 0x1_0000 { 0 } else { 14 };
+            made(check, Wanted { slot_ms: 1000 + more, ..right }, longer)?;
+            made(check, Wanted { beacon: right.beacon + more, ..right }, 14)?;
+        }
     }
     Ok(())
 }
@@ -115,6 +157,21 @@ fn schedules_of_the_paper(check: &mut Check, start: Moment) -> Agreement {
     story.joins(FIRST, 4, start, &[3, 5])?;
     story.shows(MANAGER, 0, "B.CcTRDD...................")?;
     story.shows(FIRST, 1, "bBcCRTdd...................")
+}
+
+/// Eight units have a slot of control and one of data each, from the manager on, and a ninth finds no row.
+fn eight_unit_site(check: &mut Check, start: Moment) -> Agreement {
+    let mut story = Story::begin(check, eight_units(), start)?;
+    assert_eq!((story.book.len(), story.book[9]), (308, SHORT_BEACON), "the bytes of a book");
+    for (unit, place) in (FIRST..).zip(1..8) {
+        story.joins(unit, 4, start + place, &[2 + place, 10 + place])?;
+    }
+    story.is_answered(12, join(FIRST + 7, 1, start + 7))?;
+    story.requests(FIRST + 6, 4, start + 8, &[9, 17])?;
+    assert_eq!((story.book.len(), story.book[9]), (308, SHORT_BEACON), "the plan stays");
+    let sleep = ".".repeat(49);
+    story.shows(MANAGER, 0, &format!("B.CcccccccTRRRRRRRDDD{}", sleep))?;
+    story.shows(FIRST + 6, 1, &format!("bBcccccccCRRRRRRRTddd{}", sleep))
 }
 
 /// A unit hears slot 0 and the one before its own; slots of empty rows and of nobody are listened to.

@@ -5,7 +5,7 @@ use crate::book::calls::Ask;
 use crate::book::members::*;
 use crate::book::site::*;
 use crate::frames::drafts::damaged;
-use crate::frames::kinds::{kind_of_type, JOIN_REQUEST, SLOT_REQUEST};
+use crate::frames::kinds::{kind_of_type, BEACON, BEACONS, JOIN_REQUEST, SHORT_BEACON, SLOT_REQUEST};
 use crate::shared::moment_drafts::{anywhere, earlier, long_ago, start, stored_late, Pace};
 use crate::shared::moments::Moment;
 use crate::shared::random::Random;
@@ -34,17 +34,20 @@ pub fn book_bytes(book: &Book) -> Vec<u8> {
 
 /// The longest slots that the numbers beside them allow.
 pub fn longest_slot_ms(plan: &Plan) -> u16 {
-    (LONGEST_SUPERFRAME_MS / plan.slots()) as u16
+    match plan.beacon {
+        SHORT_BEACON => u16::MAX,
+        _ => (LONGEST_SUPERFRAME_MS / plan.slots()) as u16,
+    }
 }
 
 /// The most data slots beside these hops and rows.
 fn most_data_slots(max_hops: u8, rows: u8) -> u8 {
-    let without = Plan { network: 1, manager: 1, max_hops, rows, data_slots: 0, slot_ms: 1 };
+    let without = Plan { network: 1, manager: 1, max_hops, rows, data_slots: 0, slot_ms: 1, beacon: BEACON };
     MOST_ACTIVE.saturating_sub(without.active()) as u8
 }
 
-/// A plan within rule, small or full as often as any other.
-fn random_plan(random: &mut Random) -> Plan {
+/// A plan within rule whose manager sends such beacons, small or full as often as any other.
+fn random_plan(beacon: u8, random: &mut Random) -> Plan {
     let any_hops = random.within(1, 10) as u8;
     let mut most_rows = LEAST_ROWS;
     while most_data_slots(any_hops, most_rows + 1) > most_rows {
@@ -65,7 +68,7 @@ fn random_plan(random: &mut Random) -> Plan {
         (any_hops, any_rows, any_data_slots),
     ]);
     let (network, manager) = (random.within(1, 0xFFFF) as u16, random_unit(random));
-    let mut plan = Plan { network, manager, max_hops, rows, data_slots, slot_ms: 1 };
+    let mut plan = Plan { network, manager, max_hops, rows, data_slots, slot_ms: 1, beacon };
     plan.slot_ms = random.within(1, longest_slot_ms(&plan).into()) as u16;
     plan
 }
@@ -82,11 +85,16 @@ pub fn widened(random: &mut Random, number: u32, bits: usize) -> u32 {
     number | random.one_of(&[one, one, one | any, above])
 }
 
-/// What a plan is asked for with, of which the number at a place, from 0 to 3, is too wide for a plan.
+/// How many numbers a plan is asked for with that can be too wide for it.
+pub const WIDE_NUMBERS: usize = 5;
+
+/// What a plan is asked for with, of which the one of these numbers at a place is too wide.
 pub fn too_wide(random: &mut Random, plan: &Plan, place: usize) -> Wanted {
     let mut wanted = plan.wanted();
-    let Wanted { max_hops, rows, data_slots, slot_ms, .. } = &mut wanted;
-    let (number, bits) = [(max_hops, 8), (rows, 8), (data_slots, 8), (slot_ms, 16)].into_iter().nth(place).unwrap();
+    let Wanted { max_hops, rows, data_slots, slot_ms, beacon, .. } = &mut wanted;
+    let numbers: [(&mut u32, usize); WIDE_NUMBERS] =
+        [(max_hops, 8), (rows, 8), (data_slots, 8), (slot_ms, 16), (beacon, 8)];
+    let (number, bits) = numbers.into_iter().nth(place).unwrap();
     *number = widened(random, *number, bits);
     wanted
 }
@@ -107,7 +115,13 @@ pub struct Scene {
 
 impl Scene {
     pub fn new(random: &mut Random) -> Scene {
-        let plan = random_plan(random);
+        let beacon = random.one_of(&BEACONS);
+        Scene::with_beacons(beacon, random)
+    }
+
+    /// A site whose manager sends beacons of this type.
+    pub fn with_beacons(beacon: u8, random: &mut Random) -> Scene {
+        let plan = random_plan(beacon, random);
         let rows = usize::from(plan.rows);
         // As many as there are rows beside the manager's, fewer, or more.
         let others = random.one_of(&[1, 2, 3, rows - 1, rows, rows + 2]);
@@ -183,10 +197,12 @@ impl Drawing<'_> {
         }
     }
 
-    /// The scene's plan, of which by a slip one number is too wide.
+    /// The scene's plan, of which by a slip one number is too wide, or the kind of beacons another or none.
     fn plan(&mut self) -> Ask {
-        let (plan, place) = (self.scene.plan, self.random.below(4));
+        let (plan, place) = (self.scene.plan, self.random.below(WIDE_NUMBERS + 1));
+        let beacon = self.beacon();
         let wanted = match self.slip() {
+            true if place == WIDE_NUMBERS => Plan { beacon, ..plan }.wanted(),
             true => too_wide(self.random, &plan, place),
             false => plan.wanted(),
         };
@@ -299,13 +315,19 @@ impl Drawing<'_> {
         }
     }
 
+    /// A type that is that of a beacon or next to it, or none.
+    fn beacon(&mut self) -> u8 {
+        self.random.one_of(&[BEACON, SHORT_BEACON, BEACON - 1, SHORT_BEACON + 1, 0])
+    }
+
     /// The bytes of the scene's plan, whole unless by a slip.
     fn plan_bytes(&mut self) -> Vec<u8> {
         let mut plan = plan_bytes(self.scene.plan);
         if self.slip() {
-            match self.random.below(3) {
-                0 => plan.resize(self.random.one_of(&[0, 1, 8, 10, 307]), 0),
+            match self.random.below(4) {
+                0 => plan.resize(self.random.one_of(&[0, 1, 9, 11, 308]), 0),
                 1 => plan[self.random.below(Plan::LENGTH)] ^= 1 << self.random.below(8),
+                2 => plan[Plan::LENGTH - 1] = self.beacon(),
                 _ => plan[self.random.below(Plan::LENGTH)] = self.random.one_of(&[0, 1, 2, 11, 22, 45, 255]),
             }
         }
@@ -326,8 +348,8 @@ impl Drawing<'_> {
         let place = |row: usize| Book::HEAD_LENGTH + Book::ROW_LENGTH * row;
         let (row, other) = (place(self.random.below(rows)), place(self.random.below(rows)));
         let limit = self.random.one_of(&[0, 1, 2, 3, 11, 16, 22, 45, 254, 255]);
-        match self.random.below(10) {
-            0 => bytes.resize(self.random.one_of(&[0, 1, 306, 308, 600]), 0),
+        match self.random.below(11) {
+            0 => bytes.resize(self.random.one_of(&[0, 1, 307, 309, 600]), 0),
             1 => bytes[self.random.below(Plan::LENGTH)] = limit,
             2 => bytes[self.random.below(Book::LENGTH)] ^= 1 << self.random.below(8),
             3 => bytes.copy_within(row..row + 2, other),
@@ -342,6 +364,7 @@ impl Drawing<'_> {
                 bytes[row + 2 + slot / 8] ^= 1 << (slot % 8);
             }
             8 => bytes.copy_within(row..row + Book::ROW_LENGTH, other),
+            9 => bytes[Plan::LENGTH - 1] = self.beacon(),
             _ => bytes[row + self.random.below(Book::ROW_LENGTH)] = limit,
         }
         bytes

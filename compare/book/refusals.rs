@@ -5,6 +5,8 @@ use crate::book::drafts::{join_request, slot_request};
 use crate::book::members::RESPONSE_LENGTH;
 use crate::book::story::*;
 use crate::frames::bodies::seal;
+use crate::frames::drafts::Draft;
+use crate::frames::kinds::{kind_of_type, BEACONS};
 use crate::shared::check::{Agreement, Check};
 use crate::shared::moments::Moment;
 
@@ -26,6 +28,10 @@ fn frame_refusals(story: &mut Story, frame: &[u8], ask: impl Fn(Vec<u8>) -> Ask)
     // An unknown type, and a known one that the call does not want, both of a wrong length.
     story.is_answered(2, ask(vec![0x41; 255]))?;
     story.is_answered(2, ask(vec![0x22]))?;
+    for code in BEACONS {
+        let beacon = Draft::new(kind_of_type(code), &mut story.check.random).frame();
+        story.is_answered(2, ask(beacon))?;
+    }
     story.is_answered(1, ask(frame[..last].to_vec()))?;
     story.is_answered(1, ask([frame, &[0]].concat()))?;
     let mut changed = frame.to_vec();

@@ -1,6 +1,7 @@
-//! The independent site plan, from the paper's section on it alone: the rules of its six numbers, where each kind of
-//! slot lies, and what a unit does in every slot.
+//! The independent site plan, from the paper's section on it and request 101 of document 02 alone: the rules of its
+//! numbers, where each kind of slot lies, and what a unit does in every slot.
 
+use crate::frames::kinds::{BEACON, SHORT_BEACON};
 use crate::shared::numbers::{is_unit, word};
 use crate::shared::refusal::Refusal;
 
@@ -10,6 +11,7 @@ pub const LEAST_ROWS: u8 = 2;
 pub const MOST_ROWS: usize = 21;
 pub const MOST_ACTIVE: usize = 50;
 pub const MOST_SLOTS: usize = 100;
+/// A beacon that is not short tells of no longer one.
 pub const LONGEST_SUPERFRAME_MS: usize = 65_535;
 
 /// What a unit does in a slot.
@@ -37,6 +39,8 @@ pub struct Plan {
     pub rows: u8,
     pub data_slots: u8,
     pub slot_ms: u16,
+    /// The type of the beacons that its manager sends.
+    pub beacon: u8,
 }
 
 /// The numbers that a plan is asked for with, as wide as a caller's mistake.
@@ -48,6 +52,7 @@ pub struct Wanted {
     pub rows: u32,
     pub data_slots: u32,
     pub slot_ms: u32,
+    pub beacon: u32,
 }
 
 impl Wanted {
@@ -57,7 +62,8 @@ impl Wanted {
         let byte = |number: u32| u8::try_from(number).map_err(|_| Refusal::OutOfRule);
         let (max_hops, rows, data_slots) = (byte(self.max_hops)?, byte(self.rows)?, byte(self.data_slots)?);
         let slot_ms = u16::try_from(self.slot_ms).map_err(|_| Refusal::OutOfRule)?;
-        Plan { network, manager, max_hops, rows, data_slots, slot_ms }.checked()
+        let beacon = byte(self.beacon)?;
+        Plan { network, manager, max_hops, rows, data_slots, slot_ms, beacon }.checked()
     }
 }
 
@@ -71,6 +77,7 @@ impl Plan {
             rows: self.rows.into(),
             data_slots: self.data_slots.into(),
             slot_ms: self.slot_ms.into(),
+            beacon: self.beacon.into(),
         }
     }
 
@@ -83,10 +90,20 @@ impl Plan {
             && self.data_slots >= self.rows
             && self.active() <= MOST_ACTIVE
             && self.slot_ms >= 1
-            && self.superframe_ms() <= LONGEST_SUPERFRAME_MS;
+            && self.beacons_tell_of_it();
         match in_rule {
             true => Ok(self),
             false => Err(Refusal::OutOfRule),
+        }
+    }
+
+    /// Whether there are such beacons, and they have room for how long all slots are together. A short one says only how
+    /// long each is.
+    fn beacons_tell_of_it(&self) -> bool {
+        match self.beacon {
+            BEACON => self.superframe_ms() <= LONGEST_SUPERFRAME_MS,
+            SHORT_BEACON => true,
+            _ => false,
         }
     }
 
@@ -156,7 +173,7 @@ impl Plan {
 
 /// The bytes that a plan is at the boundary.
 impl Plan {
-    pub const LENGTH: usize = 9;
+    pub const LENGTH: usize = 10;
     pub const NUMBERS: usize = 7;
 
     /// The plan of these bytes, within rule or not; but there is none for another length.
@@ -166,7 +183,7 @@ impl Plan {
         }
         let (max_hops, rows, data_slots) = (bytes[4], bytes[5], bytes[6]);
         let (network, manager, slot_ms) = (word(bytes, 0), word(bytes, 2), word(bytes, 7));
-        Ok(Plan { network, manager, max_hops, rows, data_slots, slot_ms })
+        Ok(Plan { network, manager, max_hops, rows, data_slots, slot_ms, beacon: bytes[9] })
     }
 
     pub fn to_bytes(self, bytes: &mut [u8]) {
@@ -174,5 +191,6 @@ impl Plan {
         bytes[2..4].copy_from_slice(&self.manager.to_le_bytes());
         bytes[4..7].copy_from_slice(&[self.max_hops, self.rows, self.data_slots]);
         bytes[7..9].copy_from_slice(&self.slot_ms.to_le_bytes());
+        bytes[9] = self.beacon;
     }
 }

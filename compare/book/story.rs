@@ -5,7 +5,7 @@ use crate::book::drafts::{join_request, plan_bytes, slot_request};
 use crate::book::members::*;
 use crate::book::site::{self, *};
 use crate::frames::independent;
-use crate::frames::kinds::{ACCEPTED as JOINED, JOIN_RESPONSE};
+use crate::frames::kinds::{ACCEPTED as JOINED, BEACON, JOIN_RESPONSE};
 use crate::shared::check::{Agreement, Check, Difference};
 use crate::shared::moments::Moment;
 use crate::shared::refusal::ACCEPTED;
@@ -21,7 +21,7 @@ pub const FOURTH: u16 = 0x0204;
 const ROOM: usize = 100;
 
 pub fn site(max_hops: u8, rows: u8, data_slots: u8) -> Plan {
-    Plan { network: NETWORK, manager: MANAGER, max_hops, rows, data_slots, slot_ms: 1 }
+    Plan { network: NETWORK, manager: MANAGER, max_hops, rows, data_slots, slot_ms: 1, beacon: BEACON }
 }
 
 /// Every call that takes a book: three that need no live member, and then four that need `FIRST`.
@@ -51,7 +51,7 @@ pub fn schedule(unit: u16, hop: u32, time: Moment) -> Ask {
 
 /// A book and what is told of it.
 pub struct Story<'a> {
-    check: &'a mut Check,
+    pub check: &'a mut Check,
     pub book: Vec<u8>,
     /// The time of the last call that changed it.
     pub time: Moment,

@@ -2,9 +2,10 @@
 //! with members, and books that keep all rules but one.
 
 use crate::book::calls::Ask;
-use crate::book::drafts::{book_bytes, join_request, longest_slot_ms, plan_bytes, too_wide};
+use crate::book::drafts::{book_bytes, join_request, longest_slot_ms, plan_bytes, too_wide, WIDE_NUMBERS};
 use crate::book::members::*;
 use crate::book::site::*;
+use crate::frames::kinds::{BEACON, BEACONS, SHORT_BEACON};
 use crate::shared::check::{Agreement, Check};
 use crate::shared::moment_drafts::STARTS;
 use crate::shared::moments::{Moment, HALF, LONGEST_STEP};
@@ -22,31 +23,23 @@ const HIGH: [u8; 6] = [64, 127, 128, 206, 254, 255];
 
 pub fn check(check: &mut Check) -> Agreement {
     every_plan(check)?;
+    every_kind_of_beacons(check)?;
     addresses_and_networks(check)?;
     every_length(check)?;
     books_with_one_rule_broken(check)
 }
 
 fn plan(max_hops: u8, rows: u8, data_slots: u8) -> Plan {
-    Plan { network: NETWORK, manager: MANAGER, max_hops, rows, data_slots, slot_ms: 1 }
+    Plan { network: NETWORK, manager: MANAGER, max_hops, rows, data_slots, slot_ms: 1, beacon: BEACON }
 }
 
-/// All hops, rows and data slots, with slots as long as they may be and longer; a plan that is one is also filled.
+/// All hops, rows and data slots, with either kind of beacons.
 fn every_plan(check: &mut Check) -> Agreement {
     for max_hops in HOPS {
         for rows in (0..=MOST_TRIED_ROWS).chain(HIGH) {
             for data_slots in (0..=MOST_TRIED_DATA_SLOTS).chain(HIGH) {
-                let plan = plan(max_hops, rows, data_slots);
-                let longest = longest_slot_ms(&plan);
-                let other = check.random.one_of(&[0, 1, 0x8000, 0xFFFF]);
-                for slot_ms in [longest, longest + 1, other] {
-                    let plan = Plan { slot_ms, ..plan };
-                    check.ask(&[0xFF; Plan::LENGTH], &Ask::Plan { wanted: plan.wanted() })?;
-                    check.ask(&plan_bytes(plan), &Ask::Numbers { places: Plan::NUMBERS })?;
-                }
-                if plan.checked().is_ok() {
-                    too_wide_at_every_place(check, plan)?;
-                    filled_site(check, plan)?;
+                for beacon in BEACONS {
+                    every_slot_length(check, Plan { beacon, ..plan(max_hops, rows, data_slots) })?;
                 }
             }
         }
@@ -54,9 +47,52 @@ fn every_plan(check: &mut Check) -> Agreement {
     Ok(())
 }
 
+/// A plan with slots as long as they may be and longer, which may be too long for a plan's bytes; one that is within
+/// rule is also filled.
+fn every_slot_length(check: &mut Check, plan: Plan) -> Agreement {
+    let longest = u32::from(longest_slot_ms(&plan));
+    let other = check.random.one_of(&[0, 1, 0x8000, 0xFFFF]);
+    for slot_ms in [longest, longest + 1, other] {
+        let wanted = Wanted { slot_ms, ..plan.wanted() };
+        check.ask(&[0xFF; Plan::LENGTH], &Ask::Plan { wanted })?;
+        if let Ok(slot_ms) = u16::try_from(slot_ms) {
+            check.ask(&plan_bytes(Plan { slot_ms, ..plan }), &Ask::Numbers { places: Plan::NUMBERS })?;
+        }
+    }
+    if plan.checked().is_ok() {
+        too_wide_at_every_place(check, plan)?;
+        filled_site(check, plan)?;
+    }
+    Ok(())
+}
+
+/// Every type that a plan's bytes can say, and wider ones, with slots as long as each kind allows.
+fn every_kind_of_beacons(check: &mut Check) -> Agreement {
+    let right = plan(1, 8, 8);
+    for slot_ms in [1, 936, 937, 0xFFFF] {
+        for beacon in 0..=0xFF {
+            let plan = Plan { slot_ms, beacon, ..right };
+            check.ask(&plan_bytes(plan), &Ask::Numbers { places: Plan::NUMBERS })?;
+            check.ask(&[0; Book::LENGTH], &Ask::Fresh { plan: plan_bytes(plan), time: START })?;
+        }
+        for beacon in (0..=0x1FF).chain(BEACONS.iter().flat_map(|code| wider(*code))) {
+            let wanted = Wanted { slot_ms: slot_ms.into(), beacon, ..right.wanted() };
+            let fits = beacon == u32::from(BEACON) && slot_ms <= 936 || beacon == u32::from(SHORT_BEACON);
+            let status = if fits { ACCEPTED } else { 14 };
+            check.is_answered(status, &[0xFF; Plan::LENGTH], &Ask::Plan { wanted })?;
+        }
+    }
+    Ok(())
+}
+
+/// Numbers that this byte is the lowest of.
+fn wider(byte: u8) -> impl Iterator<Item = u32> {
+    (8..32).map(|bit| 1 << bit).chain([0xFFFF_FF00]).map(move |above| above | u32::from(byte))
+}
+
 /// A plan within rule but for one number, which a byte or two would cut to the right one.
 fn too_wide_at_every_place(check: &mut Check, plan: Plan) -> Agreement {
-    for place in 0..4 {
+    for place in 0..WIDE_NUMBERS {
         let wanted = too_wide(&mut check.random, &plan, place);
         check.is_answered(14, &[0xFF; Plan::LENGTH], &Ask::Plan { wanted })?;
     }
@@ -118,8 +154,14 @@ fn every_length(check: &mut Check) -> Agreement {
 type Change = (&'static str, fn(&mut Book));
 
 /// Changes after which `spread_book` is still within rule.
-const ALLOWED: [Change; 10] = [
+const ALLOWED: [Change; 13] = [
     ("none", |_| {}),
+    ("short beacons", |book| book.plan.beacon = SHORT_BEACON),
+    ("slots as long as beacons can tell of", |book| book.plan.slot_ms = LONGEST_SLOT_MS),
+    ("short beacons and the longest slots", |book| {
+        book.plan.beacon = SHORT_BEACON;
+        book.plan.slot_ms = u16::MAX;
+    }),
     ("the manager holds the highest four", |book| book.rows[0].slots = 0xF00),
     ("the manager's time is long past", |book| book.rows[0].time = book.time - LONGEST_STEP),
     ("the manager's time is half of all times away", |book| book.rows[0].time = book.time - HALF),
@@ -139,7 +181,19 @@ const ALLOWED: [Change; 10] = [
 ];
 
 /// Changes after which it breaks one rule.
-const BROKEN: [Change; 23] = [
+const BROKEN: [Change; 29] = [
+    ("no beacons", |book| book.plan.beacon = 0),
+    ("a type before beacons", |book| book.plan.beacon = BEACON - 1),
+    ("a type behind beacons", |book| book.plan.beacon = SHORT_BEACON + 1),
+    ("slots longer than beacons can tell of", |book| book.plan.slot_ms = LONGEST_SLOT_MS + 1),
+    ("short beacons and slots of no time", |book| {
+        book.plan.beacon = SHORT_BEACON;
+        book.plan.slot_ms = 0;
+    }),
+    ("short beacons and no hops", |book| {
+        book.plan.beacon = SHORT_BEACON;
+        book.plan.max_hops = 0;
+    }),
     ("no network", |book| book.plan.network = 0),
     ("another manager", |book| book.plan.manager += 0x50),
     ("no hops", |book| book.plan.max_hops = 0),
@@ -168,6 +222,9 @@ const BROKEN: [Change; 23] = [
     ("a member after the last time", |book| book.rows[3].time = book.time + 1),
     ("a member half of all times away", |book| book.rows[3].time = book.time - HALF),
 ];
+
+/// Of `spread_book`, which has 74 slots.
+const LONGEST_SLOT_MS: u16 = 885;
 
 /// Twelve data slots and four rows, of which the third is empty.
 fn spread_book(start: Moment) -> Book {

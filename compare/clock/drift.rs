@@ -1,8 +1,8 @@
-//! The independent implementation of the clock's step, from the paper's drift. The library is held to what it
-//! answers.
+//! The independent implementation of the clock's step, from the paper's drift, by either kind of beacon. The library is
+//! held to what it answers.
 
 use crate::frames::independent;
-use crate::frames::kinds::{kind_of_type, BEACON, LONGEST_FRAME};
+use crate::frames::kinds::{kind_of_type, BEACONS, LONGEST_FRAME};
 use crate::shared::moments::Moment;
 use crate::shared::refusal::Refusal;
 
@@ -34,11 +34,11 @@ struct Heard {
 
 /// A frame of another known type is refused by its type, whatever its length.
 fn beacon_in(frame: &[u8]) -> Result<Heard, Refusal> {
-    let kind = kind_of_type(BEACON);
-    if frame.len() <= LONGEST_FRAME && frame.first().map_or(false, |&code| code != BEACON) {
+    if frame.len() <= LONGEST_FRAME && frame.first().map_or(false, |code| !BEACONS.contains(code)) {
         return Err(Refusal::Type);
     }
-    let reading = independent::read(frame, kind.fields.len())?;
+    let reading = independent::read(frame, usize::MAX)?;
+    let kind = kind_of_type(frame[0]);
     let number = |name: &str| reading.numbers[kind.place(name)];
     let (original_time, delay) = (Moment(number("original time")), number("delay"));
     Ok(Heard { network: number("network"), original_time, delay })

@@ -2,6 +2,7 @@
 
 use crate::clock::check::*;
 use crate::frames::bodies::mended;
+use crate::frames::kinds::{BEACONS, SHORT_BEACON};
 use crate::shared::check::{Agreement, Check};
 use crate::shared::moment_drafts::{start, Pace};
 use crate::shared::moments::Moment;
@@ -19,13 +20,14 @@ pub fn random_run(check: &mut Check, steps: u64) -> Agreement {
     Ok(())
 }
 
-/// A beacon as it should be, with a drift near a limit or anywhere; now and then a damaged one.
+/// A beacon of either kind as it should be, with a drift near a limit or anywhere; now and then a damaged one.
 fn random_step(check: &mut Check, offset: u32, local_time: Moment) -> Offset {
     let near = check.random.below(2 * NEAR as usize + 1) as i32 - NEAR;
     let (far, any) = (check.random.one_of(&FAR), check.random.draw() as i32);
     let drift = check.random.one_of(&[near, near, near, near, near, far, any, any]);
-    let delay = number(check);
-    let draft = beacon(check, local_time + offset - drift as u32 - delay, delay);
+    let code = check.random.one_of(&BEACONS);
+    let delay = random_delay(check, code);
+    let draft = beacon(check, code, local_time + offset - drift as u32 - delay, delay);
     let network = network_of(&draft);
     let mut frame = draft.frame();
     match check.random.below(8) {
@@ -42,6 +44,13 @@ fn random_step(check: &mut Check, offset: u32, local_time: Moment) -> Offset {
             step(check, offset, local_time, other, &frame)
         }
         _ => step(check, offset, local_time, network, &frame),
+    }
+}
+
+fn random_delay(check: &mut Check, code: u8) -> u32 {
+    match code {
+        SHORT_BEACON => check.random.within(0, 0xFFFF),
+        _ => number(check),
     }
 }
 

@@ -98,7 +98,8 @@ fn numbers(kind: &Kind, count: u32, random: &mut Random) -> Vec<u32> {
             vec![code, unit(random), network(random), byte(random), byte(random), byte(random), long(random)]
         }
         ROUTING_UPDATE => vec![code, unit(random), count, long(random)],
-        _ => beacon(random),
+        BEACON => beacon(random),
+        _ => short_beacon(random),
     }
 }
 
@@ -121,6 +122,23 @@ fn beacon(random: &mut Random) -> Vec<u32> {
         hop,
         long(random),
         long(random),
+        max_hops,
+        word(random),
+    ]
+}
+
+/// Its slots and their ms are any, whatever they make together.
+fn short_beacon(random: &mut Random) -> Vec<u32> {
+    let max_hops = random.within(1, MOST_BEACON_HOPS);
+    vec![
+        u32::from(SHORT_BEACON),
+        unit(random),
+        network(random),
+        random.within(1, MOST_SLOTS),
+        random.within(1, 0xFFFF),
+        random.within(0, max_hops),
+        long(random),
+        word(random),
         max_hops,
         word(random),
     ]

@@ -1,4 +1,5 @@
-//! The eight kinds of frames, from the paper's table: their fields, their variable parts, and how both lie in bytes.
+//! The nine kinds of frames, eight from the paper's table and the short beacon from request 101 of document 02: their
+//! fields, their variable parts, and how both lie in bytes.
 
 use crate::frames::rules::*;
 
@@ -12,6 +13,10 @@ pub const DISCOVERY_REQUEST: u8 = 0x24;
 pub const DISCOVERY_RESPONSE: u8 = 0x25;
 pub const ROUTING_UPDATE: u8 = 0x31;
 pub const BEACON: u8 = 0x46;
+pub const SHORT_BEACON: u8 = 0x47;
+
+/// Both kinds of beacons: what takes one takes the other.
+pub const BEACONS: [u8; 2] = [BEACON, SHORT_BEACON];
 
 pub const FIRST_UNIT: u32 = 1;
 pub const LAST_UNIT: u32 = 0xFFFE;
@@ -53,8 +58,8 @@ pub struct Kind {
     rule: fn(&[u32]) -> bool,
 }
 
-/// The eight kinds, in the paper's order.
-pub static KINDS: [Kind; 8] = [
+/// The nine kinds, in the paper's order.
+pub static KINDS: [Kind; 9] = [
     Kind {
         code: DATA,
         fields: &[
@@ -141,6 +146,23 @@ pub static KINDS: [Kind; 8] = [
         part: None,
         rule: beacon_rule,
     },
+    Kind {
+        code: SHORT_BEACON,
+        fields: &[
+            TYPE,
+            field("source", 2),
+            field("network", 2),
+            field("total slots", 1),
+            field("slot ms", 2),
+            field("hop", 1),
+            field("original time", 4),
+            field("delay", 2),
+            field("max hops", 1),
+            field("sequence", 2),
+        ],
+        part: None,
+        rule: short_beacon_rule,
+    },
 ];
 
 /// One entry of a routing update.
@@ -159,9 +181,9 @@ pub fn kind_of(code: u32) -> Option<&'static Kind> {
     KINDS.iter().find(|kind| u32::from(kind.code) == code)
 }
 
-/// The kind with this type, which is one of the eight.
+/// The kind with this type, which is one of the nine.
 pub fn kind_of_type(code: u8) -> &'static Kind {
-    kind_of(u32::from(code)).expect("one of the eight kinds")
+    kind_of(u32::from(code)).expect("one of the nine kinds")
 }
 
 impl Kind {

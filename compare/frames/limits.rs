@@ -1,4 +1,4 @@
-//! Every limit that the paper gives to frames, in turn: types, lengths, rooms, fields, counts, entries and positions.
+//! Every limit that the papers give to frames, in turn: types, lengths, rooms, fields, counts, entries and positions.
 
 use crate::frames::calls::{Entry, Write};
 use crate::frames::check::*;
@@ -18,6 +18,7 @@ const DRAFTS_FOR_EVERY_ROOM: usize = 4;
 
 pub fn check(check: &mut Check) -> Agreement {
     example_of_the_paper(check)?;
+    example_of_a_short_beacon(check)?;
     short_inputs_of_every_type(check)?;
     no_numbers(check)?;
     for kind in &KINDS {
@@ -32,6 +33,7 @@ pub fn check(check: &mut Check) -> Agreement {
     status_with_slot(check)?;
     hop_with_max_hops(check)?;
     superframe_with_slots(check)?;
+    slots_of_any_length(check)?;
     entries_at_limits(check)?;
     every_position(check)
 }
@@ -40,6 +42,18 @@ fn example_of_the_paper(check: &mut Check) -> Agreement {
     let numbers = [0x21, 0x0201, 0, 1, 4];
     let frame = [0x21, 0x01, 0x02, 0x00, 0x01, 0x00, 0x04, 0x27];
     assert_eq!(independent::write(&numbers, &[], frame.len()).as_deref(), Ok(&frame[..]), "the paper's join request");
+    read(check, &frame, numbers.len())
+}
+
+/// Of the eight-unit site of request 101, whose 70 slots of 1,000 ms no other beacon can tell of: 19 bytes.
+fn example_of_a_short_beacon(check: &mut Check) -> Agreement {
+    let numbers = [0x47, 0x0100, 1, 70, 1_000, 0, 70_000, 300, 1, 7];
+    let frame = [
+        0x47, 0x00, 0x01, 0x01, 0x00, 0x46, 0xE8, 0x03, 0x00, // up to the hop
+        0x70, 0x11, 0x01, 0x00, 0x2C, 0x01, 0x01, 0x07, 0x00, 0xA1,
+    ];
+    assert_eq!(independent::write(&numbers, &[], 19).as_deref(), Ok(&frame[..]), "a short beacon");
+    assert_eq!(independent::write(&numbers, &[], 18), Err(Refusal::Room), "it has 19 bytes");
     read(check, &frame, numbers.len())
 }
 
@@ -190,7 +204,10 @@ fn status_with_slot(check: &mut Check) -> Agreement {
 
 fn hop_with_max_hops(check: &mut Check) -> Agreement {
     let hops = [0, 1, 2, 9, 10, 11, 16, 17, 254, 255, 256];
-    every_pair(check, BEACON, ("hop", &hops), ("max hops", &hops))
+    for code in BEACONS {
+        every_pair(check, code, ("hop", &hops), ("max hops", &hops))?;
+    }
+    Ok(())
 }
 
 fn every_pair(check: &mut Check, code: u8, first: (&str, &[u32]), second: (&str, &[u32])) -> Agreement {
@@ -220,6 +237,13 @@ fn superframe_with_slots(check: &mut Check) -> Agreement {
         }
     }
     Ok(())
+}
+
+/// A short beacon's slots make a superframe of any length together.
+fn slots_of_any_length(check: &mut Check) -> Agreement {
+    let total_slots = [0, 1, 2, 64, 70, 99, 100, 101, 255, 256];
+    let slot_ms = [0, 1, 2, 655, 656, 936, 937, 1_000, 0x7FFF, 0x8000, 0xFFFE, 0xFFFF, 0x1_0000, 0x1_0001, 0xFFFF_FFFF];
+    every_pair(check, SHORT_BEACON, ("total slots", &total_slots), ("slot ms", &slot_ms))
 }
 
 /// Each field of the first and of the last entry.

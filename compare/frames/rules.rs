@@ -1,4 +1,4 @@
-//! The rules that the numbers of each kind of frame keep, from the paper alone.
+//! The rules that the numbers of each kind of frame keep, from the papers alone.
 
 use crate::frames::kinds::*;
 
@@ -97,6 +97,23 @@ pub fn beacon_rule(numbers: &[u32]) -> bool {
                 && (1..=MOST_SLOTS).contains(&total_slots)
                 && slot_ms >= 1
                 && u64::from(superframe_ms) == u64::from(total_slots) * u64::from(slot_ms)
+        }
+        _ => false,
+    }
+}
+
+/// The fields that it shares with the other beacon keep their rules. It says no superframe ms, so none have to agree.
+#[rustfmt::skip] // It would put all the names on one line.
+pub fn short_beacon_rule(numbers: &[u32]) -> bool {
+    match *numbers {
+        [_type, source, network, total_slots, slot_ms,
+         hop, _original_time, _delay, max_hops, _sequence] => {
+            is_unit(source)
+                && is_network(network)
+                && (1..=MOST_SLOTS).contains(&total_slots)
+                && slot_ms >= 1
+                && (1..=MOST_BEACON_HOPS).contains(&max_hops)
+                && hop <= max_hops
         }
         _ => false,
     }

@@ -5,6 +5,7 @@ use crate::book::drafts::{book_bytes, join_request};
 use crate::book::members::{Book, Row, LIVE_AGE};
 use crate::book::site::Plan;
 use crate::book::sweeps;
+use crate::frames::kinds::{BEACON, SHORT_BEACON};
 use crate::image::calls::Ask;
 use crate::image::check::round_trip;
 use crate::image::files::{named_images, spread_book, PAPER};
@@ -29,6 +30,7 @@ pub fn check(check: &mut Check) -> Agreement {
         manager_is_always_written(check, start)?;
         restore_renews_every_member(check, start)?;
         image_refusals(check, start)?;
+        short_beacons_have_no_image(check, start)?;
         every_step(check, start)?;
         every_stored_time(check, start)?;
     }
@@ -41,9 +43,18 @@ pub fn check(check: &mut Check) -> Agreement {
 
 /// The book that the paper's image holds, as a fresh one and a join make it.
 fn book_of_the_paper(start: Moment) -> Book {
-    let plan = Plan { network: 1, manager: 0x0100, max_hops: 1, rows: 2, data_slots: 2, slot_ms: 1000 };
+    let (max_hops, rows, data_slots, slot_ms, beacon) = (1, 2, 2, 1000, BEACON);
+    let plan = Plan { network: 1, manager: 0x0100, max_hops, rows, data_slots, slot_ms, beacon };
     let mut book = Book::fresh(plan, start).expect("the plan is within rule");
     book.join(&join_request(0x0201, 0, 1, 4), start, &mut [0; 65]).expect("a row is free");
+    book
+}
+
+/// The same book, but that its manager sends short beacons, with slots of this length.
+fn short_book(start: Moment, slot_ms: u16) -> Book {
+    let mut book = book_of_the_paper(start);
+    book.plan.beacon = SHORT_BEACON;
+    book.plan.slot_ms = slot_ms;
     book
 }
 
@@ -102,12 +113,15 @@ fn manager_is_always_written(check: &mut Check, start: Moment) -> Agreement {
     Ok(())
 }
 
-/// All are live from the time of the restore on, be it earlier than any time before.
+/// All are live from the time of the restore on, be it earlier than any time before, and the beacons are those of an
+/// image, whatever those before were.
 fn restore_renews_every_member(check: &mut Check, time: Moment) -> Agreement {
-    for buffer in [BUFFER.to_vec(), book_bytes(&book_of_the_paper(time + 1))] {
+    let (later, short) = (book_of_the_paper(time + 1), short_book(time + 1, u16::MAX));
+    for buffer in [BUFFER.to_vec(), book_bytes(&later), book_bytes(&short)] {
         let answer = check.ask(&buffer, &Ask::Restore { image: PAPER.to_vec(), time })?;
         let book = Book::from_bytes(&answer.left.book).expect("the restore left a book");
         assert_eq!((book.time, book.rows[0].time, book.rows[1].time), (time, time, time));
+        assert_eq!(book.plan.beacon, 0x46);
         assert_eq!(written(check, &book, time + LIVE_AGE)?, PAPER);
     }
     Ok(())
@@ -136,6 +150,19 @@ fn image_refusals(check: &mut Check, start: Moment) -> Agreement {
     ];
     for (book, time, room, status) in cases {
         check.is_answered(status, book, &Ask::Image { time, room })?;
+    }
+    Ok(())
+}
+
+/// "14 for an image write of a 0x47 plan", also where form 1 could hold all its numbers: behind 8, and before 5.
+fn short_beacons_have_no_image(check: &mut Check, start: Moment) -> Agreement {
+    for slot_ms in [1, 1000, u16::MAX] {
+        let book = book_bytes(&short_book(start, slot_ms));
+        for room in 0..=PAPER.len() + 1 {
+            check.is_answered(14, &book, &Ask::Image { time: start, room })?;
+            check.is_answered(8, &book, &Ask::Image { time: start - 1, room })?;
+        }
+        check.is_answered(14, &book, &Ask::Image { time: start + LIVE_AGE + 1, room: ROOM })?;
     }
     Ok(())
 }
@@ -177,9 +204,10 @@ fn restore_refusals(check: &mut Check) -> Agreement {
     Ok(())
 }
 
-/// A book that another call refuses has no image.
+/// A book that another call refuses has no image, nor has one with short beacons.
 fn books_with_one_rule_broken(check: &mut Check) -> Agreement {
     for (words, book, status) in sweeps::books_by_rule() {
+        let status = if book.plan.beacon == SHORT_BEACON { 14 } else { status };
         let bytes = book_bytes(&book);
         let answer = check.ask(&bytes, &Ask::Image { time: book.time, room: ROOM })?;
         assert_eq!(answer.status, status, "{}", words);

@@ -3,6 +3,7 @@
 
 use crate::book::drafts::{book_bytes, Drawing, Scene};
 use crate::book::members::{Book, Row, LIVE_AGE};
+use crate::frames::kinds::{BEACON, SHORT_BEACON};
 use crate::image::calls::Ask;
 use crate::image::{cases, hostile};
 use crate::shared::check::{Agreement, Check};
@@ -21,9 +22,11 @@ pub fn check(check: &mut Check, options: &Options, progress: &mut Progress) -> A
     check.runs(options.images, MOST_IMAGES, progress, site)
 }
 
-/// So many books of one site, each of them written as an image, and then a damaged one restored.
+/// So many books of one site, each of them written as an image, and then a damaged one restored. Few sites have short
+/// beacons, and with them no image.
 fn site(check: &mut Check, images: u64) -> Agreement {
-    let scene = Scene::new(&mut check.random);
+    let beacon = if check.random.below(8) == 0 { SHORT_BEACON } else { BEACON };
+    let scene = Scene::with_beacons(beacon, &mut check.random);
     for _ in 0..images {
         let book = scene.book(&mut check.random);
         let bytes = book_bytes(&book);

@@ -31,7 +31,7 @@ impl Drawing<'_> {
             _ => vec![0xFF; bytes.len()],
         };
         if self.slip() {
-            buffer.resize(self.random.one_of(&[0, 1, 230, 306, 308, 614]), 0);
+            buffer.resize(self.random.one_of(&[0, 1, 230, 307, 309, 616]), 0);
         }
         buffer
     }

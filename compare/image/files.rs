@@ -3,6 +3,7 @@
 
 use crate::book::members::{Book, Row};
 use crate::book::site::Plan;
+use crate::frames::kinds::BEACON;
 use crate::image::stored::{drawing, IMAGE_ROW_LENGTH, LONGEST_IMAGE, ROWS_AT};
 use crate::shared::moments::Moment;
 use std::fs;
@@ -72,7 +73,8 @@ pub fn spread_book() -> Book {
 
 /// A site whose every row is used. The last member has the last slot, the others one each from the first.
 pub fn full_book(max_hops: u8, rows: u8, data_slots: u8) -> Book {
-    let plan = Plan { network: 0x0102, manager: 0x0100, max_hops, rows, data_slots, slot_ms: 1 };
+    let (network, manager, slot_ms, beacon) = (0x0102, 0x0100, 1, BEACON);
+    let plan = Plan { network, manager, max_hops, rows, data_slots, slot_ms, beacon };
     let mut book = Book::fresh(plan, Moment(0)).expect("the plan is within rule");
     for place in 1..rows {
         book.rows[usize::from(place)] = Row { unit: 0x0200 + u16::from(place), slots: 1 << place, time: Moment(0) };

@@ -4,6 +4,7 @@
 //! They are one kind of value: a table's bytes, and what is asked of it. The answer has every place that any of them
 //! can write to, so that a call is also held to leaving the others alone.
 
+use crate::frames::kinds::SHORT_BEACON;
 use crate::routes::table::Table;
 use crate::shared::check::{Answer, Call};
 use crate::shared::kept::{self, On};
@@ -64,6 +65,7 @@ extern "C" {
         table: *mut u8,
         table_length: usize,
         network: u16,
+        manager: u16,
         frame: *const u8,
         frame_length: usize,
         delay: u32,
@@ -83,11 +85,29 @@ pub enum Ask {
     Merge { frame: Vec<u8>, quality: u8, time: Moment },
     Page { page: u32, time: Moment, room: usize },
     Relay { frame: Vec<u8>, time: Moment, room: usize },
-    Forward { network: u16, frame: Vec<u8>, delay: u32, time: Moment, room: usize },
+    Forward(Forward),
 }
 
-/// The calls by name, in the order of `Ask`, each with the refusals that it can give.
-pub const CALLS: [(&str, &[u8]); 7] = [
+/// What a beacon is to be forwarded with.
+#[derive(Clone, Debug)]
+pub struct Forward {
+    pub network: u16,
+    pub manager: u16,
+    pub frame: Vec<u8>,
+    pub delay: u32,
+    pub time: Moment,
+    pub room: usize,
+}
+
+impl Forward {
+    fn is_of_a_short_beacon(&self) -> bool {
+        self.frame.first() == Some(&SHORT_BEACON)
+    }
+}
+
+/// The calls by name, in the order of `Ask`, each with the refusals that it can give. Forwards of frames with the type of
+/// a short beacon are counted apart.
+pub const CALLS: [(&str, &[u8]); 8] = [
     ("fresh", &[14, 4]),
     ("lookup", &[14, 4, 8, 11]),
     ("forget", &[14, 4, 6, 8]),
@@ -95,19 +115,20 @@ pub const CALLS: [(&str, &[u8]); 7] = [
     ("page", &[14, 8, 5]),
     ("relay", &[14, 1, 2, 3, 4, 6, 8, 10, 11, 5]),
     ("forward", &[14, 1, 2, 3, 4, 6, 15, 8, 11, 16, 5]),
+    ("short forward", &[14, 1, 3, 4, 6, 15, 8, 11, 16, 5]),
 ];
 
 impl Ask {
     fn frame(&self) -> &[u8] {
         match self {
-            Ask::Merge { frame, .. } | Ask::Relay { frame, .. } | Ask::Forward { frame, .. } => frame,
+            Ask::Merge { frame, .. } | Ask::Relay { frame, .. } | Ask::Forward(Forward { frame, .. }) => frame,
             _ => &[],
         }
     }
 
     fn room(&self) -> usize {
         match *self {
-            Ask::Page { room, .. } | Ask::Relay { room, .. } | Ask::Forward { room, .. } => room,
+            Ask::Page { room, .. } | Ask::Relay { room, .. } | Ask::Forward(Forward { room, .. }) => room,
             _ => 0,
         }
     }
@@ -118,7 +139,7 @@ impl kept::Ask for Ask {
         match self {
             Ask::Merge { frame, .. } => (Some(frame), None),
             Ask::Page { room, .. } => (None, Some(room)),
-            Ask::Relay { frame, room, .. } | Ask::Forward { frame, room, .. } => (Some(frame), Some(room)),
+            Ask::Relay { frame, room, .. } | Ask::Forward(Forward { frame, room, .. }) => (Some(frame), Some(room)),
             Ask::Fresh { .. } | Ask::Lookup { .. } | Ask::Forget { .. } => (None, None),
         }
     }
@@ -188,8 +209,8 @@ impl Lending {
                 Ask::Relay { time, .. } => braidlark_relay(
                     table, table_length, frame, frame_length, time, out, out_length, next_hop, place, length,
                 ),
-                Ask::Forward { network, delay, time, .. } => braidlark_forward(
-                    table, table_length, network, frame, frame_length, delay, time, out, out_length, length,
+                Ask::Forward(Forward { network, manager, delay, time, .. }) => braidlark_forward(
+                    table, table_length, network, manager, frame, frame_length, delay, time, out, out_length, length,
                 ),
             }
         }
@@ -224,7 +245,7 @@ impl Call for TableCall<'_> {
             Ask::Merge { .. } => 3,
             Ask::Page { .. } => 4,
             Ask::Relay { .. } => 5,
-            Ask::Forward { .. } => 6,
+            Ask::Forward(forward) => 6 + usize::from(forward.is_of_a_short_beacon()),
         }
     }
 
@@ -259,8 +280,8 @@ impl Call for TableCall<'_> {
             Ask::Relay { frame, time, .. } => {
                 (left.next_hop, left.place, left.length) = table.relay(frame, *time, &mut left.out)?.numbers();
             }
-            Ask::Forward { network, frame, delay, time, .. } => {
-                left.length = table.forward(*network, frame, *delay, *time, &mut left.out)? as u32;
+            Ask::Forward(Forward { network, manager, frame, delay, time, .. }) => {
+                left.length = table.forward(*network, *manager, frame, *delay, *time, &mut left.out)? as u32;
             }
         }
         table.to_bytes(&mut left.table);
@@ -297,9 +318,9 @@ impl fmt::Display for TableCall<'_> {
             Ask::Relay { frame, time, room } => {
                 write!(text, "frame: {}; time: {}; out: {} bytes", input_shown(frame), time, room)
             }
-            Ask::Forward { network, frame, delay, time, room } => {
-                write!(text, "network: {:#06x}; frame: {}; delay: {}; ", network, input_shown(frame), delay)?;
-                write!(text, "time: {}; out: {} bytes", time, room)
+            Ask::Forward(Forward { network, manager, frame, delay, time, room }) => {
+                write!(text, "network: {:#06x}; manager: {:#06x}; frame: {}; ", network, manager, input_shown(frame))?;
+                write!(text, "delay: {}; time: {}; out: {} bytes", delay, time, room)
             }
         }
     }

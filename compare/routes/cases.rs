@@ -4,6 +4,7 @@
 
 use crate::routes::calls::Ask;
 use crate::routes::drafts::Entry;
+use crate::routes::forwards;
 use crate::routes::refusals::every_refusal;
 use crate::routes::story::*;
 use crate::routes::table::*;
@@ -20,6 +21,7 @@ pub fn check(check: &mut Check) -> Agreement {
         equal_route_of_another_neighbour_refreshes_nothing(check, start)?;
         gone_rows_use_no_room(check, start)?;
         every_refusal(check, start)?;
+        forwards::check(check, start)?;
         every_step(check, start)?;
         every_stored_time(check, start)?;
         round_and_round(check, start)?;
@@ -100,11 +102,11 @@ fn gone_rows_use_no_room(check: &mut Check, start: Moment) -> Agreement {
 /// "The step from the last accepted time to the call's time is their wrapped difference; below 2^31 it is forward,
 /// otherwise 8."
 fn every_step(check: &mut Check, start: Moment) -> Agreement {
-    let mut story = Story::begin(check, start)?;
-    story.hear(NEAR, 200, &[(FAR, 1, 200, OTHER, SENT)], start)?;
+    let mut story = Story::with_routes(check, start)?;
     for step in FORWARD {
         let routed = if step <= USABLE_AGE { 0 } else { 11 };
-        for (ask, status) in story.every_call(start + step).into_iter().zip([0, 0, 0, routed, routed, routed]) {
+        let statuses = [0, 0, 0, routed, routed, routed, routed];
+        for (ask, status) in story.every_call(start + step).into_iter().zip(statuses) {
             story.is_answered(status, ask)?;
         }
     }

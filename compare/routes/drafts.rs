@@ -2,8 +2,10 @@
 //! with damaged tables and frames.
 
 use crate::frames::drafts::{damaged, Draft};
-use crate::frames::kinds::{checksum, kind_of_type, BEACON, DATA, ENTRY_LENGTH, MOST_SLOTS, ROUTING_UPDATE};
-use crate::routes::calls::Ask;
+use crate::frames::kinds::{
+    checksum, kind_of_type, BEACON, BEACONS, DATA, ENTRY_LENGTH, MOST_SLOTS, ROUTING_UPDATE, SHORT_BEACON,
+};
+use crate::routes::calls::{Ask, Forward};
 use crate::routes::table::*;
 use crate::shared::moment_drafts::{anywhere, earlier, long_ago, start, stored_late, Pace};
 use crate::shared::moments::Moment;
@@ -34,13 +36,26 @@ pub fn data(source: u16, destination: u16, ttl: u8, sequence: u16, payload: &[u8
     kind_of_type(DATA).assemble(&numbers, payload)
 }
 
-/// A beacon with the fields that forwarding looks at, and any others.
-pub fn beacon(fields: &[(&str, u32)], random: &mut Random) -> Vec<u8> {
-    let mut draft = Draft::new(kind_of_type(BEACON), random);
+/// What a short beacon does not say: its original source is the manager that a call names.
+const NOT_IN_SHORT: [&str; 2] = ["original source", "superframe ms"];
+
+/// A beacon of this type with the fields that forwarding looks at, of those that it has, and any others.
+pub fn beacon(code: u8, fields: &[(&str, u32)], random: &mut Random) -> Vec<u8> {
+    let mut draft = Draft::new(kind_of_type(code), random);
     for (name, number) in fields {
-        draft.set(name, *number);
+        if code == BEACON || !NOT_IN_SHORT.contains(name) {
+            draft.set(name, *number);
+        }
     }
     draft.frame()
+}
+
+/// The longest delay that a beacon of this type can tell of.
+pub fn longest_delay(code: u8) -> u32 {
+    match code {
+        SHORT_BEACON => 0xFFFF,
+        _ => 0xFFFF_FFFF,
+    }
 }
 
 /// Who takes part in a history, and how fast its time goes.
@@ -176,7 +191,7 @@ impl Drawing<'_> {
     }
 
     fn forward(&mut self) -> Ask {
-        let time = self.changing_time();
+        let (time, code) = (self.changing_time(), self.random.one_of(&BEACONS));
         let row = self.random.one_of(&self.table.rows).destination;
         let anyone = self.random.one_of(&self.scene.units);
         let origin = if is_unit(row) { self.random.one_of(&[row, row, row, anyone]) } else { anyone };
@@ -184,22 +199,39 @@ impl Drawing<'_> {
         let own_hop = self.table.lookup(origin, time).map_or(1, |route| u32::from(route.hops));
         let any_hop = self.random.within(0, 10);
         let hop = if self.slip() { any_hop } else { (own_hop - 1).min(10) };
-        let given = self.random.within(0, 0xFFFF_FFFF);
-        let frame = self.beacon(origin, hop, given);
-        let room = self.room(frame.len());
-        let network = self.scene.network;
-        let network = match self.slip() {
-            true => self.random.one_of(&[0, 0, network ^ 1, network ^ 0x100]),
-            false => network,
-        };
-        Ask::Forward { network, frame: self.perhaps_damaged(frame), delay: given, time, room }
+        let longest = longest_delay(code);
+        let delay = if self.slip() { self.random.within(longest, 0xFFFF_FFFF) } else { self.random.within(0, longest) };
+        let frame = self.beacon(code, origin, hop, delay);
+        let (room, network, manager) = (self.room(frame.len()), self.network(), self.manager(code, origin));
+        Ask::Forward(Forward { network, manager, frame: self.perhaps_damaged(frame), delay, time, room })
     }
 
-    /// A beacon whose delay and the given one mostly fit into 32 bits, often just so.
-    fn beacon(&mut self, origin: u16, hop: u32, given: u32) -> Vec<u8> {
-        let most = 0xFFFF_FFFF - given;
+    /// The network of the scene, unless by a slip.
+    fn network(&mut self) -> u16 {
+        let network = self.scene.network;
+        match self.slip() {
+            true => self.random.one_of(&[0, 0, network ^ 1, network ^ 0x100]),
+            false => network,
+        }
+    }
+
+    /// Who sent a short beacon first, unless by a slip. Another beacon names its original source, and the manager is
+    /// anyone.
+    fn manager(&mut self, code: u8, origin: u16) -> u16 {
+        let anyone = self.random.one_of(&self.scene.units);
+        match self.slip() {
+            true => self.random.one_of(&[0, 0xFFFF, self.scene.own, anyone]),
+            false if code == SHORT_BEACON => origin,
+            false => self.random.one_of(&[origin, anyone]),
+        }
+    }
+
+    /// A beacon whose delay and the given one mostly fit into what it can tell of, often just so.
+    fn beacon(&mut self, code: u8, origin: u16, hop: u32, given: u32) -> Vec<u8> {
+        let longest = longest_delay(code);
+        let most = longest.saturating_sub(given);
         let delay = match self.slip() {
-            true => self.random.one_of(&[most.saturating_add(1), 0xFFFF_FFFF]),
+            true => self.random.one_of(&[most.saturating_add(1).min(longest), longest]),
             false => self.random.one_of(&[0, most, most / 2]),
         };
         let source = if self.slip() { self.scene.own } else { self.random.one_of(&self.scene.units[1..]) };
@@ -215,10 +247,10 @@ impl Drawing<'_> {
         if self.slip() {
             fields.extend(self.one_slot_too_many());
         }
-        beacon(&fields, self.random)
+        beacon(code, &fields, self.random)
     }
 
-    /// In a superframe that is as long as its slots, so that nothing else is wrong with it.
+    /// In a superframe that is said to be as long as its slots, so that nothing else is wrong with it.
     fn one_slot_too_many(&mut self) -> [(&'static str, u32); 3] {
         let slots = MOST_SLOTS + 1;
         let slot_ms = self.random.within(1, 0xFFFF / slots);

@@ -1,6 +1,7 @@
 //! Hostile buffers for the calls on a table.
 
-use crate::routes::calls::Ask;
+use crate::frames::kinds::BEACONS;
+use crate::routes::calls::{Ask, Forward};
 use crate::routes::drafts::{beacon, data, update, Entry};
 use crate::routes::table::Table;
 use crate::shared::check::{Agreement, Check};
@@ -21,8 +22,13 @@ pub fn check(check: &mut Check) -> Agreement {
     assert_eq!(table.merge(&news, 200, NOW), Ok(0), "there is room for 25 rows");
     let mut kept = [0; Table::LENGTH];
     table.to_bytes(&mut kept);
-    let hops = [("source", NEAR), ("network", NETWORK), ("original source", NEAR), ("hop", 0), ("delay", 0)];
-    let call = beacon(&hops.map(|(name, number)| (name, number.into())), &mut check.random);
+    let fields = [("source", NEAR), ("network", NETWORK), ("original source", NEAR), ("hop", 0), ("delay", 0)];
+    let fields = fields.map(|(name, number)| (name, number.into()));
+    for frame in BEACONS.map(|code| beacon(code, &fields, &mut check.random)) {
+        let room = frame.len() + 1;
+        let forward = Forward { network: NETWORK, manager: NEAR, frame, delay: 5, time: NOW, room };
+        every_buffer(check, &kept, &Ask::Forward(forward))?;
+    }
     for ask in [
         Ask::Fresh { own: OWN, time: NOW },
         Ask::Lookup { destination: FAR, time: NOW },
@@ -30,7 +36,6 @@ pub fn check(check: &mut Check) -> Agreement {
         Ask::Merge { frame: news, quality: 200, time: NOW },
         Ask::Page { page: 0, time: NOW, room: 250 },
         Ask::Relay { frame: data(NEAR, FAR, 9, 7, &[5; 245]), time: NOW, room: 256 },
-        Ask::Forward { network: NETWORK, frame: call, delay: 5, time: NOW, room: 35 },
     ] {
         every_buffer(check, &kept, &ask)?;
     }

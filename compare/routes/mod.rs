@@ -5,6 +5,7 @@ pub mod calls;
 mod cases;
 pub mod check;
 pub mod drafts;
+mod forwards;
 mod hostile;
 mod pages;
 mod refusals;

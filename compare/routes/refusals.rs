@@ -1,6 +1,7 @@
-//! Each refusal of each call on a table, by itself and where it comes before others.
+//! Each refusal of each call on a table but forwarding, by itself and where it comes before others.
 
 use crate::frames::bodies::seal;
+use crate::frames::kinds::BEACONS;
 use crate::routes::calls::Ask;
 use crate::routes::drafts::{beacon, data, update};
 use crate::routes::story::*;
@@ -9,12 +10,10 @@ use crate::shared::check::{Agreement, Check};
 use crate::shared::moments::Moment;
 
 pub fn every_refusal(check: &mut Check, start: Moment) -> Agreement {
-    let mut story = Story::begin(check, start)?;
-    story.hear(NEAR, 200, &[(FAR, 1, 200, OTHER, SENT)], start)?;
+    let mut story = Story::with_routes(check, start)?;
     table_refusals(&mut story)?;
     merge_refusals(&mut story)?;
-    relay_refusals(&mut story)?;
-    forward_refusals(&mut story)
+    relay_refusals(&mut story)
 }
 
 /// Of the calls that take no frame.
@@ -39,7 +38,7 @@ fn table_refusals(story: &mut Story) -> Agreement {
 }
 
 /// What any call that takes a frame refuses of it.
-fn frame_refusals(story: &mut Story, frame: &[u8], ask: impl Fn(Vec<u8>) -> Ask) -> Agreement {
+pub fn frame_refusals(story: &mut Story, frame: &[u8], ask: impl Fn(Vec<u8>) -> Ask) -> Agreement {
     story.needs_a_table(ask(frame.to_vec()))?;
     story.is_answered(1, ask(Vec::new()))?;
     story.is_answered(1, ask(frame[..frame.len() - 1].to_vec()))?;
@@ -50,16 +49,26 @@ fn frame_refusals(story: &mut Story, frame: &[u8], ask: impl Fn(Vec<u8>) -> Ask)
     let last = frame.len() - 1;
     changed[last] ^= 1;
     story.is_answered(3, ask(changed.clone()))?;
-    // The first address after the type is 0 in data and updates, and not 0xFFFF in beacons.
+    // The first address after the type is 0 in data, updates and short beacons, and not 0xFFFF in other beacons.
     changed[1..3].fill(0);
     seal(&mut changed);
     story.is_answered(4, ask(changed))
+}
+
+/// A beacon of either kind is not one of the frames that a call wants.
+fn beacon_refusals(story: &mut Story, ask: impl Fn(Vec<u8>) -> Ask) -> Agreement {
+    for code in BEACONS {
+        let frame = beacon(code, &[], &mut story.check.random);
+        story.is_answered(2, ask(frame))?;
+    }
+    Ok(())
 }
 
 fn merge_refusals(story: &mut Story) -> Agreement {
     let start = story.start;
     let good = update(NEAR, SENT, &[(FAR, 1, 200, OTHER, SENT)]);
     frame_refusals(story, &good, |frame| Ask::Merge { frame, quality: 40, time: start })?;
+    beacon_refusals(story, |frame| Ask::Merge { frame, quality: 40, time: start })?;
     story.is_answered(6, Ask::Merge { frame: update(OWN, SENT, &[]), quality: 39, time: start - 1 })?;
     story.is_answered(8, Ask::Merge { frame: good.clone(), quality: 39, time: start - 1 })?;
     story.is_answered(9, Ask::Merge { frame: good, quality: 39, time: start })
@@ -71,6 +80,7 @@ fn relay_refusals(story: &mut Story) -> Agreement {
     let good = frame(OTHER, FAR, 2);
     let room = good.len();
     frame_refusals(story, &good, |frame| Ask::Relay { frame, time, room })?;
+    beacon_refusals(story, |frame| Ask::Relay { frame, time, room })?;
     story.needs_a_table(Ask::Relay { frame: frame(OTHER, OWN, 0), time, room: 0 })?;
     story.is_answered(6, Ask::Relay { frame: frame(OWN, FAR, 2), time: time - 1, room })?;
     story.is_answered(8, Ask::Relay { frame: frame(OTHER, FAR, 1), time: time - 1, room })?;
@@ -78,39 +88,4 @@ fn relay_refusals(story: &mut Story) -> Agreement {
     story.is_answered(10, Ask::Relay { frame: frame(NEAR, FAR, 0), time, room })?;
     story.is_answered(11, Ask::Relay { frame: frame(NEAR, OTHER, 2), time, room: 0 })?;
     story.is_answered(5, Ask::Relay { frame: good, time, room: room - 1 })
-}
-
-fn forward_refusals(story: &mut Story) -> Agreement {
-    let (network, time) = (7, story.start);
-    let room = 34;
-    let fields = [
-        ("source", u32::from(NEAR)),
-        ("network", 7),
-        ("original source", u32::from(FAR)),
-        ("hop", 1),
-        ("max hops", 2),
-        ("sequence", 5),
-        ("delay", 0xFFFF_FFFF),
-    ];
-    let good = beacon(&fields, &mut story.check.random);
-    let mut but = |name, number| {
-        let changed = fields.map(|field| if field.0 == name { (name, number) } else { field });
-        beacon(&changed, &mut story.check.random)
-    };
-    let (own, unknown, ended) = (but("source", OWN.into()), but("original source", OTHER.into()), but("max hops", 1));
-    let nearer = but("hop", 0);
-    let ask =
-        |frame: &[u8], network, delay, time, room| Ask::Forward { network, frame: frame.to_vec(), delay, time, room };
-    frame_refusals(story, &good, |frame| Ask::Forward { network, frame, delay: 0, time, room })?;
-    story.is_answered(4, ask(&own, 0, 0, time, room))?;
-    story.is_answered(6, ask(&own, 8, 0, time, room))?;
-    story.is_answered(15, ask(&good, 8, 0, time - 1, room))?;
-    story.is_answered(8, ask(&unknown, 7, 0, time - 1, room))?;
-    story.is_answered(11, ask(&unknown, 7, 1, time, room))?;
-    story.is_answered(16, ask(&ended, 7, 1, time, 0))?;
-    story.is_answered(16, ask(&nearer, 7, 1, time, 0))?;
-    story.is_answered(4, ask(&good, 7, 1, time, 0))?;
-    story.is_answered(5, ask(&good, 7, 0, time, room - 1))?;
-    story.change(ask(&good, 7, 0, time, room))?;
-    story.is_answered(16, ask(&good, 7, 0, time, room))
 }

@@ -1,6 +1,7 @@
 //! A table and what is told of it, call by call, by the cases that have a name.
 
-use crate::routes::calls::{Ask, TableLeft};
+use crate::frames::kinds::BEACONS;
+use crate::routes::calls::{Ask, Forward, TableLeft};
 use crate::routes::drafts::{beacon, data, update, Entry};
 use crate::routes::table::Table;
 use crate::shared::check::{Agreement, Check, Difference};
@@ -11,6 +12,7 @@ pub const OWN: u16 = 0x0100;
 pub const NEAR: u16 = 0x0201;
 pub const OTHER: u16 = 0x0202;
 pub const FAR: u16 = 0x0301;
+pub const NETWORK: u16 = 7;
 /// The times in an update are its sender's, and are not judged.
 pub const SENT: Moment = Moment(0);
 
@@ -29,18 +31,35 @@ impl Story<'_> {
         Ok(story)
     }
 
-    /// Every call that takes a table: three that need no route, and then three that need one to `FAR`.
-    pub fn every_call(&mut self, time: Moment) -> [Ask; 6] {
-        let fields = [("source", NEAR), ("network", 7), ("original source", FAR), ("hop", 1), ("max hops", 2)];
-        let fields = fields.map(|(name, number)| (name, number.into()));
-        let frame = beacon(&[&fields[..], &[("delay", 0)]].concat(), &mut self.check.random);
+    /// A table with a route to `NEAR`, and one over it to `FAR`, which is two hops away.
+    pub fn with_routes(check: &mut Check, start: Moment) -> Result<Story<'_>, Difference> {
+        let mut story = Story::begin(check, start)?;
+        story.hear(NEAR, 200, &[(FAR, 1, 200, OTHER, SENT)], start)?;
+        Ok(story)
+    }
+
+    /// The forward of a beacon of this type and with these fields, whose original source is the manager. If that is `FAR`,
+    /// a beacon with no other fields given is ours to forward.
+    pub fn forward(&mut self, code: u8, origin: u16, fields: &[(&str, u32)]) -> Forward {
+        let ours = [("source", NEAR), ("network", NETWORK), ("original source", origin), ("hop", 1), ("max hops", 2)];
+        let ours = ours.map(|(name, number)| (name, u32::from(number)));
+        let fields = [&ours[..], &[("sequence", 5), ("delay", 0)], fields].concat();
+        let frame = beacon(code, &fields, &mut self.check.random);
+        Forward { network: NETWORK, manager: origin, room: frame.len(), frame, delay: 0, time: self.start }
+    }
+
+    /// Every call that takes a table: three that need no route, and then four that need one to `FAR`.
+    pub fn every_call(&mut self, time: Moment) -> [Ask; 7] {
+        let forwards = BEACONS.map(|code| Forward { time, ..self.forward(code, FAR, &[]) });
+        let [forward, forward_short] = forwards.map(Ask::Forward);
         [
             Ask::Forget { unit: NEAR, time },
             Ask::Merge { frame: update(NEAR, SENT, &[]), quality: 40, time },
             Ask::Page { page: 0, time, room: 100 },
             Ask::Lookup { destination: FAR, time },
             Ask::Relay { frame: data(OTHER, FAR, 2, 7, &[1, 2, 3]), time, room: 100 },
-            Ask::Forward { network: 7, frame, delay: 0, time, room: 100 },
+            forward,
+            forward_short,
         ]
     }
 

@@ -23,7 +23,17 @@ static void note_sender(struct node *self, uint32_t unit)
         braidlark_heard(self->book, sizeof self->book, (uint16_t)unit, clock_ms(self->address));
 }
 
-/* The first beacon of a superframe came by the fewest hops: it is the one to follow. */
+/* What a node follows a beacon by, where its kind has it. */
+static void take_beacon(struct node *self, const uint32_t *fields)
+{
+    bool is_short = fields[BRAIDLARK_FIELD_TYPE] == BRAIDLARK_TYPE_SHORT_BEACON;
+    self->beacon_slot = fields[is_short ? BRAIDLARK_FIELD_SHORT_BEACON_HOP : BRAIDLARK_FIELD_BEACON_HOP] + 1;
+    self->superframe_start =
+        fields[is_short ? BRAIDLARK_FIELD_SHORT_BEACON_ORIGINAL_TIME : BRAIDLARK_FIELD_BEACON_ORIGINAL_TIME];
+    self->sponsor = (uint16_t)fields[is_short ? BRAIDLARK_FIELD_SHORT_BEACON_SOURCE : BRAIDLARK_FIELD_BEACON_SOURCE];
+}
+
+/* The first beacon of a superframe came by the fewest hops: it is the one to follow, whichever kind it is. */
 static void hear_beacon(struct node *self, const uint8_t *bytes, size_t length)
 {
     uint32_t now = clock_ms(self->address);
@@ -34,9 +44,7 @@ static void hear_beacon(struct node *self, const uint8_t *bytes, size_t length)
     memcpy(self->beacon.bytes, bytes, length);
     self->beacon.length = (uint32_t)length;
     self->beacon_came = now;
-    self->beacon_slot = frame.fields[BRAIDLARK_FIELD_BEACON_HOP] + 1;
-    self->superframe_start = frame.fields[BRAIDLARK_FIELD_BEACON_ORIGINAL_TIME];
-    self->sponsor = (uint16_t)frame.fields[BRAIDLARK_FIELD_BEACON_SOURCE];
+    take_beacon(self, frame.fields);
     node_tell_state(self, BRAIDLARK_EVENT_BEACON_HEARD);
     if (self->state[0] == BRAIDLARK_JOINING) {
         uint32_t first = self->regions[BRAIDLARK_FIELD_PLAN_DISCOVERY_AT];
@@ -144,6 +152,7 @@ void node_hear(struct node *self, const uint8_t *bytes, size_t length, uint8_t q
 {
     switch (length > 0 ? bytes[0] : 0) {
     case BRAIDLARK_TYPE_BEACON:
+    case BRAIDLARK_TYPE_SHORT_BEACON:
         hear_beacon(self, bytes, length);
         break;
     case BRAIDLARK_TYPE_UPDATE:

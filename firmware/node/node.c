@@ -110,7 +110,7 @@ static void forward_beacon(struct node *self)
 {
     struct packet copy = {.to = BRAIDLARK_EVERY_UNIT};
     uint32_t now = clock_ms(self->address);
-    if (braidlark_forward(self->table, sizeof self->table, NETWORK, self->beacon.bytes, self->beacon.length,
+    if (braidlark_forward(self->table, sizeof self->table, NETWORK, MANAGER, self->beacon.bytes, self->beacon.length,
                           now - self->beacon_came, now, copy.bytes, sizeof copy.bytes,
                           &copy.length) == BRAIDLARK_ACCEPTED)
         packet_send(self, &copy);
@@ -125,7 +125,8 @@ void node_power_on(struct node *self, uint16_t address)
     self->last_update = now - UPDATE_EVERY_MS; /* so that the first is due at once */
     self->last_renewal = now;
     braidlark_table_fresh(self->table, sizeof self->table, address, now);
-    braidlark_plan(self->plan, sizeof self->plan, NETWORK, MANAGER, MAX_HOPS, ROWS, DATA_SLOTS, SLOT_MS);
+    braidlark_plan(self->plan, sizeof self->plan, NETWORK, MANAGER, MAX_HOPS, ROWS, DATA_SLOTS, SLOT_MS,
+                   BRAIDLARK_TYPE_BEACON); /* of long beacons, so that there is an image of the book */
     braidlark_plan_numbers(self->plan, sizeof self->plan, self->regions, BRAIDLARK_FIELDS_PLAN);
     braidlark_state_fresh(self->state, sizeof self->state, now);
     node_tell_state(self, BRAIDLARK_EVENT_READY);

@@ -80,7 +80,7 @@ freshRow manager time = memberWith manager (firsts 1) time
 abbrev pub noBook : Contents
 noBook =
     record {
-      plan = record { network = 0; manager = 0; «max_hops» = 0; rows = 0; «data_slots» = 0; «slot_ms» = 0 };
+      plan = record { network = 0; manager = 0; «max_hops» = 0; rows = 0; «data_slots» = 0; «slot_ms» = 0; «beacon_type» = 0 };
       time = 0;
       places = replicate 21 emptyRow;
     }

@@ -44,6 +44,7 @@ pub fn zeros() -> Book
             rows: 0,
             data_slots: 0,
             slot_ms: 0,
+            beacon_type: 0,
         },
         time: 0,
         rows: [Member {

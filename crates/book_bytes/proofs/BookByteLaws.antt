@@ -20,7 +20,7 @@ unfolding rowsOf
 members-run = record { none = refl; more = λ m ms. refl; full = λ m. refl }
 
 -- ---- all of it
-pub length-front : (b : Contents) → length (planBytes (b .plan) ++ digits 4 (b .time)) ≡ 13
+pub length-front : (b : Contents) → length (planBytes (b .plan) ++ digits 4 (b .time)) ≡ 14
 length-front b = rw (length-append (planBytes (b .plan)) (digits 4 (b .time)), length-plan (b .plan), length-digits 4 (b .time))
 
 pub length-book : (b : Contents) → length (b .places) ≡ 21 → length (bookBytes b) ≡ bookSize
@@ -31,7 +31,7 @@ length-book b e =
 
 -- the plan, the time behind it, and the rows behind that
 pub plan-first : (l : List ℕ) (b : Contents)
-    → sets (sets (sets l 0 (planBytes (b .plan))) 9 (digits 4 (b .time))) 13 (rowsBytes (b .places)) ≡ sets l 0 (bookBytes b)
+    → sets (sets (sets l 0 (planBytes (b .plan))) 10 (digits 4 (b .time))) 14 (rowsBytes (b .places)) ≡ sets l 0 (bookBytes b)
 unfolding bookBytes
 plan-first l b =
     let plan = planBytes (b .plan) in

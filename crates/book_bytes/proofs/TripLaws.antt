@@ -23,17 +23,17 @@ row-back : (r : Row) → rowFrom (rowValues r) ≡ r
 row-back r = ap (λ (s : Slots 64). memberWith (r .unit) s (r .time)) (set-back (r .slots))
 
 module _ (b : Contents) (z : Sized b) where
-  time-read : num 4 (bookBytes b) 9 ≡ b .time
+  time-read : num 4 (bookBytes b) 10 ≡ b .time
   unfolding bookBytes
   time-read =
       rw (append-assoc (planBytes (b .plan)) (digits 4 (b .time)) (rowsBytes (b .places)))
-      (num-digits 4 (b .time) (planBytes (b .plan)) (rowsBytes (b .places)) 9 (length-plan (b .plan)) (z .time))
+      (num-digits 4 (b .time) (planBytes (b .plan)) (rowsBytes (b .places)) 10 (length-plan (b .plan)) (z .time))
 
   rows-read : tab 21 (rowAt (bookBytes b)) ≡ b .places
   unfolding bookBytes rowAt
   rows-read =
       let front = planBytes (b .plan) ++ digits 4 (b .time) in
-      let read = run-read rows-run (Each RowFits) (λ r rs h. h) rowFrom (rowAt (bookBytes b)) (b .places) front 13 (length-front b) (z .rows) (λ i. refl) in
+      let read = run-read rows-run (Each RowFits) (λ r rs h. h) rowFrom (rowAt (bookBytes b)) (b .places) front 14 (length-front b) (z .rows) (λ i. refl) in
       (rw (z .places) at read) ∙ map-same (λ r. rowFrom (rowValues r)) row-back (b .places)
 
   book-read : bookIn (bookBytes b) ≡ b
@@ -48,19 +48,19 @@ module _ (s : List ℕ) (b : Bytes s) where
   row-kept : (at : ℕ) → at + 14 ≤ length s → bytes rowWidths (rowValues (rowFrom (fields rowWidths s at))) ≡ take 14 (drop at s)
   row-kept at l = rw (mask-back (num 8 s (at + 2)) (num-lt s b 8 (at + 2))) (bytes-fields s b rowWidths at l)
 
-  rows-kept : length s ≡ 307 → rowsBytes (tab 21 (rowAt s)) ≡ take 294 (drop 13 s)
+  rows-kept : length s ≡ 308 → rowsBytes (tab 21 (rowAt s)) ≡ take 294 (drop 14 s)
   unfolding rowAt
-  rows-kept l = run-kept rows-run s 21 13 (rowAt s) (λ i h. row-kept (13 + 14 * i) (omega arith))
+  rows-kept l = run-kept rows-run s 21 14 (rowAt s) (λ i h. row-kept (14 + 14 * i) (omega arith))
 
 pub writes-back : WritesBack
 unfolding bookIn bookBytes planAt planBytes
 writes-back s b l =
-    let long : length s ≡ 307 = l in
+    let long : length s ≡ 308 = l in
     rw (
       bytes-fields s b planWidths 0 (omega arith),
-      digits-num s b 4 9 (omega arith),
+      digits-num s b 4 10 (omega arith),
       rows-kept s b long,
-      ← take-add 9 4 s,
-      ← take-add 13 294 s,
+      ← take-add 10 4 s,
+      ← take-add 14 294 s,
     )
-    (take-all 307 s (omega arith))
+    (take-all 308 s (omega arith))

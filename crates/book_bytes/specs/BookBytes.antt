@@ -1,4 +1,4 @@
--- A book as 307 bytes: the plan 9, the last accepted time 4, then 21 rows: unit 2, slots 8 (bit i is data slot i), time 4.
+-- A book as 308 bytes: the plan 10, the last accepted time 4, then 21 rows: unit 2, slots 8 (bit i is data slot i), time 4.
 -- Assumes nothing.
 use Prim.Native.Nat.{ℕ, _+_, _*_}
 use mathlib.Core.List.{List, [], _∷_, _++_}
@@ -21,7 +21,7 @@ rowValues r = r .unit ∷ maskOf (r .slots) ∷ r .time ∷ []
 abbrev pub rowFrom : List ℕ → Row
 rowFrom vs = memberWith (getD vs 0 0) (slotsOf (getD vs 1 0)) (getD vs 2 0)
 
--- where the rows start: 13
+-- where the rows start: 14
 abbrev pub rowsAt : ℕ
 rowsAt = planSize + 4
 
@@ -34,7 +34,7 @@ abbrev pub rowsBytes : List Row → List ℕ
 rowsBytes rs = inTurn rowWidths rowValues rs
 
 -- ---- a book
--- how many bytes a book has: 307
+-- how many bytes a book has: 308
 abbrev pub bookSize : ℕ
 bookSize = rowsAt + total rowWidths * 21
 

@@ -1,4 +1,4 @@
-// A book as 307 bytes, the lowest byte of a number first: the plan, the last accepted time, then 21 rows of 14.
+// A book as 308 bytes, the lowest byte of a number first: the plan, the last accepted time, then 21 rows of 14.
 ghost use mathlib.Core.Path.{_≡_};
 ghost use lib.ListN.{length};
 ghost use lib.Seq.{sets};
@@ -19,7 +19,10 @@ use octets::parts::part;
 use site_plan::plan_bytes::plan_of;
 use site_plan::plan_bytes::put_plan;
 
-pub const BOOK_SIZE: usize = 307;
+pub const BOOK_SIZE: usize = 308;
+
+// Where the last accepted time stands, behind the plan.
+const TIME_AT: usize = 10;
 
 // The row in the first 14 bytes of a slice.
 fn member_in(s: &[u8]) -> Member
@@ -36,7 +39,7 @@ fn member_in(s: &[u8]) -> Member
 fn member_at(s: &[u8], place: u8) -> Member
     ensures { λ r. ⌜ rowOf r ≡ rowAt (now (s .entry)) place ⌝ }
 {
-    let start = 13 + 14 * (place as usize);
+    let start = 14 + 14 * (place as usize);
     let end = start + 14;
     if s.len() < end {
         return member_in(part(s, start, 14));
@@ -60,7 +63,7 @@ pub fn book_of(s: &[u8]) -> Book
     }
     Book {
         plan: plan_of(s, 0),
-        time: number32(s, 9),
+        time: number32(s, TIME_AT),
         rows,
     }
 }
@@ -77,12 +80,12 @@ fn put_member(out: &mut [u8], place: u16, member: Member)
 
 // Each row is put into a part of known length, which spares a test of the buffer's end before each field. The row that the end cuts is the last.
 fn put_members(out: &mut [u8], rows: [Member; 21])
-    ensures { λ _. ⌜ (now (out .exit) ≡ sets (now (out .entry)) 13 (rowsBytes (rowsOf rows))) × (length rows ≡ 21) ⌝ }
+    ensures { λ _. ⌜ (now (out .exit) ≡ sets (now (out .entry)) 14 (rowsBytes (rowsOf rows))) × (length rows ≡ 21) ⌝ }
 {
     let mut written: u8 = 0;
     while written < 21 {
         let member = rows[written as usize];
-        let place = 13 + 14 * (written as u16);
+        let place = 14 + 14 * (written as u16);
         let start = place as usize;
         let end = start + 14;
         if out.len() < end {
@@ -100,7 +103,7 @@ pub fn put_book(out: &mut [u8], book: Book)
 {
     let rows = book.rows;
     put_plan(out, 0, book.plan);
-    put32(out, 9, book.time);
+    put32(out, TIME_AT, book.time);
     put_members(out, rows);
 }
 

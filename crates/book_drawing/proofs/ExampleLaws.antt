@@ -17,7 +17,7 @@ member unit mask = memberWith unit (slotsOf mask) 0
 abbrev shown : Contents
 shown =
     record {
-      plan = record { network = 1; manager = 0x0100; «max_hops» = 1; rows = 2; «data_slots» = 2; «slot_ms» = 1000 };
+      plan = record { network = 1; manager = 0x0100; «max_hops» = 1; rows = 2; «data_slots» = 2; «slot_ms» = 1000; «beacon_type» = 0x46 };
       time = 0;
       places = member 0x0100 1 ∷ member 0x0201 2 ∷ replicate 19 emptyRow;
     }

@@ -8,6 +8,7 @@ use Rattle.octets.proofs.CallLaws.{after-accepted}
 use Rattle.octets.proofs.ListLaws.{length-tab, every-tab}
 use Rattle.frame_requests.specs.Requests.{joinRequest, slotRequest}
 use Rattle.site_plan.specs.declared.plan.Plan.{Plan}
+use Rattle.site_plan.specs.Plans.{longBeacons}
 use Rattle.site_plan.proofs.PlanLaws.{rule-bounds}
 use Rattle.book_members.specs.Members.{Row, vacantRow}
 use Rattle.book_members.proofs.RowLaws.{length-current}
@@ -24,7 +25,7 @@ use Rattle.book_image.specs.Forms.{fits}
 use Rattle.book_image.specs.Images.{sections, planIn, rowIn, imageBook, acceptedImage, restoreOf, imageReasons, imageWritten}
 use Rattle.book_image.proofs.AcceptedLaws.{rows-used, good}
 use Rattle.book_history.specs.Histories.{Start, fresh, restored, begun, afterCalls}
-use Rattle.book_history.specs.BookLaws.{StaysWithinRule, wrongHop, OnlyForHops, bookAfter}
+use Rattle.book_history.specs.BookLaws.{StaysWithinRule, beyondPlan, OnlyBeyondPlan, bookAfter}
 use Rattle.frame_kinds.proofs.FourteenLaws.{some-number, read-never, only-so}
 
 -- ---- the rule
@@ -106,18 +107,20 @@ module _ (b : Contents) (w : withinRule b ≡ true) where
   schedule-never unit hop time room h =
       never-given 14 (scheduleReasons b unit hop time room) some-number (ap not w, (_, (_, (ap not h, _))))
 
-  image-never : (time room : ℕ) → first (imageReasons b time room) ≡ 14 → ⊥
-  image-never time room = never-given 14 (imageReasons b time room) some-number (ap not w, _)
+  image-never : (time room : ℕ) → eqb (b .plan .«beacon_type») longBeacons ≡ true → first (imageReasons b time room) ≡ 14 → ⊥
+  image-never time room h =
+      never-given 14 (imageReasons b time room) some-number (ap not w, (_, (ap not h, _)))
 
-  only-hops : (c : Call) → refusalOf b c ≡ 14 → wrongHop b c ≡ true
+  only-beyond : (c : Call) → refusalOf b c ≡ 14 → beyondPlan b c ≡ true
   unfolding joinOf askOf heardOf leaveOf scheduleOf imageWritten
-  only-hops (join s time out) e = absurd (join-never s time (length out) e)
-  only-hops (ask s time out) e = absurd (ask-never s time (length out) e)
-  only-hops (heard unit time) e = absurd (member-never unit time (liveAt b unit time) e)
-  only-hops (leave unit time) e = absurd (member-never unit time (liveAt b unit time && not (eqb unit (b .plan .manager))) e)
-  only-hops (schedule unit hop time out) e =
+  only-beyond (join s time out) e = absurd (join-never s time (length out) e)
+  only-beyond (ask s time out) e = absurd (ask-never s time (length out) e)
+  only-beyond (heard unit time) e = absurd (member-never unit time (liveAt b unit time) e)
+  only-beyond (leave unit time) e = absurd (member-never unit time (liveAt b unit time && not (eqb unit (b .plan .manager))) e)
+  only-beyond (schedule unit hop time out) e =
       only-so (hopRule (b .plan) unit hop) (λ h. schedule-never unit hop time (length out) h (sym (unless-number _ _) ∙ e))
-  only-hops (image time out) e = absurd (image-never time (length out) (sym (unless-number _ _) ∙ e))
+  only-beyond (image time out) e =
+      only-so (eqb (b .plan .«beacon_type») longBeacons) (λ h. image-never time (length out) h (sym (unless-number _ _) ∙ e))
 
-pub only-for-hops : OnlyForHops
-only-for-hops start cs c z = only-hops (bookAfter start cs) (stays-within-rule start cs z) c
+pub only-beyond-plan : OnlyBeyondPlan
+only-beyond-plan start cs c z = only-beyond (bookAfter start cs) (stays-within-rule start cs z) c

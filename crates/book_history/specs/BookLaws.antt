@@ -1,5 +1,4 @@
--- What holds over every history of a member book, as statements: demand 3.
--- A history is a start that is accepted, a fresh book or a restored image, and any list of calls, accepted and refused.
+-- Demand 3, as statements: what holds of a book over every history, which is an accepted start, fresh or restored, and any list of calls.
 -- Assumes nothing.
 use mathlib.Core.Path.{_≡_}
 use mathlib.Core.Bool.{Bool, true, false, not, _&&_, _||_, cond}
@@ -14,6 +13,7 @@ use Rattle.octets.specs.Addresses.{address}
 use Rattle.slot_sets.specs.Sets.{count}
 use Rattle.site_plan.specs.Schedules.{sends, inBeacons, inControls, inData}
 use Rattle.book_members.specs.Members.{placeFor, free}
+use Rattle.site_plan.specs.Plans.{longBeacons}
 use Rattle.book.specs.Books.{Contents, withinRule, rowsAt, liveAt, holding}
 use Rattle.book.specs.Schedules.{hopRule, scheduleOf}
 use Rattle.book_joins.specs.Joins.{joinOf}
@@ -31,19 +31,19 @@ bookAfter start cs = afterCalls (begun start .book) cs
 abbrev pub StaysWithinRule : Type 0
 StaysWithinRule = (start : Start) (cs : List Call) → begun start .refused ≡ 0 → withinRule (bookAfter start cs) ≡ true
 
--- so that 14 is never for the book: it is only for a hop that the caller names
-abbrev pub wrongHop : Contents → Call → Bool
-wrongHop b (join s time out) = false
-wrongHop b (ask s time out) = false
-wrongHop b (heard unit time) = false
-wrongHop b (leave unit time) = false
-wrongHop b (schedule unit hop time out) = not (hopRule (b .plan) unit hop)
-wrongHop b (image time out) = false
+-- so that 14 is never for the book: it is only for what the plan does not have, a hop that the caller names, or an image of form 1 where beacons are short
+abbrev pub beyondPlan : Contents → Call → Bool
+beyondPlan b (join s time out) = false
+beyondPlan b (ask s time out) = false
+beyondPlan b (heard unit time) = false
+beyondPlan b (leave unit time) = false
+beyondPlan b (schedule unit hop time out) = not (hopRule (b .plan) unit hop)
+beyondPlan b (image time out) = not (eqb (b .plan .«beacon_type») longBeacons)
 
-abbrev pub OnlyForHops : Type 0
-OnlyForHops =
+abbrev pub OnlyBeyondPlan : Type 0
+OnlyBeyondPlan =
     (start : Start) (cs : List Call) (c : Call) → begun start .refused ≡ 0 → refusalOf (bookAfter start cs) c ≡ 14
-    → wrongHop (bookAfter start cs) c ≡ true
+    → beyondPlan (bookAfter start cs) c ≡ true
 
 -- ---- joining
 -- a valid request to join, its time accepted, by a unit that is no live member, is refused for room exactly if every member row is live; otherwise,

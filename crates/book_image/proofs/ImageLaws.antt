@@ -7,8 +7,8 @@ use Rattle.octets.proofs.LayoutLaws.{length-bytes}
 use Rattle.octets.proofs.RunLaws.{Run, part-turn, cut-turn}
 use Rattle.octets.proofs.StoreLaws.{sets-append}
 use Rattle.site_plan.specs.declared.plan.Plan.{Plan}
-use Rattle.site_plan.specs.PlanBytes.{planBytes}
-use Rattle.site_plan.proofs.PlanByteLaws.{length-plan}
+use Rattle.site_plan.specs.PlanBytes.{sectionBytes}
+use Rattle.site_plan.proofs.PlanByteLaws.{length-section}
 use Rattle.book_members.specs.declared.member.Member.{Member}
 use Rattle.book_members.specs.Members.{Row, rowOf, rowsOf}
 use Rattle.book_members.proofs.RowLoopLaws.{nobody, rows-length}
@@ -44,16 +44,16 @@ module _ (ms : List Member) (n : ℕ) (l : length ms ≡ 21) (s : List ℕ) (i :
 pub length-head : (rows : ℕ) → length (headBytes (sections rows)) ≡ 11
 length-head rows = length-bytes (headWidths (sections rows)) (headValues (sections rows)) refl
 
-pub length-front : (p : Plan) → length (headBytes (sections (p .rows)) ++ planBytes p) ≡ 20
-length-front p = rw (length-append (headBytes (sections (p .rows))) (planBytes p), length-head (p .rows), length-plan p)
+pub length-front : (p : Plan) → length (headBytes (sections (p .rows)) ++ sectionBytes p) ≡ 20
+length-front p = rw (length-append (headBytes (sections (p .rows))) (sectionBytes p), length-head (p .rows), length-section p)
 
 -- the head, the plan behind it, and the rows behind that
 pub head-first : (l : List ℕ) (p : Plan) (rs : List Row)
-    → sets (sets (sets l 0 (headBytes (sections (p .rows)))) 11 (planBytes p)) 20 (rowsBytes rs)
-    ≡ sets l 0 ((headBytes (sections (p .rows)) ++ planBytes p) ++ rowsBytes rs)
+    → sets (sets (sets l 0 (headBytes (sections (p .rows)))) 11 (sectionBytes p)) 20 (rowsBytes rs)
+    ≡ sets l 0 ((headBytes (sections (p .rows)) ++ sectionBytes p) ++ rowsBytes rs)
 head-first l p rs =
     let head = headBytes (sections (p .rows)) in
-    rw (sets-append (head ++ planBytes p) (rowsBytes rs) l 0, length-front p, sets-append head (planBytes p) l 0, length-head (p .rows))
+    rw (sets-append (head ++ sectionBytes p) (rowsBytes rs) l 0, length-front p, sets-append head (sectionBytes p) l 0, length-head (p .rows))
 
 -- ---- the tests of a form
 -- one behind the other, as the code makes them, and one inside the other

@@ -12,7 +12,8 @@ use Rattle.moments.specs.Moments.{inOrder}
 use Rattle.slot_sets.specs.Sets.{slotsOf, maskOf}
 use Rattle.slot_sets.proofs.BitLaws.{set-of-mask}
 use Rattle.slot_sets.proofs.MaskLaws.{mask-back, set-back}
-use Rattle.site_plan.specs.Plans.{planValues}
+use Rattle.site_plan.specs.Plans.{longBeacons}
+use Rattle.site_plan.proofs.PlanByteLaws.{section-fit}
 use Rattle.site_plan.proofs.PlanLaws.{rule-bounds}
 use Rattle.book_members.specs.Members.{Row, emptyRow, vacantRow, kept, current, restoredAt, memberWith}
 use Rattle.book_members.specs.Rules.{rowRule}
@@ -20,7 +21,7 @@ use Rattle.book_members.proofs.RowLaws.{length-current, kept-empty, kept-now}
 use Rattle.book_members.proofs.RowRuleLaws.{rule-zeros, rule-either}
 use Rattle.book.specs.Books.{Contents, rowsIn, rowsAt}
 use Rattle.book.proofs.WithinLaws.{RowsRuled, Within, within, rows-then}
-use Rattle.site_plan.specs.PlanBytes.{planWidths, planFrom, planAt, planBytes}
+use Rattle.site_plan.specs.PlanBytes.{sectionWidths, sectionValues, planFrom, sectionAt, sectionBytes}
 use Rattle.book_image.specs.Forms.{headWidths, headValues, headBytes, formSize}
 use Rattle.book_image.specs.Images.{rowWidths, rowValues, sections, rowsBytes, imageOf, planIn, rowIn, imageBook}
 use Rattle.book_image.specs.Laws.{WrittenAgain, Sized, RestoredAs, Restored}
@@ -66,9 +67,9 @@ module _ (s : List ℕ) (b : Bytes s) where
     head-kept : fields (headWidths (sections rows)) s 0 ≡ headValues (sections rows) → headBytes (sections rows) ≡ take 11 s
     head-kept e = ap (bytes (headWidths (sections rows))) (sym e) ∙ bytes-fields s b (headWidths (sections rows)) 0 (omega (arith, long))
 
-    plan-kept : planBytes (planIn s) ≡ take 9 (drop 11 s)
-    unfolding planAt planBytes
-    plan-kept = bytes-fields s b planWidths 11 (omega (arith, long))
+    plan-kept : sectionBytes (planIn s) ≡ take 9 (drop 11 s)
+    unfolding sectionAt sectionBytes
+    plan-kept = bytes-fields s b sectionWidths 11 (omega (arith, long))
 
     rows-kept : (time : ℕ) → rowsBytes (tab rows (rowIn s time)) ≡ take (10 * rows) (drop 20 s)
     unfolding rowIn
@@ -108,7 +109,7 @@ rows-back : (time : ℕ) (rs : List Row) → map (λ r. rowFrom time (rowValues 
 rows-back time [] = refl
 rows-back time (r ∷ rs) = rw (set-back (r .slots), rows-back time rs)
 
-module _ (b : Contents) (time : ℕ) (z : Sized b) (w : Within b) (h : inOrder (b .time) time ≡ true) where
+module _ (b : Contents) (time : ℕ) (z : Sized b) (w : Within b) (h : inOrder (b .time) time ≡ true) (k : b .plan .«beacon_type» ≡ longBeacons) where
   abbrev count : ℕ
   count = b .plan .rows
 
@@ -125,29 +126,29 @@ module _ (b : Contents) (time : ℕ) (z : Sized b) (w : Within b) (h : inOrder (
   length-rows = omega (arith, length-current time (rowsIn b), length-take count (b .places), z .places, rule-bounds (b .plan) (w .plan) .few-rows)
 
   plan-read : planIn image ≡ b .plan
-  unfolding imageOf planAt planBytes
+  unfolding imageOf sectionAt sectionBytes
   plan-read =
       let head = headBytes (sections count) in
-      rw (append-assoc head (planBytes (b .plan)) (rowsBytes rows)) (ap planFrom (fields-bytes planWidths (planValues (b .plan)) head (rowsBytes rows) 11 (length-head count) (z .plan)))
+      rw (append-assoc head (sectionBytes (b .plan)) (rowsBytes rows)) (ap (λ (vs : List ℕ). planFrom (vs ++ (longBeacons ∷ []))) (fields-bytes sectionWidths (sectionValues (b .plan)) head (rowsBytes rows) 11 (length-head count) (section-fit (b .plan) (z .plan))) ∙ ap (λ (kind : ℕ). planFrom (sectionValues (b .plan) ++ (kind ∷ []))) (sym k))
 
   head-read : fields (headWidths (sections count)) image 0 ≡ headValues (sections count)
   unfolding imageOf
   head-read =
-      let rest = planBytes (b .plan) ++ rowsBytes rows in
+      let rest = sectionBytes (b .plan) ++ rowsBytes rows in
       let fit : Fit (headWidths (sections count)) (headValues (sections count)) =
       (lit< tt, (lit< tt, (lit< tt, (lit< tt, (lit< tt, (lit< tt, (omega (arith, z .plan .1 .1 .1 .0), tt))))))) in
-      rw (append-assoc (headBytes (sections count)) (planBytes (b .plan)) (rowsBytes rows)) (fields-bytes (headWidths (sections count)) (headValues (sections count)) [] rest 0 refl fit)
+      rw (append-assoc (headBytes (sections count)) (sectionBytes (b .plan)) (rowsBytes rows)) (fields-bytes (headWidths (sections count)) (headValues (sections count)) [] rest 0 refl fit)
 
   size-read : length image ≡ formSize (sections count)
   unfolding imageOf
   size-read =
-      rw (length-append (headBytes (sections count) ++ planBytes (b .plan)) (rowsBytes rows), length-front (b .plan), run-length rows-run rows, length-rows) (omega arith)
+      rw (length-append (headBytes (sections count) ++ sectionBytes (b .plan)) (rowsBytes rows), length-front (b .plan), run-length rows-run rows, length-rows) (omega arith)
 
   rows-read : tab count (rowIn image time) ≡ map (restoredAt time) rows
   unfolding imageOf rowIn
   rows-read =
       let rule = rowRule (b .plan .«data_slots») in
-      let front = headBytes (sections count) ++ planBytes (b .plan) in
+      let front = headBytes (sections count) ++ sectionBytes (b .plan) in
       let read = run-read rows-run (λ rs. every rule rs ≡ true) (each-fits (b .plan .«data_slots»)) (rowFrom time) (rowIn image time) rows front 20 (length-front (b .plan)) (rows-ruled .each) (λ i. refl) in
       (rw length-rows at read) ∙ rows-back time rows
 
@@ -168,4 +169,4 @@ module _ (b : Contents) (time : ℕ) (z : Sized b) (w : Within b) (h : inOrder (
   }
 
 pub restored : Restored
-restored b time z e h = restored-as b time z (within b e) h
+restored b time z e h k = restored-as b time z (within b e) h k

@@ -3,7 +3,7 @@
 use Prim.Native.Nat.{ℕ, _+_, _*_}
 use mathlib.Core.Bool.{Bool, not, _&&_, cond}
 use mathlib.Core.List.{List, [], _∷_, _++_}
-use lib.Dec.{ltb}
+use lib.Dec.{eqb, ltb}
 use lib.ListN.{length, getD}
 use lib.Seq.{sets}
 use Rattle.octets.specs.Answers.{Reason, accepted, reason, first, unless}
@@ -14,9 +14,10 @@ use Rattle.octets.specs.Told.{Wrote}
 use Rattle.moments.specs.Moments.{inOrder}
 use Rattle.slot_sets.specs.Sets.{slotsOf, maskOf}
 use Rattle.site_plan.specs.declared.plan.Plan.{Plan}
+use Rattle.site_plan.specs.Plans.{longBeacons}
 use Rattle.book_members.specs.Members.{Row, memberWith, emptyRow, restoredAt}
 use Rattle.book.specs.Books.{Contents, withinRule, rowsAt, BookChange, changeTo, noBook}
-use Rattle.site_plan.specs.PlanBytes.{planSize, planAt, planBytes}
+use Rattle.site_plan.specs.PlanBytes.{sectionSize, sectionAt, sectionBytes}
 use Rattle.book_image.specs.Forms.{Section, section, headBytes, formSize, placeAt, fits}
 
 -- ---- the form
@@ -26,7 +27,7 @@ rowWidths = 2 ∷ 8 ∷ []
 
 -- the sections for a plan with so many rows
 abbrev pub sections : ℕ → List Section
-sections rows = section 1 planSize ∷ section 2 (total rowWidths * rows) ∷ []
+sections rows = section 1 sectionSize ∷ section 2 (total rowWidths * rows) ∷ []
 
 -- where their bodies start, however many rows there are: 11 and 20
 abbrev pub planPlace : ℕ
@@ -48,13 +49,14 @@ rowsBytes rs = inTurn rowWidths rowValues rs
 
 -- the image of a book at a time: only live members are written, an empty row is zeros
 unfoldable pub imageOf : Contents → ℕ → List ℕ
-imageOf b time = headBytes (sections (b .plan .rows)) ++ planBytes (b .plan) ++ rowsBytes (rowsAt b time)
+imageOf b time = headBytes (sections (b .plan .rows)) ++ sectionBytes (b .plan) ++ rowsBytes (rowsAt b time)
 
--- 14 8 5, in a buffer with this room
+-- 14 8, 14 for a plan with short beacons, which form 1 cannot say, 5, in a buffer with this room
 abbrev pub imageReasons : Contents → ℕ → ℕ → List Reason
 imageReasons b time room =
     reason (not (withinRule b)) 14 ∷
     reason (not (inOrder (b .time) time)) 8 ∷
+    reason (not (eqb (b .plan .«beacon_type») longBeacons)) 14 ∷
     reason (ltb room (formSize (sections (b .plan .rows)))) 5 ∷
     []
 
@@ -64,9 +66,9 @@ imageWritten b time out =
     record { said = unless refusal (accepted (formSize (sections (b .plan .rows)) ∷ [])); held = after refusal out (sets out 0 (imageOf b time)) }
 
 -- ---- restoring
--- the plan in an image
+-- the plan in an image: its manager sends document 01's beacons
 abbrev pub planIn : List ℕ → Plan
-planIn s = planAt s planPlace
+planIn s = sectionAt s planPlace
 
 -- a row of an image, restored at a time
 unfoldable pub rowIn : List ℕ → ℕ → ℕ → Row

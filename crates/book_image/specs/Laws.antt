@@ -10,7 +10,7 @@ use Rattle.octets.specs.Layouts.{Fit, Bytes, fields}
 use Rattle.octets.specs.Lists.{tab}
 use Rattle.moments.specs.Moments.{inOrder}
 use Rattle.slot_sets.specs.Sets.{Apart, count}
-use Rattle.site_plan.specs.Plans.{planRule, planValues}
+use Rattle.site_plan.specs.Plans.{planRule, planValues, longBeacons}
 use Rattle.book_members.specs.Members.{emptyRow, restoredAt, free, vacant}
 use Rattle.book_members.specs.Rules.{Used}
 use Rattle.book.specs.Books.{Contents, withinRule, rowsAt, rowsIn}
@@ -26,7 +26,8 @@ pub record Sized (b : Contents) : Type 0 where
   pub places : length (b .places) ≡ 21
   pub plan : Fit planWidths (planValues (b .plan))
 
--- a book written and restored at one time is accepted: it is the book with its silent members dropped and every time the restore's
+-- a book whose plan form 1 can say, written and restored at one time, is accepted: it is the book with its silent members dropped and every time the
+-- restore's
 pub record RestoredAs (b : Contents) (time : ℕ) : Type 0 where
   pub accepted : acceptedImage (imageOf b time) time ≡ true
   pub plan : imageBook (imageOf b time) time .plan ≡ b .plan
@@ -34,7 +35,8 @@ pub record RestoredAs (b : Contents) (time : ℕ) : Type 0 where
   pub rows : rowsIn (imageBook (imageOf b time) time) ≡ map (restoredAt time) (rowsAt b time)
 
 abbrev pub Restored : Type 0
-Restored = (b : Contents) (time : ℕ) → Sized b → withinRule b ≡ true → inOrder (b .time) time ≡ true → RestoredAs b time
+Restored =
+    (b : Contents) (time : ℕ) → Sized b → withinRule b ≡ true → inOrder (b .time) time ≡ true → b .plan .«beacon_type» ≡ longBeacons → RestoredAs b time
 
 -- document 01's list of what an accepted image keeps
 pub record Acceptable (s : List ℕ) : Type 0 where

@@ -21,7 +21,7 @@ use octets::numbers::number8;
 use octets::numbers::number16;
 use octets::numbers::number64;
 use octets::parts::part;
-use site_plan::plan_bytes::plan_of;
+use site_plan::plan_bytes::section_plan;
 
 // Whether the contents and the length are those of an image with so many rows.
 fn fits(s: &[u8], rows: u8) -> bool
@@ -105,7 +105,7 @@ fn members_in(s: &[u8], time: u32, count: u8) -> [Member; 21]
 pub fn restore(image: &[u8], time: u32) -> Changed
     ensures { λ r. ⌜ changeOf r ≡ restoreOf (now (image .entry)) time ⌝ }
 {
-    let plan = plan_of(image, 11);
+    let plan = section_plan(image, 11);
     let rows = members_in(image, time, plan.rows);
     let book = Book { plan, time, rows };
     let good = fits(image, plan.rows) & book.within_rule();

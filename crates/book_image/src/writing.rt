@@ -22,7 +22,8 @@ use octets::answers::refuse_if;
 use octets::fixed::put8;
 use octets::fixed::put16;
 use octets::fixed::put64;
-use site_plan::plan_bytes::put_plan;
+use site_plan::plan::Plan;
+use site_plan::plan_bytes::put_section;
 
 // How many bytes an image with so many rows has.
 pub(crate) fn size_for(rows: u8) -> usize
@@ -73,12 +74,13 @@ fn put_rows(out: &mut [u8], rows: [Member; 21], count: u8)
     }
 }
 
-// Why no image is written in a buffer with this room; 0 where one is.
+// Why no image is written in a buffer with this room; 0 where one is. Form 1 has no place for the kind of beacons.
 fn refusal(book: Book, time: u32, room: usize) -> u8
     ensures { λ r. ⌜ r ≡ first (imageReasons (contents book) time room) ⌝ }
 {
     let plan = book.plan;
     let refused = refuse_if(room < size_for(plan.rows), Refusal::ROOM, 0);
+    let refused = refuse_if(!(plan.beacon_type == Plan::BEACON), Refusal::RULE, refused);
     let refused = refuse_if(!in_order(book.time, time), Refusal::EARLIER, refused);
     refuse_if(!book.within_rule(), Refusal::RULE, refused)
 }
@@ -95,7 +97,7 @@ pub fn write_image(book: Book, time: u32, out: &mut [u8]) -> Written
     let rows = book.rows;
     let live = current(rows, time);
     put_head(out, plan.rows);
-    put_plan(out, 11, plan);
+    put_section(out, 11, plan);
     put_rows(out, live, plan.rows);
     Written::Done(size_for(plan.rows))
 }

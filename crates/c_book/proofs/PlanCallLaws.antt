@@ -17,24 +17,24 @@ use Rattle.c_book.specs.BookCalls.{bookLeft}
 use Rattle.c_book.specs.PlanCalls.{planCall, numbersLeft, numbersCall}
 
 -- ---- making one
-module _ (s : List ℕ) (network manager hops rows dataSlots ms : ℕ) where
-  plan-valued : Valued (planOf network manager hops rows dataSlots ms)
+module _ (s : List ℕ) (network manager hops rows dataSlots ms beacon : ℕ) where
+  plan-valued : Valued (planOf network manager hops rows dataSlots ms beacon)
   unfolding planOf
   plan-valued =
-      let p : Plan = record { network = network; manager = manager; «max_hops» = hops; rows = rows; «data_slots» = dataSlots; «slot_ms» = ms } in
-      valued-unless (first (reason (not (planRule p)) 14 ∷ [])) _ (valued network (manager ∷ hops ∷ rows ∷ dataSlots ∷ ms ∷ []))
+      let p : Plan = record { network = network; manager = manager; «max_hops» = hops; rows = rows; «data_slots» = dataSlots; «slot_ms» = ms; «beacon_type» = beacon } in
+      valued-unless (first (reason (not (planRule p)) 14 ∷ [])) _ (valued network (manager ∷ hops ∷ rows ∷ dataSlots ∷ ms ∷ beacon ∷ []))
 
-  pub no-plan : (length s ≡ planSize → ⊥) → bookLeft 14 s ≡ planCall s network manager hops rows dataSlots ms
+  pub no-plan : (length s ≡ planSize → ⊥) → bookLeft 14 s ≡ planCall s network manager hops rows dataSlots ms beacon
   unfolding planCall
   no-plan e = rw (ne-eqb (length s) planSize e)
 
-  module _ (l : length s ≡ planSize) (made : Made) (e : toldPlan made ≡ planOf network manager hops rows dataSlots ms) where
+  module _ (l : length s ≡ planSize) (made : Made) (e : toldPlan made ≡ planOf network manager hops rows dataSlots ms beacon) where
     pub planned : (p : Plan) (last : List ℕ) → made ≡ Made.Plan p → last ≡ sets s 0 (planBytes p)
-        → bookLeft 0 last ≡ planCall s network manager hops rows dataSlots ms
+        → bookLeft 0 last ≡ planCall s network manager hops rows dataSlots ms beacon
     unfolding planCall
     planned p last q h = rw (eq-eqb (length s) planSize l, ← e, q, h, sets-whole s (planBytes p) (length-plan p ∙ sym l))
 
-    pub unplanned : (r : Refusal) → made ≡ Made.Refused r → bookLeft (r .number) s ≡ planCall s network manager hops rows dataSlots ms
+    pub unplanned : (r : Refusal) → made ≡ Made.Refused r → bookLeft (r .number) s ≡ planCall s network manager hops rows dataSlots ms beacon
     unfolding planCall
     unplanned r q =
         let z = refused-by-some (r .number) _ plan-valued (sym (ap toldPlan q) ∙ e) in

@@ -14,9 +14,9 @@ use Rattle.c_book.specs.BookCalls.{BookLeft, bookLeft}
 
 -- ---- making one
 -- only the number of the buffer's bytes matters, not what they were
-unfoldable pub planCall : List ℕ → ℕ → ℕ → ℕ → ℕ → ℕ → ℕ → BookLeft
-planCall s network manager hops rows dataSlots ms =
-    let said = planOf network manager hops rows dataSlots ms in
+unfoldable pub planCall : List ℕ → ℕ → ℕ → ℕ → ℕ → ℕ → ℕ → ℕ → BookLeft
+planCall s network manager hops rows dataSlots ms beacon =
+    let said = planOf network manager hops rows dataSlots ms beacon in
     let status = stored planSize s (said .refusal) in
     bookLeft status (after status s (planBytes (planFrom (said .values))))
 

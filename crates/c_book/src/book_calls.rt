@@ -1,4 +1,4 @@
-// A member book of 307 bytes, kept by the caller: made of a plan, a member heard or gone, and its schedule.
+// A member book of 308 bytes, kept by the caller: made of a plan, a member heard or gone, and its schedule.
 ghost use mathlib.Core.Path.{_≡_};
 ghost use Rattle.octets.specs.Calls.{writeLeft};
 ghost use Rattle.book.specs.Books.{changeOf};

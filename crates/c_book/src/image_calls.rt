@@ -1,4 +1,4 @@
-// The stored image of a book of 307 bytes: written at a time, and restored at one.
+// The stored image of a book of 308 bytes: written at a time, and restored at one.
 ghost use mathlib.Core.Path.{_≡_};
 ghost use Rattle.octets.specs.Calls.{writeLeft};
 ghost use Rattle.c_book.specs.BookCalls.{bookLeft, imageCall, restoreCall};

@@ -1,4 +1,4 @@
-// A plan of 9 bytes, kept by the caller: made, and what its slots come to.
+// A plan of 10 bytes, kept by the caller: made, and what its slots come to.
 ghost use mathlib.Core.Path.{_≡_};
 ghost use Prim.Native.Nat.{_≤_};
 ghost use lib.ListN.{length};
@@ -13,11 +13,11 @@ use site_plan::plan::Plan;
 use site_plan::plan_bytes::plan_of;
 use site_plan::plan_bytes::put_plan;
 
-pub(crate) const PLAN_SIZE: usize = 9;
+pub(crate) const PLAN_SIZE: usize = 10;
 
 const PLAN_NUMBERS: usize = 7;
 
-// Makes a site's plan of its six numbers. One that is too large for a plan is out of rule, and not cut.
+// Makes a site's plan of its seven numbers. One that is too large for a plan is out of rule, and not cut.
 #[no_mangle]
 pub extern "C" fn braidlark_plan(
     plan: &mut [u8],
@@ -27,13 +27,22 @@ pub extern "C" fn braidlark_plan(
     rows: u32,
     data_slots: u32,
     slot_ms: u32,
+    beacon_type: u32,
 ) -> u8
-    ensures { λ r. ⌜ bookLeft r (now (plan .exit)) ≡ planCall (now (plan .entry)) network manager «max_hops» rows «data_slots» «slot_ms» ⌝ }
+    ensures { λ r. ⌜ bookLeft r (now (plan .exit)) ≡ planCall (now (plan .entry)) network manager «max_hops» rows «data_slots» «slot_ms» «beacon_type» ⌝ }
 {
     if plan.len() != PLAN_SIZE {
         return Refusal::RULE;
     }
-    match Plan::new(network, manager, max_hops, rows, data_slots, slot_ms) {
+    match Plan::new(
+        network,
+        manager,
+        max_hops,
+        rows,
+        data_slots,
+        slot_ms,
+        beacon_type,
+    ) {
         Made::Plan(made) => {
             put_plan(plan, 0, made);
             0

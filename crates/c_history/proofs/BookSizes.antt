@@ -11,10 +11,10 @@ use Rattle.book_members.specs.Members.{emptyRow}
 use Rattle.book.specs.Books.{Contents, noBook}
 use Rattle.book_history.specs.Calls.{Call, join, ask, heard, leave, schedule, image, next, timeOf}
 use Rattle.book_history.proofs.SizeLaws.{keeps-size}
-use Rattle.site_plan.specs.PlanBytes.{planAt}
+use Rattle.site_plan.specs.PlanBytes.{sectionAt, planAt}
 use Rattle.book_bytes.specs.BookBytes.{rowWidths, rowValues}
 use Rattle.book_bytes.specs.Trips.{RowFits, Sized}
-use Rattle.site_plan.proofs.PlanByteLaws.{plan-fits}
+use Rattle.site_plan.proofs.PlanByteLaws.{plan-fits, section-fits}
 use Rattle.book_bytes.proofs.SizeLaws.{row-fits, empty-fits, either-sized, none-sized, fresh-sized}
 use Rattle.book_image.specs.Images as images
 use Rattle.book_image.specs.Images.{planPlace, rowsPlace, rowIn, restoreOf}
@@ -33,9 +33,9 @@ restored-sized s time b t =
     either-sized (restoreOf s time .refused) noBook (images.imageBook s time) none-sized (
     record {
       places = length-tab 21 _;
-      plan = plan-fits s planPlace b;
+      plan = section-fits s planPlace b;
       time = t;
-      rows = each-tab RowFits 21 _ (λ i. go i (ltb i (planAt s planPlace .rows)));
+      rows = each-tab RowFits 21 _ (λ i. go i (ltb i (sectionAt s planPlace .rows)));
     }
     )
   where

@@ -16,11 +16,11 @@ use Rattle.book_bytes.proofs.TripLaws.{reads-back, writes-back}
 use Rattle.book_image.specs.Images.{restoreOf}
 use Rattle.book_history.specs.Histories.{Start, begun, afterCalls, answer}
 use Rattle.book_history.specs.BookLaws.{bookAfter}
-use Rattle.book_history.proofs.BookRuleLaws.{stays-within-rule, only-for-hops}
+use Rattle.book_history.proofs.BookRuleLaws.{stays-within-rule, only-beyond-plan}
 use Rattle.c_book.specs.BookCalls.{freshCall, heardCall, leaveCall, restoreCall, scheduleCall, imageCall}
 use Rattle.c_requests.specs.RequestCalls.{joinCall, slotRequestCall}
 use Rattle.c_history.specs.HeldBooks.{StartInC, fresh, restored, beginsIn, MachineStart, startOf, InC, leaves, answerInC, bufferAfter, AllMachine, callsOf}
-use Rattle.c_history.specs.BookLaws.{StaysStored, StoredFrom, RefusedLeaves, OnlyForHopsInC}
+use Rattle.c_history.specs.BookLaws.{StaysStored, StoredFrom, RefusedLeaves, OnlyBeyondPlanInC}
 use Rattle.c_history.proofs.BookSizes.{begun-sized, sized-next}
 
 -- ---- one call
@@ -121,13 +121,13 @@ module _ (s : List ℕ) (start : StartInC) (cs : List InC) (m : MachineStart sta
   pub book-same : bookIn (bufferAfter began cs) ≡ bookAfter from onValues
   book-same = ap bookIn (stays-stored s start cs m n e) ∙ reads-back (bookAfter from onValues) sized .0
 
-pub only-for-hops-in-c : OnlyForHopsInC
-only-for-hops-in-c s start cs m n e =
+pub only-beyond-plan-in-c : OnlyBeyondPlanInC
+only-beyond-plan-in-c s start cs m n e =
     let b = bookAfter (startOf start) (callsOf cs) in
     let z = sized s start cs m n e in
     let right = right s start cs m n e in
     rw (stays-stored s start cs m n e, reads-back b z .0) (
       reads-back b z .1,
       stays-within-rule (startOf start) (callsOf cs) right,
-      λ v filled q. only-for-hops (startOf start) (callsOf cs) v right (sym (refused-same b z v filled) ∙ q),
+      λ v filled q. only-beyond-plan (startOf start) (callsOf cs) v right (sym (refused-same b z v filled) ∙ q),
     )

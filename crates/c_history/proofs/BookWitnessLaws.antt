@@ -15,7 +15,7 @@ use Rattle.book_members.specs.Rules.{rowsRule}
 use Rattle.book.specs.Books.{withinRule, freshOf, heardOf}
 use Rattle.book_joins.specs.Joins.{joinResponses, joinOf, askResponses, askOf}
 use Rattle.book_bytes.specs.BookBytes.{rowAt, bookIn, bookBytes}
-use Rattle.site_plan.specs.PlanBytes.{planAt, planBytes}
+use Rattle.site_plan.specs.PlanBytes.{sectionAt, sectionBytes, planAt, planBytes}
 use Rattle.book_image.specs.Images as images
 use Rattle.book_image.specs.Images.{imageOf, imageWritten, rowIn, acceptedImage, restoreOf}
 use Rattle.c_book.specs.BookCalls.{freshCall, heardCall, restoreCall, imageCall}
@@ -31,9 +31,9 @@ unfolding tab every num digits xors ageAt inOrder isSealed readRefusal sealed re
 grants-more = refl
 
 pub grants-again : GrantsAgain
-unfolding tab every num digits xors ageAt inOrder isSealed readRefusal sealed readFrame has count isEmpty fill slotwise noSlots allSlots union meet minus lowest withoutHighest bits slotsOf maskOf firsts slotsIn current placeFor heldSlots vacant rowsRule withinRule freshOf joinResponses joinOf askResponses askOf heardOf rowAt bookIn bookBytes planAt planBytes freshCall joinCall slotRequestCall heardCall imageOf imageWritten rowIn images.imageBook acceptedImage restoreOf restoreCall imageCall
+unfolding tab every num digits xors ageAt inOrder isSealed readRefusal sealed readFrame has count isEmpty fill slotwise noSlots allSlots union meet minus lowest withoutHighest bits slotsOf maskOf firsts slotsIn current placeFor heldSlots vacant rowsRule withinRule freshOf joinResponses joinOf askResponses askOf heardOf rowAt bookIn bookBytes sectionAt sectionBytes planAt planBytes freshCall joinCall slotRequestCall heardCall imageOf imageWritten rowIn images.imageBook acceptedImage restoreOf restoreCall imageCall
 grants-again = (refl, refl, refl)
 
 pub grants-on : GrantsOn
-unfolding tab every num digits xors ageAt inOrder isSealed readRefusal sealed readFrame has count isEmpty fill slotwise noSlots allSlots union meet minus lowest withoutHighest bits slotsOf maskOf firsts slotsIn current placeFor heldSlots vacant rowsRule withinRule freshOf joinResponses joinOf askResponses askOf heardOf rowAt bookIn bookBytes planAt planBytes freshCall joinCall slotRequestCall heardCall imageOf imageWritten rowIn images.imageBook acceptedImage restoreOf restoreCall imageCall
+unfolding tab every num digits xors ageAt inOrder isSealed readRefusal sealed readFrame has count isEmpty fill slotwise noSlots allSlots union meet minus lowest withoutHighest bits slotsOf maskOf firsts slotsIn current placeFor heldSlots vacant rowsRule withinRule freshOf joinResponses joinOf askResponses askOf heardOf rowAt bookIn bookBytes sectionAt sectionBytes planAt planBytes freshCall joinCall slotRequestCall heardCall imageOf imageWritten rowIn images.imageBook acceptedImage restoreOf restoreCall imageCall
 grants-on = (refl, refl, refl, refl)

@@ -4,13 +4,13 @@ use Rattle.octets.proofs.Words.{_≡_, refl, true, false, not, and-eq-true-iff,
 use Rattle.octets.specs.Answers.{reason, first}
 use Rattle.octets.specs.Layouts.{Bytes}
 use Rattle.octets.specs.Lists.{every}
-use Rattle.octets.proofs.LayoutLaws.{fields-fit}
 use Rattle.octets.specs.Addresses.{address}
 use Rattle.octets.proofs.ListLaws.{every-map}
 use Rattle.octets.proofs.TestLaws.{of-choice}
 use Rattle.frame_kinds.specs.Shape.{partIn}
 use Rattle.frame_traffic.specs.Traffic.{update, entriesOf}
-use Rattle.frame_beacons.specs.Beacons.{beacon}
+use Rattle.frame_beacons.specs.EitherBeacons.{eitherIn}
+use Rattle.frame_beacons.proofs.EitherLaws.{either-fits}
 use Rattle.route_table.specs.declared.row.Row.{Row}
 use Rattle.route_table.specs.declared.table.Table.{Table}
 use Rattle.route_table.specs.Rows.{forgotten, standing}
@@ -78,14 +78,14 @@ module _ (t : Table) (z : Sized t) where
       (forgotten-rules (t .own) (t .time) time unit (rowsOf t) (within t (f .right) .rules))
       (every-map modest modest (forgotten unit time) (modest-forgotten unit time h) rs (still-modest time)))
 
-  forwarded-sized : (network : ℕ) (s : List ℕ) (delay time : ℕ) (out : List ℕ) → Bytes s → time < 0x100000000 → forwardOf t network s delay time out .answer .refused ≡ 0
-      → Sized (forwardOf t network s delay time out .answer .table)
+  forwarded-sized : (network manager : ℕ) (s : List ℕ) (delay time : ℕ) (out : List ℕ) → manager < 0x10000 → Bytes s → time < 0x100000000 → forwardOf t network manager s delay time out .answer .refused ≡ 0
+      → Sized (forwardOf t network manager s delay time out .answer .table)
   unfolding forwardOf
-  forwarded-sized network s delay time out b h e =
-      let o = onward t network s delay time (length out) e in
-      let fits = fields-fit s b (beacon .widths) 1 in
-      rw (eq-eqb (forwardRefusal t network s delay time (length out)) 0 e)
-      (sized-pad (t .own) time true _ _ (standing time (rowsOf t)) (z .head .0) h (fits .1 .1 .1 .1 .1 .1 .1 .1 .0) (fits .1 .1 .1 .1 .1 .1 .1 .1 .1 .1 .1 .1 .1 .0)
+  forwarded-sized network manager s delay time out m b h e =
+      let o = onward t network manager s delay time (length out) e in
+      let (origin, sequence) = either-fits s b in
+      rw (eq-eqb (forwardRefusal t network manager s delay time (length out)) 0 e)
+      (sized-pad (t .own) time true _ _ (standing time (rowsOf t)) (z .head .0) h (of-choice (λ n. n < 0x10000) (eitherIn s .short) m origin) sequence
       (few-stand t (o .right) time)
       (standing-rules (t .own) (t .time) time (rowsOf t) (within t (o .right) .rules))
       (still-modest time))
@@ -95,8 +95,8 @@ pub sized-next : (t : Table) (c : Call) → Machine c → Sized t → Sized (nex
 sized-next t (merge s quality time) (b, q, h) z =
     by-call Sized (mergeOf t s quality time .refused) t _ (merge-kept t s quality time) z (merged-sized t z s quality time b (omega (arith, q)) h)
 sized-next t (forget unit time) (u, h) z = by-call Sized (forgetOf t unit time .refused) t _ (forget-kept t unit time) z (forgotten-sized t z unit time h)
-sized-next t (forward network s delay time out) (n, b, d, h, o) z =
-    by-call Sized (forwardOf t network s delay time out .answer .refused) t _ (forward-kept t network s delay time out) z (forwarded-sized t z network s delay time out b h)
+sized-next t (forward network manager s delay time out) (n, m, b, d, h, o) z =
+    by-call Sized (forwardOf t network manager s delay time out .answer .refused) t _ (forward-kept t network manager s delay time out) z (forwarded-sized t z network manager s delay time out m b h)
 sized-next t (lookup d time) m z = z
 sized-next t (relay s time out) m z = z
 sized-next t (page p time out) m z = z

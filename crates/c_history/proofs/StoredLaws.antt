@@ -37,9 +37,9 @@ module _ (t : Table) (z : Sized t) where
   unfolding mergeCall forgetCall changedBy forwardCall
   table-same (merge s quality time) filled = rw (reads-back t z) (changed (mergeOf t s quality time .refused) (mergeOf t s quality time .table) (merge-kept t s quality time))
   table-same (forget unit time) filled = rw (reads-back t z) (changed (forgetOf t unit time .refused) (forgetOf t unit time .table) (forget-kept t unit time))
-  table-same (forward network s delay time out) filled =
-      let passed = forwardOf t network s delay time out .answer in
-      rw (reads-back t z) (changed (passed .refused) (passed .table) (forward-kept t network s delay time out))
+  table-same (forward network manager s delay time out) filled =
+      let passed = forwardOf t network manager s delay time out .answer in
+      rw (reads-back t z) (changed (passed .refused) (passed .table) (forward-kept t network manager s delay time out))
   table-same (lookup d time) filled = refl
   table-same (relay s time out) filled = refl
   table-same (page p time out) filled = refl
@@ -49,7 +49,7 @@ module _ (t : Table) (z : Sized t) where
   unfolding mergeCall forgetCall changedBy forwardCall lookupCall relayCall pageCall
   status-same (merge s quality time) filled = rw (reads-back t z, writes-tables t z)
   status-same (forget unit time) filled = rw (reads-back t z, writes-tables t z)
-  status-same (forward network s delay time out) filled = rw (reads-back t z, writes-tables t z)
+  status-same (forward network manager s delay time out) filled = rw (reads-back t z, writes-tables t z)
   status-same (lookup d time) filled = rw (reads-back t z, writes-tables t z)
   status-same (relay s time out) filled = rw (reads-back t z, writes-tables t z)
   status-same (page p time out) filled = rw (reads-back t z, writes-tables t z)
@@ -99,7 +99,7 @@ pub refused-leaves : RefusedLeaves
 unfolding mergeCall forgetCall changedBy forwardCall lookupCall relayCall pageCall
 refused-leaves s (merge frame quality time) filled z = rw (ne-eqb _ 0 z)
 refused-leaves s (forget unit time) filled z = rw (ne-eqb _ 0 z)
-refused-leaves s (forward network frame delay time out) filled z = rw (ne-eqb _ 0 z)
+refused-leaves s (forward network manager frame delay time out) filled z = rw (ne-eqb _ 0 z)
 refused-leaves s (lookup d time) filled z = rw (ne-eqb _ 0 z)
 refused-leaves s (relay frame time out) filled z = rw (ne-eqb _ 0 z)
 refused-leaves s (page p time out) filled z = rw (ne-eqb _ 0 z)

@@ -21,7 +21,7 @@ use Rattle.book_history.specs.Laws.{full, Newcomer, due, kindIn}
 use Rattle.book_bytes.specs.BookBytes.{bookSize, bookIn, bookBytes}
 use Rattle.book_bytes.specs.Trips.{Sized}
 use Rattle.book_history.specs.Histories.{begun, afterCalls, stepOf, clockOf, dataGranted, unitsGranted}
-use Rattle.book_history.specs.BookLaws.{wrongHop, slotsAt, its}
+use Rattle.book_history.specs.BookLaws.{beyondPlan, slotsAt, its}
 use Rattle.c_book.specs.BookCalls.{scheduleCall}
 use Rattle.c_requests.specs.RequestCalls.{joinCall, slotRequestCall}
 use Rattle.c_history.specs.HeldBooks.{StartInC, beginsIn, MachineStart, startOf, InC, Machine, leaves, answerInC, bufferAfter, recordedInC, AllMachine, callsOf, grantedInC, recentInC}
@@ -39,7 +39,7 @@ StaysStored =
     (s : List ℕ) (start : StartInC) (cs : List InC) → MachineStart start → AllMachine cs → beginsIn s start .status ≡ 0
     → bufferAfter (beginsIn s start .book) cs ≡ bookBytes (afterCalls (begun (startOf start) .book) (callsOf cs))
 
--- the same from any 307 bytes on, as from flash
+-- the same from any 308 bytes on, as from flash
 abbrev pub StoredFrom : Type 0
 StoredFrom =
     (s : List ℕ) (cs : List InC) → Bytes s → length s ≡ bookSize → AllMachine cs → bufferAfter s cs ≡ bookBytes (afterCalls (bookIn s) (callsOf cs))
@@ -48,13 +48,13 @@ StoredFrom =
 abbrev pub RefusedLeaves : Type 0
 RefusedLeaves = (s : List ℕ) (c : Call) (filled : ℕ) → (answerInC s c filled .refused ≡ 0 → ⊥) → leaves s c filled ≡ s
 
--- the book in the buffer is within rule, and 14 is only for a hop that the caller names
-abbrev pub OnlyForHopsInC : Type 0
-OnlyForHopsInC =
+-- the book in the buffer is within rule, and 14 is only for what its plan does not have
+abbrev pub OnlyBeyondPlanInC : Type 0
+OnlyBeyondPlanInC =
     (s : List ℕ) (start : StartInC) (cs : List InC) → MachineStart start → AllMachine cs → beginsIn s start .status ≡ 0
     → let held = bufferAfter (beginsIn s start .book) cs in
     (length held ≡ bookSize) × (withinRule (bookIn held) ≡ true)
-    × ((c : Call) (filled : ℕ) → answerInC held c filled .refused ≡ 14 → wrongHop (bookIn held) c ≡ true)
+    × ((c : Call) (filled : ℕ) → answerInC held c filled .refused ≡ 14 → beyondPlan (bookIn held) c ≡ true)
 
 -- what the bytes have for a unit is what the start's bytes and the answers of its own calls say
 abbrev pub AnswersTellInC : Type 0

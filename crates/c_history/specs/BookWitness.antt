@@ -11,10 +11,10 @@ use Rattle.c_history.specs.HeldBooks.{StartInC, fresh, restored, beginsI
 -- ---- the first buffer
 -- network 1, manager 1, one hop, three rows, five data slots of 100 ms; it begins 10 ms before times begin again
 abbrev pub small : StartInC
-small = fresh (1 ∷ 0 ∷ 1 ∷ 0 ∷ 1 ∷ 3 ∷ 5 ∷ 100 ∷ 0 ∷ []) 0xFFFFFFF6
+small = fresh (1 ∷ 0 ∷ 1 ∷ 0 ∷ 1 ∷ 3 ∷ 5 ∷ 100 ∷ 0 ∷ 0x46 ∷ []) 0xFFFFFFF6
 
 abbrev pub bufferAtFirst : List ℕ
-bufferAtFirst = beginsIn (replicate 307 7) small .book
+bufferAtFirst = beginsIn (replicate 308 7) small .book
 
 -- unit 2 asks to join, for one slot, 5 ms before that, and for two slots 7 ms after it
 abbrev pub joins : Call
@@ -35,7 +35,7 @@ joinedAndAsked = inC joins ∷ inC asks ∷ []
 -- it is granted control slot 3 and data slot 6, until it has been silent for more than 300,000 ms
 abbrev pub Grants : Type 0
 Grants =
-    (beginsIn (replicate 307 7) small .status ≡ 0)
+    (beginsIn (replicate 308 7) small .status ≡ 0)
     × (answerInC bufferAtFirst joins 0 .refused ≡ 0)
     × (grantedInC bufferAtFirst joined 2 299995 ≡ 3 ∷ 6 ∷ [])
     × (grantedInC bufferAtFirst joined 2 299996 ≡ [])
@@ -53,12 +53,12 @@ abbrev pub again : StartInC
 again = restored itsImage 20
 
 abbrev pub bufferAgain : List ℕ
-bufferAgain = beginsIn (replicate 307 9) again .book
+bufferAgain = beginsIn (replicate 308 9) again .book
 
 -- unit 2 has the same, for 300,000 ms from then on
 abbrev pub GrantsAgain : Type 0
 GrantsAgain =
-    (beginsIn (replicate 307 9) again .status ≡ 0)
+    (beginsIn (replicate 308 9) again .status ≡ 0)
     × (grantedInC bufferAgain [] 2 300020 ≡ 3 ∷ 6 ∷ 7 ∷ [])
     × (grantedInC bufferAgain [] 2 300021 ≡ [])
 

@@ -22,7 +22,7 @@ pub record InC : Type 0 where
 abbrev pub Machine : Call → Type 0
 Machine (merge frame quality time) = Bytes frame × (quality < 0x100) × (time < 0x100000000)
 Machine (forget unit time) = (unit < 0x10000) × (time < 0x100000000)
-Machine (forward network frame delay time out) = (network < 0x10000) × Bytes frame × (delay < 0x100000000) × (time < 0x100000000) × Bytes out
+Machine (forward network manager frame delay time out) = (network < 0x10000) × (manager < 0x10000) × Bytes frame × (delay < 0x100000000) × (time < 0x100000000) × Bytes out
 Machine (lookup d time) = (d < 0x10000) × (time < 0x100000000)
 Machine (relay frame time out) = Bytes frame × (time < 0x100000000) × Bytes out
 Machine (page p time out) = (p < 0x100000000) × (time < 0x100000000) × Bytes out
@@ -40,7 +40,7 @@ holds table out numbers = record { table = table; out = out; numbers = numbers }
 abbrev pub handedIn : List ℕ → Call → (ℕ → ℕ) → Memory
 handedIn s (merge frame quality time) filled = holds s [] (filled 0 ∷ [])
 handedIn s (forget unit time) filled = holds s [] []
-handedIn s (forward network frame delay time out) filled = holds s out (filled 0 ∷ [])
+handedIn s (forward network manager frame delay time out) filled = holds s out (filled 0 ∷ [])
 handedIn s (lookup d time) filled = holds s [] (filled 0 ∷ filled 1 ∷ [])
 handedIn s (relay frame time out) filled = holds s out (filled 0 ∷ filled 1 ∷ filled 2 ∷ [])
 handedIn s (page p time out) filled = holds s out (filled 0 ∷ [])
@@ -57,8 +57,8 @@ returned s (merge frame quality time) filled =
 returned s (forget unit time) filled =
     let call = forgetCall s unit time in
     record { status = call .status; memory = holds (call .table) [] [] }
-returned s (forward network frame delay time out) filled =
-    let call = forwardCall s network frame delay time out (filled 0) in
+returned s (forward network manager frame delay time out) filled =
+    let call = forwardCall s network manager frame delay time out (filled 0) in
     record { status = call .status; memory = holds (call .table) (call .out) (call .written ∷ []) }
 returned s (lookup d time) filled =
     let call = lookupCall s d time (filled 0) (filled 1) in

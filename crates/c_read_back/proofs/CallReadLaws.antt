@@ -53,11 +53,11 @@ responses-are-read-in-c s frame time out written b h =
 -- ---- forwarding
 pub forwards-are-read-in-c : ForwardsReadInC
 unfolding forwardCall
-forwards-are-read-in-c s network frame delay time out written b z =
-    let passed = forwardOf (tableIn s) network frame delay time out in
+forwards-are-read-in-c s network manager frame delay time out written b z =
+    let passed = forwardOf (tableIn s) network manager frame delay time out in
     let n = passed .answer .refused in
     rw (after-accepted (cond (isTable s) n 14) written (passed .answer .written) z, after-accepted (cond (isTable s) n 14) out (passed .held) z)
-    (forwards-are-read (tableIn s) network frame delay time out b (stored-none (isTable s) n z .1))
+    (forwards-are-read (tableIn s) network manager frame delay time out b (stored-none (isTable s) n z .1))
 
 -- ---- pages
 page-said : (t : Table) (p time : ℕ) (out : List ℕ) → pageOf t p time out .said .refusal ≡ 0 → pageOf t p time out .said ≡ accepted (length (pageFrame t p time) ∷ [])

@@ -15,7 +15,9 @@ use Rattle.route_table.specs.Rows.{pad}
 use Rattle.route_table.specs.Tables.{withinRule, lookupOf}
 use Rattle.route_merges.specs.Learning.{learn}
 use Rattle.route_merges.specs.Merges.{mergeRefusal, mergedRows, mergeOf}
-use Rattle.route_forwards.specs.Forwards.{passedBy, forwardRefusal, forwardOf}
+use Rattle.route_forwards.specs.Forwards.{forwardRefusal, forwardOf}
+use Rattle.route_forwards.specs.Copies.{passedBy, shortPassedBy}
+use Rattle.frame_beacons.specs.EitherBeacons.{eitherRefusal, eitherIn}
 use Rattle.route_pages.specs.Pages.{entryFor, pageOf}
 use Rattle.route_relays.specs.Relays.{relayRefusal, relayOf}
 use Rattle.route_bytes.specs.TableBytes.{rowAt, tableIn, tableBytes, isTable}
@@ -34,7 +36,7 @@ use Rattle.c_routes.specs.RelayCalls.{relayCall}
 use Rattle.route_merges.specs.StoredMerges.{mergeCall}
 use Rattle.c_routes.specs.UpdateCalls.{pageCall}
 use Rattle.c_requests.specs.RequestCalls.{joinCall, slotRequestCall}
-use Rattle.c_read_back.specs.CallsWitness.{ReadOnce, RelayedOnce, DeliveredOnce, ForwardedOnce, PagedOnce, MergedOnce, JoinedOnce, AskedOnce}
+use Rattle.c_read_back.specs.CallsWitness.{ReadOnce, RelayedOnce, DeliveredOnce, ForwardedOnce, ShortForwardedOnce, PagedOnce, MergedOnce, JoinedOnce, AskedOnce}
 
 pub read-once : ReadOnce
 unfolding num digits xors isSealed readRefusal sealed writeRefusal writing readFrame showRefusal shown writeNumbers readCall writeCall
@@ -49,8 +51,12 @@ unfolding tab every num digits xors ageAt inOrder isSealed readRefusal sealed pa
 delivered-once = refl
 
 pub forwarded-once : ForwardedOnce
-unfolding tab every num digits xors ageAt inOrder isSealed readRefusal sealed pad withinRule lookupOf passedBy forwardRefusal forwardOf rowAt tableIn tableBytes isTable forwardCall
+unfolding tab every num digits xors ageAt inOrder isSealed readRefusal sealed eitherRefusal eitherIn pad withinRule lookupOf passedBy forwardRefusal forwardOf rowAt tableIn tableBytes isTable forwardCall
 forwarded-once = (refl, refl, refl)
+
+pub short-forwarded-once : ShortForwardedOnce
+unfolding tab every num digits xors ageAt inOrder isSealed readRefusal sealed eitherRefusal eitherIn pad withinRule lookupOf shortPassedBy forwardRefusal forwardOf rowAt tableIn tableBytes isTable forwardCall
+short-forwarded-once = (refl, refl, refl)
 
 pub paged-once : PagedOnce
 unfolding tab every num digits xors ageAt inOrder sealed pad withinRule entryFor pageOf rowAt tableIn tableBytes isTable pageCall

@@ -3,6 +3,7 @@
 -- Assumes nothing.
 use mathlib.Core.Path.{_≡_}
 use mathlib.Core.List.{List, _∷_}
+use mathlib.Core.Logic.{_⊎_}
 use Prim.Native.Nat.{ℕ, _<_}
 use lib.ListN.{take, drop}
 use Rattle.octets.specs.Answers.{accepted}
@@ -21,7 +22,7 @@ use Rattle.route_forwards.specs.Forwards.{forwardCall}
 use Rattle.c_routes.specs.RelayCalls.{relayCall}
 use Rattle.c_routes.specs.UpdateCalls.{pageCall}
 use Rattle.c_requests.specs.RequestCalls.{joinCall, slotRequestCall}
-use Rattle.c_read_back.specs.FramesRead.{Responded, Copied, Forwarded, Paged}
+use Rattle.c_read_back.specs.FramesRead.{Responded, Copied, Forwarded, ShortForwarded, Paged}
 
 -- a join, and a slot request: the responses tell what the book, as the call leaves its bytes, has for the unit
 abbrev pub ResponsesReadInC : Type 0
@@ -58,9 +59,9 @@ PayloadTold =
 -- a forward
 abbrev pub ForwardsReadInC : Type 0
 ForwardsReadInC =
-    (s : List ℕ) (network : ℕ) (frame : List ℕ) (delay time : ℕ) (out : List ℕ) (written : ℕ) → Bytes frame
-    → let r = forwardCall s network frame delay time out written in
-    r .status ≡ 0 → Forwarded (tableIn s .own) delay frame (take (r .written) (r .out))
+    (s : List ℕ) (network manager : ℕ) (frame : List ℕ) (delay time : ℕ) (out : List ℕ) (written : ℕ) → Bytes frame
+    → let r = forwardCall s network manager frame delay time out written in
+    r .status ≡ 0 → let copy = take (r .written) (r .out) in Forwarded (tableIn s .own) delay frame copy ⊎ ShortForwarded (tableIn s .own) delay frame copy
 
 -- a page
 abbrev pub PagesReadInC : Type 0

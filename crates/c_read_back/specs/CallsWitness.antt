@@ -8,6 +8,7 @@ use lib.ListN.{replicate}
 use Rattle.octets.specs.Calls.{writeLeft}
 use Rattle.frame_kinds.specs.Shape.{frameOf}
 use Rattle.frame_beacons.specs.Beacons.{beacon}
+use Rattle.frame_beacons.specs.ShortBeacons.{shortBeacon}
 use Rattle.route_table.specs.declared.table.Table.{Table}
 use Rattle.route_table.specs.Tables.{withRows, emptyTable}
 use Rattle.route_bytes.specs.TableBytes.{tableBytes}
@@ -54,8 +55,17 @@ beaconFrom source hop delay = frameOf beacon (0xFFFF ∷ source ∷ 27 ∷ 1 ∷
 
 abbrev pub ForwardedOnce : Type 0
 ForwardedOnce =
-    let r = forwardCall (tableBytes table) 1 (beaconFrom 2 1 10) 5 5 (replicate 34 0) 0 in
+    let r = forwardCall (tableBytes table) 1 9 (beaconFrom 2 1 10) 5 5 (replicate 34 0) 0 in
     (r .status ≡ 0) × (r .written ≡ 34) × (r .out ≡ beaconFrom 1 2 15)
+
+-- and a short one of which unit 9 is the manager
+abbrev pub shortFrom : ℕ → ℕ → ℕ → List ℕ
+shortFrom source hop delay = frameOf shortBeacon (source ∷ 1 ∷ 2 ∷ 100 ∷ hop ∷ 0 ∷ delay ∷ 3 ∷ 6 ∷ []) []
+
+abbrev pub ShortForwardedOnce : Type 0
+ShortForwardedOnce =
+    let r = forwardCall (tableBytes table) 1 9 (shortFrom 2 1 10) 5 5 (replicate 19 0) 0 in
+    (r .status ≡ 0) × (r .written ≡ 19) × (r .out ≡ shortFrom 1 2 15)
 
 -- the page of that row at time 5
 abbrev pub itsPage : List ℕ
@@ -78,7 +88,7 @@ MergedOnce =
 -- ---- a book
 -- network 1, manager 1, one hop, two rows, three data slots of 100 ms
 abbrev pub book : Contents
-book = freshBook (record { network = 1; manager = 1; «max_hops» = 1; rows = 2; «data_slots» = 3; «slot_ms» = 100 }) 0
+book = freshBook (record { network = 1; manager = 1; «max_hops» = 1; rows = 2; «data_slots» = 3; «slot_ms» = 100; «beacon_type» = 0x46 }) 0
 
 -- unit 2 asks to join, for one slot, and is told of its control slot, 3, and of its data slot, 5
 abbrev pub joined : RequestLeft

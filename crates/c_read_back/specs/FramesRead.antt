@@ -5,6 +5,7 @@
 use mathlib.Core.Path.{_≡_}
 use mathlib.Core.Bool.{true, false, not}
 use mathlib.Core.List.{List, [], _∷_, map}
+use mathlib.Core.Logic.{_⊎_}
 use Prim.Native.Nat.{ℕ, zero, suc, _+_, _*_, _-_, _/_, _≤_, _<_}
 use lib.Dec.{eqb, ltb}
 use lib.ListN.{length, getD, take, drop}
@@ -17,7 +18,9 @@ use Rattle.frame_requests.specs.Requests.{joinResponseFrom}
 use Rattle.frame_traffic.specs.declared.data_frame.DataHeader.{DataHeader}
 use Rattle.frame_traffic.specs.Traffic.{dataKind, dataValues, update, entriesOf, entryValues}
 use Rattle.frame_beacons.specs.declared.beacon.Beacon.{Beacon}
+use Rattle.frame_beacons.specs.declared.short.ShortBeacon.{ShortBeacon}
 use Rattle.frame_beacons.specs.Beacons.{beaconValues}
+use Rattle.frame_beacons.specs.ShortBeacons.{shortBeaconValues}
 use Rattle.frames.specs.Frames.{readFrame}
 use Rattle.frame_entries.specs.Walks.{walkOf}
 use Rattle.route_table.specs.declared.row.Row.{Row}
@@ -116,12 +119,24 @@ pub record Forwarded (own delay : ℕ) (s copy : List ℕ) : Type 0 where
       beacon .sequence ∷
       [])
 
--- where forwarding is accepted, the bytes that it says were written are the copy
+-- the same of a short one
+pub record ShortForwarded (own delay : ℕ) (s copy : List ℕ) : Type 0 where
+  pub beacon : ShortBeacon
+  pub received : readFrame s ≡ accepted (0x47 ∷ shortBeaconValues beacon)
+  pub sent :
+      readFrame copy
+      ≡ accepted
+      (0x47 ∷ own ∷ beacon .network ∷ beacon .«total_slots» ∷ beacon .«slot_ms» ∷ (beacon .hop + 1) ∷ beacon .«original_time» ∷ (beacon .delay + delay) ∷
+      beacon .«max_hops» ∷
+      beacon .sequence ∷
+      [])
+
+-- where forwarding is accepted, the bytes that it says were written are the copy, of the kind that came in
 abbrev pub ForwardsRead : Type 0
 ForwardsRead =
-    (t : Table) (network : ℕ) (s : List ℕ) (delay time : ℕ) (out : List ℕ) → Bytes s
-    → let f = forwardOf t network s delay time out in
-    f .answer .refused ≡ 0 → Forwarded (t .own) delay s (take (f .answer .written) (f .held))
+    (t : Table) (network manager : ℕ) (s : List ℕ) (delay time : ℕ) (out : List ℕ) → Bytes s
+    → let f = forwardOf t network manager s delay time out in
+    f .answer .refused ≡ 0 → let copy = take (f .answer .written) (f .held) in Forwarded (t .own) delay s copy ⊎ ShortForwarded (t .own) delay s copy
 
 -- ---- pages
 -- a routing update from this unit at this time, with one entry for each of these rows, in order; and so it is walked

@@ -1,4 +1,4 @@
-// Frames that a manager answers over a book of 307 bytes: a request to join, and a request for slots. Bytes of another number are found out before
+// Frames that a manager answers over a book of 308 bytes: a request to join, and a request for slots. Bytes of another number are found out before
 // anything is written.
 ghost use mathlib.Core.Path.{_≡_};
 ghost use lib.ListN.{length};

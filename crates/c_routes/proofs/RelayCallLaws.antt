@@ -50,18 +50,18 @@ module _ (s frame : List ℕ) (time : ℕ) (out : List ℕ) (nextHop place exten
       go false q = ap (λ (x : Relaying). relayLeft (x .answer .refused) (x .held) nextHop place extent) q
 
 -- ---- forwarding: the call on the bytes says no number where it is refused
-module _ (s : List ℕ) (network : ℕ) (frame : List ℕ) (delay time : ℕ) (out : List ℕ) (written : ℕ) (a : ForwardedIn) (last held : List ℕ)
-    (e : forwardLeft (a .refused) last held (a .written) ≡ forwardCall s network frame delay time out 0) where
-  status : a .refused ≡ forwardCall s network frame delay time out written .status
+module _ (s : List ℕ) (network manager : ℕ) (frame : List ℕ) (delay time : ℕ) (out : List ℕ) (written : ℕ) (a : ForwardedIn) (last held : List ℕ)
+    (e : forwardLeft (a .refused) last held (a .written) ≡ forwardCall s network manager frame delay time out 0) where
+  status : a .refused ≡ forwardCall s network manager frame delay time out written .status
   unfolding forwardCall
   status = ap (λ (x : ForwardLeft). x .status) e
 
-  pub unforwarded : (a .refused ≡ 0 → ⊥) → forwardLeft (a .refused) last held written ≡ forwardCall s network frame delay time out written
+  pub unforwarded : (a .refused ≡ 0 → ⊥) → forwardLeft (a .refused) last held written ≡ forwardCall s network manager frame delay time out written
   unfolding forwardCall
   unforwarded z =
       rw (ap (λ (x : ForwardLeft). x .table) e, ap (λ (x : ForwardLeft). x .out) e, ← status, ne-eqb (a .refused) 0 z)
 
-  pub forwarded : a .refused ≡ 0 → forwardLeft 0 last held (a .written) ≡ forwardCall s network frame delay time out written
+  pub forwarded : a .refused ≡ 0 → forwardLeft 0 last held (a .written) ≡ forwardCall s network manager frame delay time out written
   unfolding forwardCall
   forwarded z =
       rw (ap (λ (x : ForwardLeft). x .table) e, ap (λ (x : ForwardLeft). x .out) e, ap (λ (x : ForwardLeft). x .written) e, ← status, z)

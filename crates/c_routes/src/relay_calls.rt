@@ -39,20 +39,21 @@ pub extern "C" fn braidlark_relay(
     0
 }
 
-// Forwards a beacon with this delay added, and says how many bytes were written.
+// Forwards a beacon of either kind with this delay added, and says how many bytes were written.
 #[no_mangle]
 pub extern "C" fn braidlark_forward(
     table: &mut [u8],
     network: u16,
+    manager: u16,
     frame: &[u8],
     delay: u32,
     time: u32,
     out: &mut [u8],
     written: &mut u32,
 ) -> u8
-    ensures { λ r. ⌜ forwardLeft r (now (table .exit)) (now (out .exit)) (now (written .exit)) ≡ forwardCall (now (table .entry)) network (now (frame .entry)) delay time (now (out .entry)) (now (written .entry)) ⌝ }
+    ensures { λ r. ⌜ forwardLeft r (now (table .exit)) (now (out .exit)) (now (written .exit)) ≡ forwardCall (now (table .entry)) network manager (now (frame .entry)) delay time (now (out .entry)) (now (written .entry)) ⌝ }
 {
-    let forwarded = forward_in(table, network, frame, delay, time, out);
+    let forwarded = forward_in(table, network, manager, frame, delay, time, out);
     if forwarded.refused != 0 {
         return forwarded.refused;
     }

@@ -1,1 +1,3 @@
 pub mod Beacons
+pub mod EitherBeacons
+pub mod ShortBeacons

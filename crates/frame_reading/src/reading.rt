@@ -3,6 +3,7 @@ ghost use mathlib.Core.Path.{_≡_};
 ghost use Rattle.frames.specs.Frames.{refusalTyped, readFrame};
 ghost use Rattle.frames.specs.Told.{told};
 use frame_beacons::beacon::Beacon;
+use frame_beacons::short::ShortBeacon;
 use frame_kinds::judging::refused;
 use frame_kinds::judging::unknown;
 use frame_requests::DiscoveryRequest;
@@ -29,6 +30,7 @@ pub fn wanted(s: &[u8], code: u8) -> u8
         0x25 => refused(s, 0x25, 13, DiscoveryResponse::of(s).good()),
         0x31 => UpdateHeader::refusal(s),
         0x46 => Beacon::refusal(s),
+        0x47 => ShortBeacon::refusal(s),
         _ => unknown(s),
     }
 }
@@ -54,6 +56,7 @@ pub fn read(s: &[u8]) -> Frame
         0x25 => Frame::DiscoveryResponse(DiscoveryResponse::of(s)).unless(wanted(s, 0x25)),
         0x31 => Frame::Update(UpdateHeader::of(s)).unless(wanted(s, 0x31)),
         0x46 => Frame::Beacon(Beacon::of(s)).unless(wanted(s, 0x46)),
+        0x47 => Frame::ShortBeacon(ShortBeacon::of(s)).unless(wanted(s, 0x47)),
         _ => Frame::Refused(Refusal { number: unknown(s) }),
     }
 }

@@ -31,6 +31,7 @@ pub fn write(frame: Frame, part: &[u8], out: &mut [u8]) -> Written
             out,
         ),
         Frame::Beacon(f) => write_as(0x46, 0, f.good(), &f.numbers(), part, out),
+        Frame::ShortBeacon(f) => write_as(0x47, 0, f.good(), &f.numbers(), part, out),
         Frame::Refused(refusal) => Written::Refused(refusal),
     }
 }

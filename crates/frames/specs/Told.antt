@@ -8,6 +8,7 @@ use Rattle.frames.specs.declared.answers.Frame.{Frame}
 use Rattle.frame_traffic.specs.Traffic.{dataKind, dataValues, update, updateValues}
 use Rattle.frame_requests.specs.Requests.{joinRequest, joinRequestValues, joinResponse, joinResponseValues, slotRequest, slotRequestValues, discoveryRequest, discoveryRequestValues, discoveryResponse, discoveryResponseValues}
 use Rattle.frame_beacons.specs.Beacons.{beacon, beaconValues}
+use Rattle.frame_beacons.specs.ShortBeacons.{shortBeacon, shortBeaconValues}
 use Rattle.frame_kinds.specs.Shape.{Kind}
 use Rattle.frame_kinds.specs.Writing.{writeAs}
 
@@ -21,6 +22,7 @@ saidOf (Frame.DiscoveryRequest f) frame none = frame discoveryRequest (discovery
 saidOf (Frame.DiscoveryResponse f) frame none = frame discoveryResponse (discoveryResponseValues f)
 saidOf (Frame.Update f) frame none = frame update (updateValues f)
 saidOf (Frame.Beacon f) frame none = frame beacon (beaconValues f)
+saidOf (Frame.ShortBeacon f) frame none = frame shortBeacon (shortBeaconValues f)
 saidOf (Frame.Refused r) frame none = none (r .number)
 
 -- a frame that was read: its type, then its fields

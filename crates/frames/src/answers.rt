@@ -14,6 +14,7 @@ pub enum Frame {
     DiscoveryResponse(frame_requests::DiscoveryResponse),
     Update(frame_traffic::update::UpdateHeader),
     Beacon(frame_beacons::beacon::Beacon),
+    ShortBeacon(frame_beacons::short::ShortBeacon),
     Refused(Refusal),
 }
 

@@ -1,3 +1,3 @@
-// The eight kinds of document 01 as one enum, and the layout of each by its type.
+// The nine kinds of frames as one enum, and the layout of each by its type.
 pub mod answers;
 pub mod layouts;

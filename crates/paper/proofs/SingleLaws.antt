@@ -8,6 +8,7 @@ use Rattle.slot_sets.proofs.MaskLaws.{mask-back}
 use Rattle.frame_traffic.specs.Traffic.{dataFrom, updateFrom}
 use Rattle.frame_requests.specs.Requests.{joinRequestFrom, joinResponseFrom, slotRequestFrom}
 use Rattle.frame_beacons.specs.Beacons.{beaconFrom}
+use Rattle.frame_beacons.specs.ShortBeacons.{shortBeaconFrom}
 use Rattle.octets.proofs.ToldLaws.{told-written-one}
 use Rattle.frames.specs.declared.answers.Frame.{Frame}
 use Rattle.frames.proofs.ToldLaws.{told-one}
@@ -71,6 +72,7 @@ views-tell-apart =
       discoveryRequests = λ a a′ p p′ e. cc (told-one (Frame.DiscoveryRequest a) (Frame.DiscoveryRequest a′) (ap (λ (vs : List ℕ). accepted (0x24 ∷ vs)) e));
       discoveryResponses = λ a a′ p p′ e. cc (told-one (Frame.DiscoveryResponse a) (Frame.DiscoveryResponse a′) (ap (λ (vs : List ℕ). accepted (0x25 ∷ vs)) e));
       beacons = undone any _ beaconFrom (λ a p. refl);
+      shortBeacons = undone any _ shortBeaconFrom (λ a p. refl);
       frames = λ a a′ p p′ e. told-one a a′ e;
       plans = λ a a′ p p′ e. told-plan-one a a′ e;
       steps = λ a a′ p p′ e. told-walked-one a a′ e;

@@ -6,7 +6,7 @@ use mathlib.Core.Bool.{Bool, true, false, _&&_, cond}
 use mathlib.Core.List.{List, [], _∷_, _++_}
 use Prim.Native.Nat.{ℕ, suc, _+_, _-_, _%_, _^_}
 use lib.Dec.{eqb}
-use lib.ListN.{getD}
+use lib.ListN.{length, getD}
 use lib.IntN.{ℤ, pos, negsuc}
 use Rattle.octets.specs.Answers.{Said}
 use Rattle.moments.specs.Moments.{ageAt, inOrder}
@@ -15,8 +15,10 @@ use Rattle.frames.specs.Frames.{readFrame}
 use Rattle.frame_kinds.specs.Shape.{frameOf}
 use Rattle.book_image.specs.Forms.{same}
 use Rattle.site_plan.specs.declared.plan.Plan.{Plan}
-use Rattle.site_plan.specs.Plans.{active, slots, planOf}
+use Rattle.site_plan.specs.Plans.{active, slots, superframeMs, planOf, longBeacons, shortBeacons}
 use Rattle.paper.specs.Story.{story}
+use Rattle.frame_beacons.specs.Beacons.{beacon}
+use Rattle.frame_beacons.specs.ShortBeacons.{shortBeacon}
 use Rattle.unit_clock.specs.Clock.{drift, corrected}
 
 pub record Example : Type 0 where
@@ -33,13 +35,24 @@ joinBytes = 0x21 ∷ 0x01 ∷ 0x02 ∷ 0x00 ∷ 0x01 ∷ 0x00 ∷ 0x04 ∷ 0x27 
 
 -- ---- the plans of network 1 with manager 0x0100 and h 3, by M, D and slot ms; where the paper names no slot ms, 655 fits 100 slots
 abbrev pub plan : ℕ → ℕ → ℕ → Said
-plan rows dataSlots ms = planOf 1 0x0100 3 rows dataSlots ms
+plan rows dataSlots ms = planOf 1 0x0100 3 rows dataSlots ms longBeacons
 
 -- A and S
 abbrev pub lengths : ℕ → ℕ → ℕ → List ℕ
 lengths rows dataSlots ms =
-    let p : Plan = record { network = 1; manager = 0x0100; «max_hops» = 3; rows = rows; «data_slots» = dataSlots; «slot_ms» = ms } in
+    let p : Plan = record { network = 1; manager = 0x0100; «max_hops» = 3; rows = rows; «data_slots» = dataSlots; «slot_ms» = ms; «beacon_type» = longBeacons } in
     active p ∷ slots p ∷ []
+
+-- ---- document 02's site of eight units: h 1, 8 rows and 8 data slots, slots of 1,000 ms, by the kind of its beacons
+abbrev pub eight : ℕ → Plan
+eight beacon = record { network = 1; manager = 0x0100; «max_hops» = 1; rows = 8; «data_slots» = 8; «slot_ms» = 1000; «beacon_type» = beacon }
+
+abbrev pub eightMade : ℕ → Said
+eightMade beacon = planOf 1 0x0100 1 8 8 1000 beacon
+
+-- a short beacon of that site, which 0x0201 sends on 20 ms after it was heard
+abbrev pub shortBytes : List ℕ
+shortBytes = 0x47 ∷ 0x01 ∷ 0x02 ∷ 0x01 ∷ 0x00 ∷ 0x46 ∷ 0xE8 ∷ 0x03 ∷ 0x01 ∷ 0x88 ∷ 0x13 ∷ 0x00 ∷ 0x00 ∷ 0x14 ∷ 0x00 ∷ 0x01 ∷ 0x09 ∷ 0x00 ∷ 0x6E ∷ []
 
 -- ---- what a drift leaves
 -- a number with its sign as a list: 1 below zero and else 0, then the magnitude
@@ -66,10 +79,10 @@ examplesWith told =
       paper = joinBytes;
     } ∷
     record { computed = lengths 4 6 1213; paper = 16 ∷ 54 ∷ [] } ∷
-    record { computed = listed (plan 4 6 1213); paper = 0 ∷ 1 ∷ 0x0100 ∷ 3 ∷ 4 ∷ 6 ∷ 1213 ∷ [] } ∷
+    record { computed = listed (plan 4 6 1213); paper = 0 ∷ 1 ∷ 0x0100 ∷ 3 ∷ 4 ∷ 6 ∷ 1213 ∷ 0x46 ∷ [] } ∷
     record { computed = listed (plan 4 6 1214); paper = 14 ∷ [] } ∷
     record { computed = lengths 20 21 655; paper = 50 ∷ 100 ∷ [] } ∷
-    record { computed = listed (plan 20 21 655); paper = 0 ∷ 1 ∷ 0x0100 ∷ 3 ∷ 20 ∷ 21 ∷ 655 ∷ [] } ∷
+    record { computed = listed (plan 20 21 655); paper = 0 ∷ 1 ∷ 0x0100 ∷ 3 ∷ 20 ∷ 21 ∷ 655 ∷ 0x46 ∷ [] } ∷
     record { computed = listed (plan 20 22 655); paper = 14 ∷ [] } ∷
     record { computed = getD told 0 []; paper = 0 ∷ 5 ∷ 9 ∷ 10 ∷ 11 ∷ [] } ∷
     record { computed = getD told 1 []; paper = 0 ∷ 6 ∷ 12 ∷ [] } ∷
@@ -84,6 +97,15 @@ examplesWith told =
     record { computed = leaves (2 ^ 31) 0; paper = 1 ∷ 2 ^ 31 ∷ 0 ∷ 0 ∷ [] } ∷
     record { computed = forward (2 ^ 32 - 1) 0 ∷ forward (2 ^ 32 - 1) (2 ^ 31 - 1) ∷ forward (2 ^ 32 - 1) (2 ^ 31) ∷ []; paper = 1 ∷ 1 ∷ 0 ∷ [] } ∷
     record { computed = ageAt 299999 (2 ^ 32 - 1) ∷ []; paper = 300000 ∷ [] } ∷
+    record { computed = slots (eight longBeacons) ∷ superframeMs (eight longBeacons) ∷ []; paper = 70 ∷ 70000 ∷ [] } ∷
+    record { computed = listed (eightMade longBeacons); paper = 14 ∷ [] } ∷
+    record { computed = listed (eightMade shortBeacons); paper = 0 ∷ 1 ∷ 0x0100 ∷ 1 ∷ 8 ∷ 8 ∷ 1000 ∷ 0x47 ∷ [] } ∷
+    record { computed = longBeacons ∷ shortBeacons ∷ []; paper = beacon .code ∷ shortBeacon .code ∷ [] } ∷
+    record { computed = length shortBytes ∷ []; paper = 19 ∷ [] } ∷
+    record {
+      computed = frameOf shortBeacon (0x0201 ∷ 1 ∷ 70 ∷ 1000 ∷ 1 ∷ 5000 ∷ 20 ∷ 1 ∷ 9 ∷ []) [];
+      paper = shortBytes;
+    } ∷
     []
 
 abbrev pub allSame : List Example → Bool

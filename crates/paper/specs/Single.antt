@@ -15,6 +15,7 @@ use Rattle.slot_sets.specs.Sets.{Slots, slotsOf}
 use Rattle.frame_traffic.specs.Traffic.{dataValues, updateValues}
 use Rattle.frame_requests.specs.Requests.{joinRequestValues, joinResponseValues, slotRequestValues, discoveryRequestValues, discoveryResponseValues}
 use Rattle.frame_beacons.specs.Beacons.{beaconValues}
+use Rattle.frame_beacons.specs.ShortBeacons.{shortBeaconValues}
 use Rattle.frames.specs.Told.{told}
 use Rattle.frame_entries.specs.declared.reader.Entries.{Entries}
 use Rattle.frame_entries.specs.Walks.{toldWalked}
@@ -84,7 +85,7 @@ maskBook b = maskRows (b .rows)
 pub record ViewsTellApart : Type 1 where
   -- most contracts say `answer ≡ definition`, of the result, of a buffer, or of each
   pub itself : {A : Type 0} → TellsApart any (λ (a : A). a)
-  -- the values of a record of fields: `of` of the eight kinds
+  -- the values of a record of fields: `of` of the nine kinds
   pub dataHeaders : TellsApart any dataValues
   pub updateHeaders : TellsApart any updateValues
   pub joinRequests : TellsApart any joinRequestValues
@@ -93,6 +94,7 @@ pub record ViewsTellApart : Type 1 where
   pub discoveryRequests : TellsApart any discoveryRequestValues
   pub discoveryResponses : TellsApart any discoveryResponseValues
   pub beacons : TellsApart any beaconValues
+  pub shortBeacons : TellsApart any shortBeaconValues
   -- what an enum says, alone and with a buffer
   pub frames : TellsApart any told
   pub plans : TellsApart any toldPlan

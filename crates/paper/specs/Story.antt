@@ -25,7 +25,7 @@ run b (c ∷ cs) = told b c ∷ run (next b c) cs
 -- ---- the story
 -- h 3, M 4, D 6
 abbrev pub sitePlan : Plan
-sitePlan = record { network = 1; manager = 0x0100; «max_hops» = 3; rows = 4; «data_slots» = 6; «slot_ms» = 1000 }
+sitePlan = record { network = 1; manager = 0x0100; «max_hops» = 3; rows = 4; «data_slots» = 6; «slot_ms» = 1000; «beacon_type» = 0x46 }
 
 -- room for the five responses of a unit with four slots
 abbrev pub room : List ℕ

@@ -1,4 +1,4 @@
--- The theorems speak of frames that there are: one of each of document 01's eight kinds, in its order, byte by byte, and what reading says of it. One
+-- The theorems speak of frames that there are: one of each of the nine kinds, in the papers' order, byte by byte, and what reading says of it. One
 -- statement covers the table.
 -- Assumes nothing.
 use mathlib.Core.Path.{_≡_}
@@ -7,7 +7,7 @@ use mathlib.Core.List.{List, [], _∷_, map}
 use Prim.Native.Nat.{ℕ}
 use lib.ListN.{getD}
 use Rattle.frames.specs.Frames.{kinds, readFrame}
-use Rattle.paper.specs.Examples.{Example, listed, joinBytes, allSame}
+use Rattle.paper.specs.Examples.{Example, listed, joinBytes, shortBytes, allSame}
 
 -- these bytes, and what reading says of them: 0, the type, and the fields
 abbrev pub reads : List ℕ → List ℕ → Example
@@ -37,6 +37,8 @@ kindsRead =
     reads (0x46 ∷ 0xFF ∷ 0xFF ∷ 0x01 ∷ 0x02 ∷ 0x1B ∷ 0x01 ∷ 0x00 ∷ 0x39 ∷ 0x30 ∷ 0x00 ∷ 0x00 ∷ 0xF0 ∷ 0xD2 ∷ 0x36 ∷ 0xE8 ∷ 0x03 ∷ 0x00 ∷ 0x00 ∷
     0x00 ∷ 0x01 ∷ 0x01 ∷ 0x40 ∷ 0x42 ∷ 0x0F ∷ 0x00 ∷ 0x14 ∷ 0x00 ∷ 0x00 ∷ 0x00 ∷ 0x03 ∷ 0x4D ∷ 0x00 ∷ 0xFE ∷ [])
     (0 ∷ 0x46 ∷ 0xFFFF ∷ 0x0201 ∷ 27 ∷ 1 ∷ 12345 ∷ 54000 ∷ 54 ∷ 1000 ∷ 0x0100 ∷ 1 ∷ 1000000 ∷ 20 ∷ 3 ∷ 77 ∷ []) ∷
+    -- document 02's short one, of 70 slots
+    reads shortBytes (0 ∷ 0x47 ∷ 0x0201 ∷ 1 ∷ 70 ∷ 1000 ∷ 1 ∷ 5000 ∷ 20 ∷ 1 ∷ 9 ∷ []) ∷
     []
 
 -- every frame is read so

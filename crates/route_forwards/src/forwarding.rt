@@ -1,19 +1,12 @@
-// Forwarding a beacon, by a table by value or in bytes: whether it is passed on is the table's to say; here it is read, and its copy written.
+// Forwarding a beacon of either kind, by a table by value or in bytes: whether it is passed on is the table's to say; here it is read.
 ghost use mathlib.Core.Path.{_≡_};
-ghost use mathlib.Core.Bool.{not};
-ghost use mathlib.Core.List.{[], _∷_};
-ghost use Prim.Native.Nat.{_+_, _≤_};
-ghost use lib.ListN.{length};
-ghost use lib.Seq.{sets};
-ghost use Rattle.octets.specs.Answers.{reason, refusing, first};
-ghost use Rattle.frame_kinds.specs.Reading.{refusalAs};
-ghost use Rattle.frame_kinds.specs.Shape.{frameOf};
-ghost use Rattle.octets.specs.Addresses as rules;
-ghost use Rattle.frame_beacons.specs.Beacons as beacons;
-ghost use Rattle.frame_beacons.specs.Beacons.{beaconValues};
-ghost use Rattle.route_forwards.specs.Forwards.{passingOf, passedBy, passed, forwardOf, forwardedIn, forwardCall};
-use frame_beacons::beacon::Beacon;
-use frame_kinds::sealing::seal;
+ghost use Rattle.octets.specs.Answers.{first};
+ghost use Rattle.route_forwards.specs.Forwards.{originOf, passingOf, unreadReasons, passed, forwardOf, forwardedIn, forwardCall};
+use crate::copying::copy_size;
+use crate::copying::longest_delay;
+use crate::copying::put_copy_of;
+use frame_beacons::either::EitherBeacon;
+use octets::addresses::is_address;
 use octets::answers::Refusal;
 use octets::answers::refuse_if;
 use octets::numbers::number16;
@@ -35,74 +28,59 @@ pub struct ForwardedIn {
     pub written: u8,
 }
 
-fn passing_of(beacon: Beacon) -> Passing
-    ensures { λ r. ⌜ r ≡ passingOf beacon ⌝ }
+// Of a short beacon the original source is the plan's manager.
+fn original_source(manager: u16, beacon: EitherBeacon) -> u16
+    ensures { λ r. ⌜ r ≡ originOf manager beacon ⌝ }
+{
+    if beacon.short {
+        manager
+    } else {
+        beacon.original_source
+    }
+}
+
+fn passing_of(manager: u16, beacon: EitherBeacon) -> Passing
+    ensures { λ r. ⌜ r ≡ passingOf manager beacon ⌝ }
 {
     Passing {
         source: beacon.source,
         network: beacon.network,
-        original_source: beacon.original_source,
+        original_source: original_source(manager, beacon),
         hop: beacon.hop,
         max_hops: beacon.max_hops,
         delay: beacon.delay,
+        longest: longest_delay(beacon.short),
         sequence: beacon.sequence,
     }
 }
 
-// Writes the copy that this unit sends. A beacon that was read keeps its rules, and so does its copy.
-fn put_copy(out: &mut [u8], own: u16, delay: u32, beacon: Beacon)
-    requires { ⌜ (beacon .hop + 1 ≤ 255) × (beacon .delay + delay ≤ 0xFFFFFFFF) × (34 ≤ length (now out)) ⌝ }
-    ensures { λ _. ⌜ now (out .exit) ≡ sets (now (out .entry)) 0 (frameOf beacons.beacon (beaconValues (passedBy own delay beacon)) []) ⌝ }
+// What refuses a frame before a table is asked: it is no beacon, or the caller has no network or no manager.
+fn unread(network: u16, manager: u16, frame: &[u8]) -> u8
+    ensures { λ r. ⌜ r ≡ first (unreadReasons network manager (now (frame .entry))) ⌝ }
 {
-    let start = 0;
-    let end = 33;
-    let copy = Beacon {
-        destination: beacon.destination,
-        source: own,
-        size: beacon.size,
-        network: beacon.network,
-        superframe_number: beacon.superframe_number,
-        superframe_ms: beacon.superframe_ms,
-        total_slots: beacon.total_slots,
-        slot_ms: beacon.slot_ms,
-        original_source: beacon.original_source,
-        hop: beacon.hop + 1,
-        original_time: beacon.original_time,
-        delay: beacon.delay + delay,
-        max_hops: beacon.max_hops,
-        sequence: beacon.sequence,
-    };
-    copy.put(&mut out[start..end]);
-    seal(out, 33);
-}
-
-// What refuses a frame before a table is asked: it is no beacon, or the caller has no network.
-fn unread(network: u16, frame: &[u8]) -> u8
-    ensures { λ r. ⌜ r ≡ first (refusing (refusalAs beacons.beacon (now (frame .entry))) ∷ reason (not (rules.network network)) 4 ∷ []) ⌝ }
-{
-    let refused = Beacon::refusal(frame);
-    refuse_if(
-        !(refused == 0),
-        refused,
-        refuse_if(!(1 <= network), Refusal::FIELD, 0),
-    )
+    let refused = refuse_if(!is_address(manager), Refusal::FIELD, 0);
+    let refused = refuse_if(!(1 <= network), Refusal::FIELD, refused);
+    let number = EitherBeacon::refusal(frame);
+    refuse_if(!(number == 0), number, refused)
 }
 
 // Writes the copy, and records its pair and the time; the rows that are gone are dropped.
 pub fn forward(
     table: Table,
     network: u16,
+    manager: u16,
     frame: &[u8],
     delay: u32,
     time: u32,
     out: &mut [u8],
 ) -> Forwarded
-    ensures { λ r. ⌜ passed r (now (out .exit)) ≡ forwardOf table network (now (frame .entry)) delay time (now (out .entry)) ⌝ }
+    ensures { λ r. ⌜ passed r (now (out .exit)) ≡ forwardOf table network manager (now (frame .entry)) delay time (now (out .entry)) ⌝ }
 {
-    let beacon = Beacon::of(frame);
-    let passing = passing_of(beacon);
-    let before = unread(network, frame);
-    let behind = refuse_if(out.len() < 34, Refusal::ROOM, 0);
+    let beacon = EitherBeacon::of(frame);
+    let passing = passing_of(manager, beacon);
+    let before = unread(network, manager, frame);
+    let size = copy_size(beacon.short);
+    let behind = refuse_if(out.len() < size as usize, Refusal::ROOM, 0);
     let changed = pass(table, before, network, passing, delay, time, behind);
     let next = changed.table;
     if changed.refused != 0 {
@@ -112,10 +90,10 @@ pub fn forward(
             table: next,
         };
     }
-    put_copy(out, table.own, delay, beacon);
+    put_copy_of(out, table.own, delay, frame);
     Forwarded {
         refused: 0,
-        written: 34,
+        written: size,
         table: next,
     }
 }
@@ -124,18 +102,20 @@ pub fn forward(
 pub fn forward_in(
     table: &mut [u8],
     network: u16,
+    manager: u16,
     frame: &[u8],
     delay: u32,
     time: u32,
     out: &mut [u8],
 ) -> ForwardedIn
-    ensures { λ r. ⌜ forwardedIn r (now (table .exit)) (now (out .exit)) ≡ forwardCall (now (table .entry)) network (now (frame .entry)) delay time (now (out .entry)) 0 ⌝ }
+    ensures { λ r. ⌜ forwardedIn r (now (table .exit)) (now (out .exit)) ≡ forwardCall (now (table .entry)) network manager (now (frame .entry)) delay time (now (out .entry)) 0 ⌝ }
 {
     let own = number16(&table[..], 0);
-    let beacon = Beacon::of(frame);
-    let passing = passing_of(beacon);
-    let before = unread(network, frame);
-    let behind = refuse_if(out.len() < 34, Refusal::ROOM, 0);
+    let beacon = EitherBeacon::of(frame);
+    let passing = passing_of(manager, beacon);
+    let before = unread(network, manager, frame);
+    let size = copy_size(beacon.short);
+    let behind = refuse_if(out.len() < size as usize, Refusal::ROOM, 0);
     let refused = changing::pass(table, before, network, passing, delay, time, behind);
     if refused != 0 {
         return ForwardedIn {
@@ -143,9 +123,9 @@ pub fn forward_in(
             written: 0,
         };
     }
-    put_copy(out, own, delay, beacon);
+    put_copy_of(out, own, delay, frame);
     ForwardedIn {
         refused: 0,
-        written: 34,
+        written: size,
     }
 }

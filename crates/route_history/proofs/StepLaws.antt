@@ -100,16 +100,16 @@ module _ (t : Table) (k : Clock) (times : Times) (g : Good t k times) where
         };
       }
 
-  forwarded-good : (network : ℕ) (s : List ℕ) (delay time : ℕ) (out : List ℕ) → forwardOf t network s delay time out .answer .refused ≡ 0
-      → Good (forwardOf t network s delay time out .answer .table) (then time) times
+  forwarded-good : (network manager : ℕ) (s : List ℕ) (delay time : ℕ) (out : List ℕ) → forwardOf t network manager s delay time out .answer .refused ≡ 0
+      → Good (forwardOf t network manager s delay time out .answer .table) (then time) times
   unfolding forwardOf
-  forwarded-good network s delay time out z =
-      let o = onward t network s delay time (length out) z in
+  forwarded-good network manager s delay time out z =
+      let o = onward t network manager s delay time (length out) z in
       let new = standing time rs in
       let same : inUse (pad new) ≡ new = rows-of-pad (t .own) time new (standing-rules (t .own) (t .time) time rs (within t (g .rule) .rules)) in
-      let accepted = eq-eqb (forwardRefusal t network s delay time (length out)) 0 z in
+      let accepted = eq-eqb (forwardRefusal t network manager s delay time (length out)) 0 z in
       record {
-        rule = forward-within t network s delay time out z;
+        rule = forward-within t network manager s delay time out z;
         accounts = record {
           shown = rw accepted;
           rows = rw (accepted, same) (standing-every (borne (nowAt k time) time times) time rs (aged time (o .ordered)));
@@ -122,7 +122,7 @@ module _ (t : Table) (k : Clock) (times : Times) (g : Good t k times) where
       → Good (next t c) (cond (about c .changes) (then (timeOf c)) k) (λ unit. cond (about c .brings unit) (nowAt k (timeOf c) ∷ times unit) (times unit))
   accepted-good (merge s quality time) z = merged-good s quality time z
   accepted-good (forget unit time) z = forgotten-good unit time z
-  accepted-good (forward network s delay time out) z = forwarded-good network s delay time out z
+  accepted-good (forward network manager s delay time out) z = forwarded-good network manager s delay time out z
   accepted-good (lookup d time) z = g
   accepted-good (relay s time out) z = g
   accepted-good (page p time out) z = g
@@ -136,16 +136,16 @@ pub forget-kept : (t : Table) (unit time : ℕ) → (forgetOf t unit time .refus
 unfolding forgetOf
 forget-kept t unit time z = rw (ne-eqb (forgetOf t unit time .refused) 0 z)
 
-pub forward-kept : (t : Table) (network : ℕ) (s : List ℕ) (delay time : ℕ) (out : List ℕ) → (forwardOf t network s delay time out .answer .refused ≡ 0 → ⊥)
-    → forwardOf t network s delay time out .answer .table ≡ t
+pub forward-kept : (t : Table) (network manager : ℕ) (s : List ℕ) (delay time : ℕ) (out : List ℕ) → (forwardOf t network manager s delay time out .answer .refused ≡ 0 → ⊥)
+    → forwardOf t network manager s delay time out .answer .table ≡ t
 unfolding forwardOf
-forward-kept t network s delay time out z = rw (ne-eqb (forwardRefusal t network s delay time (length out)) 0 z)
+forward-kept t network manager s delay time out z = rw (ne-eqb (forwardRefusal t network manager s delay time (length out)) 0 z)
 
 -- any call
 pub refused-keeps : RefusedKeeps
 refused-keeps t (merge s quality time) z = merge-kept t s quality time z
 refused-keeps t (forget unit time) z = forget-kept t unit time z
-refused-keeps t (forward network s delay time out) z = forward-kept t network s delay time out z
+refused-keeps t (forward network manager s delay time out) z = forward-kept t network manager s delay time out z
 refused-keeps t (lookup d time) z = refl
 refused-keeps t (relay s time out) z = refl
 refused-keeps t (page p time out) z = refl

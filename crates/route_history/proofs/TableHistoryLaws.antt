@@ -59,7 +59,7 @@ keeps-rule = (fresh-within, every-call)
     every-call : (t : Table) (c : Call) → answer t c .refused ≡ 0 → withinRule (next t c) ≡ true
     every-call t (merge s quality time) e = merge-within t s quality time e
     every-call t (forget unit time) e = forget-within t unit time e
-    every-call t (forward network s delay time out) e = forward-within t network s delay time out e
+    every-call t (forward network manager s delay time out) e = forward-within t network manager s delay time out e
     every-call t (lookup d time) e = led t d time e .within
     every-call t (relay s time out) e = unrefused t s time (length out) (sym (relay-number t s time out) ∙ e) .0
     every-call t (page p time out) e = paged t p time out e
@@ -74,11 +74,11 @@ gone-rows-do-not-matter t (merge s quality time) e =
     let (refusal, skipped) = dropped-merge t s quality time e in
     (λ i. plain (refusal i) (skipped i) 0 [], λ z c. dropped-merges t s quality time e z)
 gone-rows-do-not-matter t (forget unit time) e = (ap (λ (n : ℕ). plain n 0 0 []) (dropped-forget time t e unit), λ z c. dropped-forgets time t e unit z)
-gone-rows-do-not-matter t (forward network s delay time out) e =
-    let refusal = forward-refused time t e network s delay out in
-    let written = forward-written time t e network s delay out in
-    let held = forward-held time t e network s delay out in
-    (λ i. plain (refusal i) 0 (written i) (held i), λ z c. forward-table time t e network s delay out z)
+gone-rows-do-not-matter t (forward network manager s delay time out) e =
+    let refusal = forward-refused time t e network manager s delay out in
+    let written = forward-written time t e network manager s delay out in
+    let held = forward-held time t e network manager s delay out in
+    (λ i. plain (refusal i) 0 (written i) (held i), λ z c. forward-table time t e network manager s delay out z)
 gone-rows-do-not-matter t (lookup d time) e = (rw (dropped-lookup time t e d), λ z c. absurd (false≢true c))
 gone-rows-do-not-matter t (relay s time out) e = (rw (relay-alike time t e s out), λ z c. absurd (false≢true c))
 gone-rows-do-not-matter t (page p time out) e = (rw (page-alike time t e p out), λ z c. absurd (false≢true c))

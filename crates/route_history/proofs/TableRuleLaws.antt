@@ -3,7 +3,7 @@
 use Rattle.octets.proofs.Words.{_≡_, sym, ap, _∙_, true, not, List, ℕ, length}
 use Rattle.octets.proofs.AnswerLaws.{never-given, unless-number}
 use Rattle.frame_traffic.specs.Traffic.{dataKind, update}
-use Rattle.frame_beacons.specs.Beacons.{beacon}
+use Rattle.frame_beacons.proofs.EitherLaws.{either-never}
 use Rattle.route_table.specs.declared.table.Table.{Table}
 use Rattle.route_table.specs.Rows.{standing}
 use Rattle.route_table.specs.Tables.{rowsOf, withinRule, freshOf, lookupRefusal, lookupOf, forgetOf, forgetReasons, lookupReasons}
@@ -28,10 +28,10 @@ module _ (t : Table) (w : withinRule t ≡ true) where
   forget-never unit time =
       never-given 14 (forgetReasons t unit time) some-number (ap not w, _)
 
-  forward-never : (network : ℕ) (s : List ℕ) (delay time room : ℕ) → forwardRefusal t network s delay time room ≡ 14 → ⊥
+  forward-never : (network manager : ℕ) (s : List ℕ) (delay time room : ℕ) → forwardRefusal t network manager s delay time room ≡ 14 → ⊥
   unfolding forwardRefusal
-  forward-never network s delay time room =
-      never-given 14 (forwardReasons t network s delay time room) some-number (ap not w, (read-never beacon s, _))
+  forward-never network manager s delay time room =
+      never-given 14 (forwardReasons t network manager s delay time room) some-number (ap not w, (either-never s, _))
 
   lookup-never : (d time : ℕ) → lookupRefusal t d time ≡ 14 → ⊥
   lookup-never d time =
@@ -50,7 +50,7 @@ module _ (t : Table) (w : withinRule t ≡ true) where
   unfolding mergeOf forwardOf lookupOf pageOf
   only-pages (merge s quality time) e = absurd (merge-never s quality time e)
   only-pages (forget unit time) e = absurd (forget-never unit time e)
-  only-pages (forward network s delay time out) e = absurd (forward-never network s delay time (length out) e)
+  only-pages (forward network manager s delay time out) e = absurd (forward-never network manager s delay time (length out) e)
   only-pages (lookup d time) e = absurd (lookup-never d time e)
   only-pages (relay s time out) e = absurd (relay-never s time (length out) (sym (relay-number t s time out) ∙ e))
   only-pages (page p time out) e = only-so (pageThere (standing time (rowsOf t)) p) (λ there. page-never p time (length out) there (sym (unless-number _ _) ∙ e))

@@ -20,8 +20,8 @@ pub data Call : Type 0 where
   merge : List ℕ → ℕ → ℕ → Call
   -- a unit, the time
   forget : ℕ → ℕ → Call
-  -- a network, a beacon's frame, the delay, the time, the buffer
-  forward : ℕ → List ℕ → ℕ → ℕ → List ℕ → Call
+  -- a network, its manager, a beacon's frame, the delay, the time, the buffer
+  forward : ℕ → ℕ → List ℕ → ℕ → ℕ → List ℕ → Call
   -- a destination, the time
   lookup : ℕ → ℕ → Call
   -- a data frame, the time, the buffer
@@ -43,7 +43,7 @@ changing time changes = record { time = time; changes = changes; brings = λ uni
 abbrev pub about : Call → About
 about (merge s quality time) = record { time = time; changes = true; brings = λ unit. eqb (updateIn s .origin) unit }
 about (forget unit time) = changing time true
-about (forward network s delay time out) = changing time true
+about (forward network manager s delay time out) = changing time true
 about (lookup d time) = changing time false
 about (relay s time out) = changing time false
 about (page p time out) = changing time false
@@ -79,8 +79,8 @@ outcome t (merge s quality time) =
     let m = mergeOf t s quality time in
     record { answer = record { refused = m .refused; ours = false; nextHop = 0; hops = 0; skipped = m .skipped; size = 0; held = [] }; table = m .table }
 outcome t (forget unit time) = let f = forgetOf t unit time in gives (f .refused) 0 [] (f .table)
-outcome t (forward network s delay time out) =
-    let f = forwardOf t network s delay time out in
+outcome t (forward network manager s delay time out) =
+    let f = forwardOf t network manager s delay time out in
     gives (f .answer .refused) (f .answer .written) (f .held) (f .answer .table)
 outcome t (lookup d time) =
     let f = lookupOf t d time in

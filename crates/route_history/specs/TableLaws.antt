@@ -104,7 +104,7 @@ StaysWithinRule = (own began : ℕ) (cs : List Call) → freshOf own began .refu
 abbrev pub wrongPage : Table → Call → Bool
 wrongPage t (merge s quality time) = false
 wrongPage t (forget unit time) = false
-wrongPage t (forward network s delay time out) = false
+wrongPage t (forward network manager s delay time out) = false
 wrongPage t (lookup d time) = false
 wrongPage t (relay s time out) = false
 wrongPage t (page p time out) = not (pageThere (standing time (rowsOf t)) p)

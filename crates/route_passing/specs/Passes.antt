@@ -31,7 +31,7 @@ passingReasons h found network p delay time =
     reason (not (inOrder (h .time) time)) 8 ∷
     reason (not (eqb (found .refused) 0)) 11 ∷
     reason (not (toForward h found p)) 16 ∷
-    reason (ltb 0xFFFFFFFF (p .delay + delay)) 4 ∷
+    reason (ltb (p .longest) (p .delay + delay)) 4 ∷
     []
 
 -- these, of a table's own head and lookup

@@ -14,6 +14,7 @@ use route_table::table::found_by;
 use route_table::table::row_for;
 use route_table::table::settled;
 
+// `longest` is the longest delay that its kind has room for.
 pub struct Passing {
     pub source: u16,
     pub network: u16,
@@ -21,6 +22,7 @@ pub struct Passing {
     pub hop: u8,
     pub max_hops: u8,
     pub delay: u32,
+    pub longest: u32,
     pub sequence: u16,
 }
 
@@ -46,7 +48,7 @@ pub fn why_not_passed(
     let next = found.hops as u16 == passing.hop as u16 + 1;
     let ours = next & (passing.hop < passing.max_hops) & !again(head, passing);
     let sum = passing.delay as u64 + delay as u64;
-    let refused = refuse_if(0xFFFFFFFF < sum, Refusal::FIELD, 0);
+    let refused = refuse_if((passing.longest as u64) < sum, Refusal::FIELD, 0);
     let refused = refuse_if(!ours, Refusal::NOT_OURS, refused);
     let refused = refuse_if(!(found.refused == 0), Refusal::NO_ROUTE, refused);
     let refused = refuse_if(!in_order(head.time, time), Refusal::EARLIER, refused);

@@ -1,13 +1,13 @@
 -- The numbers of a plan, and what its rule makes of them.
 -- Assumes nothing.
-use Rattle.octets.proofs.Words.{_≡_, refl, sym, ap, _∙_, Bool, true, false, _&&_, and-eq-true-iff, false≢true, List, [], _∷_, ℕ, zero, suc, _+_, _*_, _≤_, _<_, _^_, mul-le-mul, mul-le-mul-right, arith, leb-true, le-leb, ltb-true, ltb-false, leb, ltb, getD}
+use Rattle.octets.proofs.Words.{_≡_, refl, sym, ap, _∙_, Bool, true, false, _||_, and-eq-true-iff, false≢true, List, [], _∷_, ℕ, _+_, _*_, _≤_, _<_, _^_, mul-le-mul, arith, eqb-true, leb-true, le-leb, ltb-true, ltb-false, eqb, leb, ltb, getD}
 use mir.Val.{boolByte}
-use Rattle.octets.specs.Lists.{tab}
+use Rattle.octets.specs.Lists.{tab, all}
 use Rattle.octets.proofs.ListLaws.{getD-tab}
-use Rattle.octets.specs.Lists.{all, allFrom}
+use Rattle.octets.proofs.TestLaws.{all-hold}
 use Rattle.octets.specs.Addresses.{address, network}
 use Rattle.site_plan.specs.declared.plan.Plan.{Plan}
-use Rattle.site_plan.specs.Plans.{slots, planRule, discoverySlots, active, slotsIn, superframeMs, planRules}
+use Rattle.site_plan.specs.Plans.{slots, planRule, discoverySlots, active, slotsIn, planRules, longBeacons, shortBeacons}
 use Rattle.site_plan.specs.Laws.{LengthsByTable, RuleBounds}
 
 -- ---- the length of a superframe and its time
@@ -66,23 +66,21 @@ pub record Kept (p : Plan) : Type 0 where
   pub rows : 2 ≤ p .rows
   pub data-slots : p .rows ≤ p .«data_slots»
   pub few : active p ≤ 50
-  pub short : superframeMs p ≤ 65535
+  pub slot-ms : p .«slot_ms» ≤ 65535
+  pub beacon : p .«beacon_type» ≤ 255
 
--- each test of a list that holds, by its place
-all-hold : (so : Bool) (tests : List Bool) → allFrom so tests ≡ true → (so ≡ true) × ((i : ℕ) → getD tests i true ≡ true)
-all-hold so [] e = (e, λ i. refl)
-all-hold so (test ∷ tests) e =
-    let (both, behind) = all-hold (so && test) tests e in
-    let (before, here) = and-eq-true-iff so test .0 both in
-    (before, at here behind)
+-- a beacon's type is a byte
+kind-fits : (kind : ℕ) → (eqb kind longBeacons || eqb kind shortBeacons) ≡ true → kind ≤ 255
+kind-fits kind e = go (eqb kind longBeacons) (eqb kind shortBeacons) refl refl e
   where
-    at : test ≡ true → ((i : ℕ) → getD tests i true ≡ true) → (i : ℕ) → getD (test ∷ tests) i true ≡ true
-    at here behind zero = here
-    at here behind (suc i) = behind i
+    go : (a b : Bool) → eqb kind longBeacons ≡ a → eqb kind shortBeacons ≡ b → (a || b) ≡ true → kind ≤ 255
+    go true b p q h = omega (arith, eqb-true kind longBeacons p)
+    go false true p q h = omega (arith, eqb-true kind shortBeacons q)
+    go false false p q h = absurd (false≢true h)
 
 pub kept : (p : Plan) → planRule p ≡ true → Kept p
 kept p e =
-    let holds = all-hold true (planRules p) e .1 in
+    let holds = all-hold (planRules p) e in
     let (least, most) = and-eq-true-iff (leb 1 (p .«max_hops»)) (leb (p .«max_hops») 10) .0 (holds 2) in
     record {
       named = holds 0;
@@ -92,7 +90,8 @@ kept p e =
       rows = leb-true _ _ (holds 3);
       data-slots = leb-true _ _ (holds 4);
       few = leb-true _ _ (holds 5);
-      short = leb-true _ _ (holds 7);
+      slot-ms = leb-true _ _ (and-eq-true-iff (leb 1 (p .«slot_ms»)) (leb (p .«slot_ms») 65535) .0 (holds 6) .1);
+      beacon = kind-fits (p .«beacon_type») (holds 7);
     }
 
 -- up to 50 active slots there is room for all of them
@@ -111,18 +110,9 @@ rule-bounds p e =
     }
 
 -- ---- numbers that are wider than the fields of a plan
--- a superframe has a slot
-a-slot : (active : ℕ) → 1 ≤ active → 1 ≤ slotsIn active
-unfolding slotsIn
-a-slot active h = omega (arith, h)
-
--- so it is no shorter than one
-slot-within : (p : Plan) → superframeMs p ≤ 65535 → p .«slot_ms» ≤ 65535
-slot-within p short = omega (arith, short, mul-le-mul-right (p .«slot_ms») (a-slot (active p) (omega arith)))
-
 -- what `fit` tests
 abbrev fits : Plan → List Bool
-fits p = leb (p .«max_hops») 255 ∷ leb (p .rows) 255 ∷ leb (p .«data_slots») 255 ∷ leb (p .«slot_ms») 65535 ∷ []
+fits p = leb (p .«max_hops») 255 ∷ leb (p .rows) 255 ∷ leb (p .«data_slots») 255 ∷ leb (p .«slot_ms») 65535 ∷ leb (p .«beacon_type») 255 ∷ []
 
 abbrev fitting : Plan → Bool
 fitting p = all (fits p)
@@ -132,11 +122,18 @@ pub record Fitting (p : Plan) : Type 0 where
   pub rows : p .rows ≤ 255
   pub data-slots : p .«data_slots» ≤ 255
   pub slot-ms : p .«slot_ms» ≤ 65535
+  pub beacon : p .«beacon_type» ≤ 255
 
 pub fitted : (p : Plan) → fitting p ≡ true → Fitting p
 fitted p e =
-    let holds = all-hold true (fits p) e .1 in
-    record { hops = leb-true _ _ (holds 0); rows = leb-true _ _ (holds 1); data-slots = leb-true _ _ (holds 2); slot-ms = leb-true _ _ (holds 3) }
+    let holds = all-hold (fits p) e in
+    record {
+      hops = leb-true _ _ (holds 0);
+      rows = leb-true _ _ (holds 1);
+      data-slots = leb-true _ _ (holds 2);
+      slot-ms = leb-true _ _ (holds 3);
+      beacon = leb-true _ _ (holds 4);
+    }
 
 -- numbers within rule fit
 fits-in-rule : (p : Plan) → planRule p ≡ true → fitting p ≡ true
@@ -146,7 +143,8 @@ fits-in-rule p e =
       le-leb (p .«max_hops») 255 (omega (arith, k .few-hops)),
       le-leb (p .rows) 255 (omega (arith, k .few)),
       le-leb (p .«data_slots») 255 (omega (arith, k .few)),
-      le-leb (p .«slot_ms») 65535 (slot-within p (k .short)),
+      le-leb (p .«slot_ms») 65535 (k .slot-ms),
+      le-leb (p .«beacon_type») 255 (k .beacon),
     )
 
 -- so those of which one does not are out of rule

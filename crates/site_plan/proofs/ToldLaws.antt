@@ -11,7 +11,7 @@ made-from : ℕ → List ℕ → Made
 made-from number [] = Made.Refused (record { number = number })
 made-from number (n ∷ vs) =
     Made.Plan
-    (record { network = n; manager = getD vs 0 0; «max_hops» = getD vs 1 0; rows = getD vs 2 0; «data_slots» = getD vs 3 0; «slot_ms» = getD vs 4 0 })
+    (record { network = n; manager = getD vs 0 0; «max_hops» = getD vs 1 0; rows = getD vs 2 0; «data_slots» = getD vs 3 0; «slot_ms» = getD vs 4 0; «beacon_type» = getD vs 5 0 })
 
 made-back : (m : Made) → made-from (toldPlan m .refusal) (toldPlan m .values) ≡ m
 unfolding made-from

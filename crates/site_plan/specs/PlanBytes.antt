@@ -1,21 +1,14 @@
--- A plan as 9 bytes: network 2, manager 2, h 1, M 1, D 1, slot ms 2.
+-- A plan as 10 bytes, and as the 9 that a stored form has for it.
 -- Assumes nothing.
 use mathlib.Core.Path.{_≡_}
 use Prim.Native.Nat.{ℕ}
-use mathlib.Core.List.{List, [], _∷_}
+use mathlib.Core.List.{List, [], _∷_, _++_}
 use lib.ListN.{getD}
 use Rattle.octets.specs.Layouts.{total, fields, bytes, Fit}
 use Rattle.site_plan.specs.declared.plan.Plan.{Plan}
-use Rattle.site_plan.specs.Plans.{planValues}
+use Rattle.site_plan.specs.Plans.{planValues, longBeacons}
 
-abbrev pub planWidths : List ℕ
-planWidths = 2 ∷ 2 ∷ 1 ∷ 1 ∷ 1 ∷ 2 ∷ []
-
--- how many bytes a plan has: 9
-abbrev pub planSize : ℕ
-planSize = total planWidths
-
--- the plan with these six numbers
+-- the plan with these seven numbers
 abbrev pub planFrom : List ℕ → Plan
 planFrom vs =
     record {
@@ -25,9 +18,36 @@ planFrom vs =
       rows = getD vs 3 0;
       «data_slots» = getD vs 4 0;
       «slot_ms» = getD vs 5 0;
+      «beacon_type» = getD vs 6 0;
     }
 
--- the plan that the bytes from a place on say; a byte past the end is 0
+-- ---- the section of a stored form: network 2, manager 2, h 1, M 1, D 1, slot ms 2
+abbrev pub sectionWidths : List ℕ
+sectionWidths = 2 ∷ 2 ∷ 1 ∷ 1 ∷ 1 ∷ 2 ∷ []
+
+-- how many bytes it has: 9
+abbrev pub sectionSize : ℕ
+sectionSize = total sectionWidths
+
+abbrev pub sectionValues : Plan → List ℕ
+sectionValues p = p .network ∷ p .manager ∷ p .«max_hops» ∷ p .rows ∷ p .«data_slots» ∷ p .«slot_ms» ∷ []
+
+-- the plan that the section from a place on says: its manager sends document 01's beacons. A byte past the end is 0
+unfoldable pub sectionAt : List ℕ → ℕ → Plan
+sectionAt s at = planFrom (fields sectionWidths s at ++ (longBeacons ∷ []))
+
+unfoldable pub sectionBytes : Plan → List ℕ
+sectionBytes p = bytes sectionWidths (sectionValues p)
+
+-- ---- a plan that a C caller keeps: these, then the kind of its beacons 1
+abbrev pub planWidths : List ℕ
+planWidths = 2 ∷ 2 ∷ 1 ∷ 1 ∷ 1 ∷ 2 ∷ 1 ∷ []
+
+-- how many bytes a plan has: 10
+abbrev pub planSize : ℕ
+planSize = total planWidths
+
+-- the plan that the bytes from a place on say
 unfoldable pub planAt : List ℕ → ℕ → Plan
 planAt s at = planFrom (fields planWidths s at)
 

@@ -1,9 +1,9 @@
 -- The site plan: what is computed from its numbers, where each region of its slots begins, and which numbers are refused.
 -- Assumes nothing.
 use Prim.Native.Nat.{ℕ, _+_, _*_, _/_, min, max}
-use mathlib.Core.Bool.{Bool, true, not, _&&_}
+use mathlib.Core.Bool.{Bool, true, not, _&&_, _||_}
 use mathlib.Core.List.{List, [], _∷_}
-use lib.Dec.{leb}
+use lib.Dec.{eqb, leb}
 use Rattle.octets.specs.Answers.{Said, accepted, refused, reason, first, unless}
 use Rattle.octets.specs.Lists.{all}
 use Rattle.octets.specs.Addresses.{address, network}
@@ -51,6 +51,13 @@ abbrev pub planNumbers : Plan → List ℕ
 planNumbers p = active p ∷ slots p ∷ superframeMs p ∷ controlAt p ∷ dataAt p ∷ discoveryAt p ∷ sleepAt p ∷ []
 
 -- ---- the rules
+-- the kinds of beacons that a manager may send, by their types
+abbrev pub longBeacons : ℕ
+longBeacons = 0x46
+
+abbrev pub shortBeacons : ℕ
+shortBeacons = 0x47
+
 abbrev pub planRules : Plan → List Bool
 planRules p =
     -- a network, and an address
@@ -64,27 +71,30 @@ planRules p =
     leb (p .rows) (p .«data_slots») ∷
     -- at most 50 active slots
     leb (active p) 50 ∷
-    -- a slot takes time
-    leb 1 (p .«slot_ms») ∷
-    -- the superframe's length fits into two bytes
-    leb (superframeMs p) 65535 ∷
+    -- a slot takes time, and its ms fit into two bytes
+    (leb 1 (p .«slot_ms») && leb (p .«slot_ms») 65535) ∷
+    -- the manager sends beacons of one of the two kinds
+    (eqb (p .«beacon_type») longBeacons || eqb (p .«beacon_type») shortBeacons) ∷
+    -- the superframe's length fits into two bytes, where beacons say it
+    (eqb (p .«beacon_type») shortBeacons || leb (superframeMs p) 65535) ∷
     []
 
 abbrev pub planRule : Plan → Bool
 planRule p = all (planRules p)
 
 -- ---- making one
--- the six numbers in the paper's order
+-- the six numbers in the paper's order, then the kind of its beacons
 abbrev pub planValues : Plan → List ℕ
-planValues p = p .network ∷ p .manager ∷ p .«max_hops» ∷ p .rows ∷ p .«data_slots» ∷ p .«slot_ms» ∷ []
+planValues p = p .network ∷ p .manager ∷ p .«max_hops» ∷ p .rows ∷ p .«data_slots» ∷ p .«slot_ms» ∷ p .«beacon_type» ∷ []
 
 -- the plan, or document 01's number
 abbrev pub toldPlan : Made → Said
 toldPlan (Made.Plan p) = accepted (planValues p)
 toldPlan (Made.Refused r) = refused (r .number)
 
--- a plan made from six numbers: any broken rule is 14
-unfoldable pub planOf : ℕ → ℕ → ℕ → ℕ → ℕ → ℕ → Said
-planOf network manager hops rows dataSlots ms =
-    let p : Plan = record { network = network; manager = manager; «max_hops» = hops; rows = rows; «data_slots» = dataSlots; «slot_ms» = ms } in
+-- a plan made from seven numbers: any broken rule is 14
+unfoldable pub planOf : ℕ → ℕ → ℕ → ℕ → ℕ → ℕ → ℕ → Said
+planOf network manager hops rows dataSlots ms beacon =
+    let p : Plan =
+    record { network = network; manager = manager; «max_hops» = hops; rows = rows; «data_slots» = dataSlots; «slot_ms» = ms; «beacon_type» = beacon } in
     unless (first (reason (not (planRule p)) 14 ∷ [])) (accepted (planValues p))

@@ -1,4 +1,4 @@
-// The regions of a plan's slots: how many slots there are, and where each region begins. Any six numbers are taken.
+// The regions of a plan's slots: how many slots there are, and where each region begins. Any numbers are taken.
 ghost use mathlib.Core.Path.{_≡_};
 ghost use Rattle.site_plan.specs.Plans.{discoverySlots, active, slotsIn, slots, superframeMs, controlAt, dataAt, discoveryAt, sleepAt};
 use crate::plan::Plan;

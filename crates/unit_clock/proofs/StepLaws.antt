@@ -3,10 +3,8 @@
 use Rattle.octets.proofs.Words.{_≡_, ap, _∙_, List, ℕ, _+_, _%_, _^_, _<_, arith}
 use lib.IntN.{pos}
 use Rattle.octets.specs.Answers.{first}
-use Rattle.frame_kinds.specs.Shape.{valuesIn}
-use Rattle.frame_kinds.specs.Reading.{refusalAs}
-use Rattle.frame_beacons.specs.Beacons.{beacon, beaconValues, beaconFrom}
-use Rattle.frame_beacons.specs.declared.beacon.Beacon.{Beacon}
+use Rattle.frame_beacons.specs.declared.either.EitherBeacon.{EitherBeacon}
+use Rattle.frame_beacons.specs.EitherBeacons.{eitherRefusal, eitherIn}
 use Rattle.moments.specs.Moments.{ageAt}
 use Rattle.unit_clock.specs.declared.steps.Stepped.{Stepped}
 use Rattle.unit_clock.specs.Clock.{signed, wrapped, drift, correction, corrected, stepped, stepReasons, beaconStepOf}
@@ -23,14 +21,14 @@ less-correction local offset original delay here sent bits part next o n h s b p
     let taken : part ≡ wrapped (correction (drift local offset original delay)) = p ∙ ap (λ (d : ℕ). wrapped (correction (signed d))) drifts in
     is-less (pos offset) (correction (drift local offset original delay)) next n (omega (arith, taken, above offset))
 
--- the frame's refusal and its beacon, what refuses the step, and the next offset
-pub by-beacon : (b : Beacon) (offset local network : ℕ) (s : List ℕ) (unread number next : ℕ) (r : Stepped)
-    → beaconValues b ≡ valuesIn beacon s → unread ≡ refusalAs beacon s → number ≡ first (stepReasons unread (b .network) network)
+-- the frame's refusal and what it says, what refuses the step, and the next offset
+pub by-beacon : (b : EitherBeacon) (offset local network : ℕ) (s : List ℕ) (unread number next : ℕ) (r : Stepped)
+    → b ≡ eitherIn s → unread ≡ eitherRefusal s → number ≡ first (stepReasons unread (b .network) network)
     → next ≡ corrected local offset (b .«original_time») (b .delay) → r ≡ stepped number offset next
     → r ≡ beaconStepOf offset local network s
 unfolding beaconStepOf
 by-beacon b offset local network s unread number next r v u n x q =
-    let by : Beacon → Stepped =
-    λ heard. stepped (first (stepReasons (refusalAs beacon s) (heard .network) network)) offset (corrected local offset (heard .«original_time») (heard .delay)) in
+    let by : EitherBeacon → Stepped =
+    λ heard. stepped (first (stepReasons (eitherRefusal s) (heard .network) network)) offset (corrected local offset (heard .«original_time») (heard .delay)) in
     let parts : r ≡ by b = rw (q, n, u, x) in
-    parts ∙ ap by (ap beaconFrom v)
+    parts ∙ ap by v

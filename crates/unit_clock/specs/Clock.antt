@@ -10,9 +10,7 @@ use lib.Signed.{quotZ}
 use Rattle.octets.specs.Answers.{Reason, reason, first}
 use Rattle.octets.specs.Calls.{after}
 use Rattle.moments.specs.Moments.{ageAt}
-use Rattle.frame_kinds.specs.Shape.{valuesIn}
-use Rattle.frame_kinds.specs.Reading.{refusalAs}
-use Rattle.frame_beacons.specs.Beacons.{beacon, beaconFrom}
+use Rattle.frame_beacons.specs.EitherBeacons.{eitherRefusal, eitherIn}
 use Rattle.unit_clock.specs.declared.steps.Stepped.{Stepped}
 
 -- ---- 32 bits, with a sign and without
@@ -56,9 +54,9 @@ stepReasons unread heard network =
     reason (not (eqb network heard)) 15 ∷
     []
 
--- a step by a beacon's frame
+-- a step by the frame of a beacon of either kind
 unfoldable pub beaconStepOf : ℕ → ℕ → ℕ → List ℕ → Stepped
 beaconStepOf offset local network s =
-    let heard = beaconFrom (valuesIn beacon s) in
-    stepped (first (stepReasons (refusalAs beacon s) (heard .network) network)) offset
+    let heard = eitherIn s in
+    stepped (first (stepReasons (eitherRefusal s) (heard .network) network)) offset
     (corrected local offset (heard .«original_time») (heard .delay))

@@ -5,8 +5,7 @@ use mathlib.Core.List.{List}
 use Prim.Native.Nat.{ℕ, _+_, _%_, _^_, _≤_, _<_}
 use lib.IntN.{ℤ, pos, natAbs, _-ℤ_}
 use lib.Signed.{_≤ℤ_}
-use Rattle.frame_kinds.specs.Shape.{valuesIn}
-use Rattle.frame_beacons.specs.Beacons.{beacon, beaconFrom}
+use Rattle.frame_beacons.specs.EitherBeacons.{eitherIn}
 use Rattle.unit_clock.specs.Clock.{drift, corrected, beaconStepOf}
 
 -- a step gives an offset of 32 bits
@@ -42,4 +41,4 @@ abbrev pub StepsByItsTimes : Type 0
 StepsByItsTimes =
     (offset local network : ℕ) (s : List ℕ) → beaconStepOf offset local network s .refused ≡ 0
     → beaconStepOf offset local network s .offset
-    ≡ corrected local offset (beaconFrom (valuesIn beacon s) .«original_time») (beaconFrom (valuesIn beacon s) .delay)
+    ≡ corrected local offset (eitherIn s .«original_time») (eitherIn s .delay)

@@ -3,7 +3,7 @@ ghost use mathlib.Core.Path.{_≡_};
 ghost use Rattle.octets.specs.Answers.{first};
 ghost use Rattle.unit_clock.specs.Clock.{corrected, stepped, stepReasons, beaconStepOf};
 use crate::drifts::correction;
-use frame_beacons::beacon::Beacon;
+use frame_beacons::either::EitherBeacon;
 use moments::age;
 use octets::answers::Refusal;
 use octets::answers::refuse_if;
@@ -48,12 +48,12 @@ fn unless(refused: u8, offset: u32, next: u32) -> Stepped
     }
 }
 
-// The step by a beacon's frame, for a caller of this network.
+// The step by the frame of a beacon of either kind, for a caller of this network.
 pub fn step_by_beacon(offset: u32, local: u32, network: u16, frame: &[u8]) -> Stepped
     ensures { λ r. ⌜ r ≡ beaconStepOf offset local network (now (frame .entry)) ⌝ }
 {
-    let unread = Beacon::refusal(frame);
-    let heard = Beacon::of(frame);
+    let unread = EitherBeacon::refusal(frame);
+    let heard = EitherBeacon::of(frame);
     let refused = refusal(unread, heard.network, network);
     let next = step(offset, local, heard.original_time, heard.delay);
     unless(refused, offset, next)

@@ -11,7 +11,7 @@ returns c =
     let third = fourth .before .before in
     let second = third .before .before in
     let first = second .before in
-    let pair = first .before .before in
+    let pair = first .before .before .before in
     c .refuse-if6 .ensures ∙
     rw (
       fifth .refuse-if5 .ensures,
@@ -25,4 +25,4 @@ returns c =
 
 pub why-not-passed-spec : {M : Type 1} → statement M
 why-not-passed-spec =
-    tie.close (tie.spec (λ c. search needs) (λ c. search needs) (λ c. search needs) (λ c κs. search needs) (λ c. search needs) (λ c. search needs) (λ c κs. search needs) (λ c κs. search needs) (λ c κs. search needs) (λ c κs. search needs) (λ c κs. search needs) (λ c κs. search needs) (λ c κs. search needs) returns)
+    tie.close (tie.spec (λ c. search needs) (λ c. search needs) (λ c. search needs) (λ c κs. search needs) (λ c. search needs) (λ c. search needs) (λ c. search needs) (λ c κs. search needs) (λ c κs. search needs) (λ c κs. search needs) (λ c κs. search needs) (λ c κs. search needs) (λ c κs. search needs) (λ c κs. search needs) returns)

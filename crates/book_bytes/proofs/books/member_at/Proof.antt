@@ -11,13 +11,13 @@ returns : tie.Need-returns
 unfolding rowAt
 returns c =
     let a = c .before .before .before .before .args in
-    c .member-in .ensures ∙ rw (ap (λ (l : Lent). l .bytes) (c .before .part .ensures)) (ap rowFrom (fields-part rowWidths (a .s .now) (13 + 14 * a .place) 14 (omega arith)))
+    c .member-in .ensures ∙ rw (ap (λ (l : Lent). l .bytes) (c .before .part .ensures)) (ap rowFrom (fields-part rowWidths (a .s .now) (14 + 14 * a .place) 14 (omega arith)))
 
 returns-2 : tie.Need-returns-2
 unfolding rowAt
 returns-2 c =
     let a = c .before .before .before .before .args in
-    let start = 13 + 14 * a .place in
+    let start = 14 + 14 * a .place in
     c .member-in2 .ensures ∙ ap rowFrom (fields-part rowWidths (a .s .now) start (start + 14 - start) (omega arith))
 
 pub member-at-spec : {M : Type 1} → statement M

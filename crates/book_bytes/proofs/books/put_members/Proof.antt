@@ -9,7 +9,7 @@ use Rattle.book_bytes.proofs.books.put_members.Statement.{statement}
 use Rattle.book_bytes.proofs.books.put_members.Tie as tie
 
 abbrev Inv-loop : tie.InvT-loop
-Inv-loop out₀ rows written₀ out written = (written ≤ 21) × (length out ≡ length out₀) × (sets out (13 + 14 * written) (rowsBytes (rowsOf (drop written rows))) ≡ sets out₀ 13 (rowsBytes (rowsOf rows)))
+Inv-loop out₀ rows written₀ out written = (written ≤ 21) × (length out ≡ length out₀) × (sets out (14 + 14 * written) (rowsBytes (rowsOf (drop written rows))) ≡ sets out₀ 14 (rowsBytes (rowsOf rows)))
 
 abbrev μ-loop : tie.MeasureT-loop
 μ-loop out₀ rows written₀ out written = 21 - written
@@ -24,7 +24,7 @@ returns c =
     let test = cut .before .before in
     let l = test .before .before .before .loop in
     let rows = test .before .before .before .before .before .args .t2 in
-    (cut .put-member .ensures ∙ (cut-turn members-run (l .out) rows 13 (l .written) _ (search needs) (test .if1 .taken) ∙ l .inv .2), search needs)
+    (cut .put-member .ensures ∙ (cut-turn members-run (l .out) rows 14 (l .written) _ (search needs) (test .if1 .taken) ∙ l .inv .2), search needs)
 
 loop-again : tie.Need-loop-again Inv-loop μ-loop
 loop-again c =
@@ -34,7 +34,7 @@ loop-again c =
     let rows = test .before .before .before .before .before .args .t2 in (
       search needs,
       search needs,
-      part-turn members-run (l .out) rows 13 (l .written) _ (search needs) _ (test .if1 .left) (put .put-member2 .ensures) ∙ l .inv .2,
+      part-turn members-run (l .out) rows 14 (l .written) _ (search needs) _ (test .if1 .left) (put .put-member2 .ensures) ∙ l .inv .2,
     )
 
 returns-2 : tie.Need-returns-2 Inv-loop μ-loop

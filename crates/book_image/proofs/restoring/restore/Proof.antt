@@ -14,8 +14,8 @@ returns c =
     let a = plan .before .before .args in
     c .settled .ensures
     ∙ rw (c .before .zeros .ensures)
-    (restores (a .image .now) (a .time) _ (plan .plan-of .result) (rowsOf (rows .members-in .result)) _ _
-    (plan .plan-of .ensures)
+    (restores (a .image .now) (a .time) _ (plan .section-plan .result) (rowsOf (rows .members-in .result)) _ _
+    (plan .section-plan .ensures)
     (rows .members-in .ensures)
     (rule .before .fits2 .ensures)
     (rule .within-rule .ensures)

@@ -26,7 +26,7 @@ returns-2 c =
     (omega (arith, test .if1 .left))
     (c .size-for .ensures)
     (ap (take count) (live .current .ensures) ∙ take-current (a .time) count (rowsOf (a .book .rows)))
-    (rows .put-rows .ensures ∙ rw (plan .put-plan .ensures, head .put-head .ensures))
+    (rows .put-rows .ensures ∙ rw (plan .put-section .ensures, head .put-head .ensures))
 
 pub write-image-spec : {M : Type 1} → statement M
 write-image-spec =

@@ -9,14 +9,14 @@ returns : tie.Need-returns
 returns c =
     let d = c .before .before .before .before .before .before in
     let a = d .before .before .before .before .before .before .args in
-    unforwarded (a .table .now) (a .network) (a .frame .now) (a .delay) (a .time) (a .out .now) _ (d .forward-in .result) _ _ (d .forward-in .ensures) (c .if1 .taken)
+    unforwarded (a .table .now) (a .network) (a .manager) (a .frame .now) (a .delay) (a .time) (a .out .now) _ (d .forward-in .result) _ _ (d .forward-in .ensures) (c .if1 .taken)
 
 returns-2 : tie.Need-returns-2
 returns-2 c =
     let test = c .before in
     let d = test .before .before .before .before .before .before in
     let a = d .before .before .before .before .before .before .args in
-    forwarded (a .table .now) (a .network) (a .frame .now) (a .delay) (a .time) (a .out .now) _ (d .forward-in .result) _ _ (d .forward-in .ensures) (test .if1 .left)
+    forwarded (a .table .now) (a .network) (a .manager) (a .frame .now) (a .delay) (a .time) (a .out .now) _ (d .forward-in .result) _ _ (d .forward-in .ensures) (test .if1 .left)
 
 pub braidlark-forward-spec : {M : Type 1} → statement M
 braidlark-forward-spec =

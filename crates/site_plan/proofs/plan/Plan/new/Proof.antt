@@ -11,7 +11,7 @@ use Rattle.site_plan.proofs.plan.Plan.new.Tie as tie
 abbrev wanted : tie.Start → Plan
 wanted c =
     let a = c .args in
-    record { network = a .network; manager = a .manager; «max_hops» = a .max-hops; rows = a .rows; «data_slots» = a .data-slots; «slot_ms» = a .slot-ms }
+    record { network = a .network; manager = a .manager; «max_hops» = a .max-hops; rows = a .rows; «data_slots» = a .data-slots; «slot_ms» = a .slot-ms; «beacon_type» = a .beacon-type }
 
 -- past the test its numbers do
 here : (c : tie.Else1) → Fitting (wanted (c .before .before))
@@ -20,4 +20,4 @@ here c = fitted (wanted (c .before .before)) (sym (c .before .fit .ensures) ∙ 
 pub new-spec : {M : Type 1} → statement M
 unfolding planOf
 new-spec =
-    tie.close (tie.spec (λ c κs. search needs) (λ c. rw (too-wide (wanted (c .before .before)) (sym (c .before .fit .ensures) ∙ not-true _ (c .if1 .taken)))) (λ c. omega (arith, here c .hops)) (λ c. omega (arith, here c .rows)) (λ c. omega (arith, here c .data-slots)) (λ c. omega (arith, here c .slot-ms)) (λ c κs. search needs) (λ c. rw (← c .before .within-rule .ensures, c .if2 .taken)) (λ c. rw (← c .before .within-rule .ensures, c .if2 .left)))
+    tie.close (tie.spec (λ c κs. search needs) (λ c. rw (too-wide (wanted (c .before .before)) (sym (c .before .fit .ensures) ∙ not-true _ (c .if1 .taken)))) (λ c. omega (arith, here c .hops)) (λ c. omega (arith, here c .rows)) (λ c. omega (arith, here c .data-slots)) (λ c. omega (arith, here c .slot-ms)) (λ c. omega (arith, here c .beacon)) (λ c κs. search needs) (λ c. rw (← c .before .within-rule .ensures, c .if2 .taken)) (λ c. rw (← c .before .within-rule .ensures, c .if2 .left)))

@@ -1,0 +1,82 @@
+// A beacon of either kind: what a unit that hears one needs of it, wherever it stands in the frame.
+ghost use mathlib.Core.Path.{_≡_};
+ghost use lib.Dec.{eqb};
+ghost use Rattle.octets.specs.Numbers.{num};
+ghost use Rattle.frame_beacons.specs.EitherBeacons.{ofBeacon, ofShort, isShort, eitherRefusal, eitherIn};
+use crate::beacon::Beacon;
+use crate::short::ShortBeacon;
+use octets::numbers::number8;
+
+// `original_source` is 0 where the kind has none.
+pub struct EitherBeacon {
+    pub original_time: u32,
+    pub delay: u32,
+    pub source: u16,
+    pub network: u16,
+    pub original_source: u16,
+    pub sequence: u16,
+    pub hop: u8,
+    pub max_hops: u8,
+    pub short: bool,
+}
+
+// Whether the type is that of the short kind.
+pub fn is_short(s: &[u8]) -> bool
+    ensures { λ r. ⌜ r ≡ isShort (now (s .entry)) ⌝ }
+{
+    number8(s, 0) == 0x47
+}
+
+fn of_beacon(beacon: Beacon) -> EitherBeacon
+    ensures { λ r. ⌜ r ≡ ofBeacon beacon ⌝ }
+{
+    EitherBeacon {
+        original_time: beacon.original_time,
+        delay: beacon.delay,
+        source: beacon.source,
+        network: beacon.network,
+        original_source: beacon.original_source,
+        sequence: beacon.sequence,
+        hop: beacon.hop,
+        max_hops: beacon.max_hops,
+        short: false,
+    }
+}
+
+fn of_short(beacon: ShortBeacon) -> EitherBeacon
+    ensures { λ r. ⌜ r ≡ ofShort beacon ⌝ }
+{
+    EitherBeacon {
+        original_time: beacon.original_time,
+        delay: beacon.delay as u32,
+        source: beacon.source,
+        network: beacon.network,
+        original_source: 0,
+        sequence: beacon.sequence,
+        hop: beacon.hop,
+        max_hops: beacon.max_hops,
+        short: true,
+    }
+}
+
+impl EitherBeacon {
+    // What the bytes say as the kind that their type is.
+    pub fn of(s: &[u8]) -> EitherBeacon
+        ensures { λ r. ⌜ r ≡ eitherIn (now (s .entry)) ⌝ }
+    {
+        if is_short(s) {
+            return of_short(ShortBeacon::of(s));
+        }
+        of_beacon(Beacon::of(s))
+    }
+
+    // Why bytes are no beacon of either kind, 0 where they are one.
+    pub fn refusal(s: &[u8]) -> u8
+        ensures { λ r. ⌜ r ≡ eitherRefusal (now (s .entry)) ⌝ }
+    {
+        if is_short(s) {
+            return ShortBeacon::refusal(s);
+        }
+        Beacon::refusal(s)
+    }
+}

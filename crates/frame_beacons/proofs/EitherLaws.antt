@@ -1,7 +1,8 @@
 -- A beacon of either kind, from what its own kind says.
 -- Assumes nothing.
-use Rattle.octets.proofs.Words.{_≡_, ap, Bool, true, false, cond, List, ℕ, _<_, arith, eqb}
-use Rattle.octets.specs.Answers.{refusing}
+use Rattle.octets.proofs.Words.{_≡_, ap, Bool, true, false, not, cond, List, [], _∷_, ℕ, _<_, arith, eqb}
+use Rattle.octets.specs.Addresses as rules
+use Rattle.octets.specs.Answers.{reason, refusing, first}
 use Rattle.octets.proofs.AnswerLaws.{Where}
 use Rattle.octets.specs.Layouts.{Bytes}
 use Rattle.octets.proofs.LayoutLaws.{fields-fit}
@@ -10,9 +11,10 @@ use Rattle.frame_kinds.specs.Reading.{refusalAs}
 use Rattle.frame_kinds.specs.Shape.{valuesIn}
 use Rattle.frame_beacons.specs.declared.beacon.Beacon.{Beacon}
 use Rattle.frame_beacons.specs.declared.short.ShortBeacon.{ShortBeacon}
+use Rattle.frame_beacons.specs.declared.either.EitherBeacon.{EitherBeacon}
 use Rattle.frame_beacons.specs.Beacons.{beacon, beaconValues, beaconFrom}
 use Rattle.frame_beacons.specs.ShortBeacons.{shortBeacon, shortBeaconValues, shortBeaconFrom}
-use Rattle.frame_beacons.specs.EitherBeacons.{ofBeacon, ofShort, beaconIn, shortIn, isShort, beaconKind, eitherRefusal, eitherIn}
+use Rattle.frame_beacons.specs.EitherBeacons.{ofBeacon, ofShort, beaconIn, shortIn, isShort, beaconKind, eitherRefusal, eitherIn, refusalFor}
 
 module _ (s : List ℕ) where
   pub short-refused : isShort s ≡ true → refusalAs shortBeacon s ≡ eitherRefusal s
@@ -30,6 +32,12 @@ module _ (s : List ℕ) where
   pub beacon-read : isShort s ≡ false → (b : Beacon) → beaconValues b ≡ valuesIn beacon s → ofBeacon b ≡ eitherIn s
   unfolding eitherIn
   beacon-read t b v = rw t (ap (λ (vs : List ℕ). ofBeacon (beaconFrom vs)) v)
+
+  -- for a unit of a network, from what was read and what refuses it
+  pub refused-for : (b : EitherBeacon) (unread network : ℕ) → b ≡ eitherIn s → unread ≡ eitherRefusal s
+      → first (refusing unread ∷ reason (not (rules.network network)) 4 ∷ reason (not (eqb (b .network) network)) 15 ∷ []) ≡ refusalFor network s
+  unfolding refusalFor
+  refused-for b unread network v u = rw (v, u)
 
 -- a beacon of neither kind is never refused with 14
 pub either-never : (s : List ℕ) → Where (eqb (eitherRefusal s) 14) (refusing (eitherRefusal s) .holds ≡ false)

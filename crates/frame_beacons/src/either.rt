@@ -2,9 +2,11 @@
 ghost use mathlib.Core.Path.{_≡_};
 ghost use lib.Dec.{eqb};
 ghost use Rattle.octets.specs.Numbers.{num};
-ghost use Rattle.frame_beacons.specs.EitherBeacons.{ofBeacon, ofShort, isShort, eitherRefusal, eitherIn};
+ghost use Rattle.frame_beacons.specs.EitherBeacons.{ofBeacon, ofShort, isShort, eitherRefusal, eitherIn, refusalFor};
 use crate::beacon::Beacon;
 use crate::short::ShortBeacon;
+use octets::answers::Refusal;
+use octets::answers::refuse_if;
 use octets::numbers::number8;
 
 // `original_source` is 0 where the kind has none.
@@ -78,5 +80,16 @@ impl EitherBeacon {
             return ShortBeacon::refusal(s);
         }
         Beacon::refusal(s)
+    }
+
+    // Why they are none for a unit of this network, 0 where they are one.
+    pub fn refusal_for(network: u16, s: &[u8]) -> u8
+        ensures { λ r. ⌜ r ≡ refusalFor network (now (s .entry)) ⌝ }
+    {
+        let heard = EitherBeacon::of(s);
+        let unread = EitherBeacon::refusal(s);
+        let refused = refuse_if(!(heard.network == network), Refusal::NETWORK, 0);
+        let refused = refuse_if(!(1 <= network), Refusal::FIELD, refused);
+        refuse_if(!(unread == 0), unread, refused)
     }
 }

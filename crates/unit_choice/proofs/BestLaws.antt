@@ -4,7 +4,7 @@ use Rattle.octets.proofs.Words.{_≡_, sym, _∙_, true, false, _||_, false≢t
 use Rattle.octets.proofs.AnswerLaws.{refusing-numbered, none-holds}
 use Rattle.octets.proofs.TestLaws.{or-elim, neither, by-bool, of-cond}
 use Rattle.frame_beacons.specs.EitherBeacons.{eitherRefusal, eitherIn, reasonsFor, refusalFor}
-use Rattle.unit_choice.specs.Choices.{Heard, heard, rankOf, ranksAbove, chosenOf, handedBack}
+use Rattle.unit_choice.specs.Choices.{Heard, heard, rankOf, ours, ranksAbove, chosenOf, handedBack}
 use Rattle.unit_choice.specs.Laws.{followed, Ours, FollowsOurs, NoneBetter, RefusedIfNeither, Exchanged, UnreadNeverWins, HandsBackOne}
 use Rattle.unit_choice.proofs.OrderLaws.{above-ours, above-foreign, never, never-above-itself, never-both}
 
@@ -39,17 +39,17 @@ exchanged network a b =
 
 -- ---- ours
 module _ (network : ℕ) (h : Heard) where
-  accepted : rankOf network h .ours ≡ true → refusalFor network (h .frame) ≡ 0
+  accepted : ours (rankOf network h) ≡ true → refusalFor network (h .frame) ≡ 0
   unfolding rankOf
   accepted e = eqb-true _ _ e
 
-  refused : rankOf network h .ours ≡ false → refusalFor network (h .frame) ≡ 0 → ⊥
+  refused : ours (rankOf network h) ≡ false → refusalFor network (h .frame) ≡ 0 → ⊥
   unfolding rankOf
   refused e = eqb-false _ _ e
 
-  ours : rankOf network h .ours ≡ true → Ours network h
+  is-ours : ours (rankOf network h) ≡ true → Ours network h
   unfolding refusalFor
-  ours e =
+  is-ours e =
       let n = eitherRefusal (h .frame) in
       let none = none-holds (reasonsFor network (h .frame)) (refusing-numbered n, _) (accepted e) in
       record {
@@ -58,29 +58,29 @@ module _ (network : ℕ) (h : Heard) where
       }
 
 pub refused-if-neither : RefusedIfNeither
-unfolding chosenOf
+unfolding chosenOf rankOf
 refused-if-neither network a b =
     record {
       either = λ e. rw e;
       neither = λ e.
           let number : chosenOf network a b .refused ≡ refusalFor network (a .frame) = rw e in
-          (number, λ z. refused network a (neither (rankOf network a .ours) (rankOf network b .ours) e .0) (sym number ∙ z));
+          (number, λ z. refused network a (neither (ours (rankOf network a)) (ours (rankOf network b)) e .0) (sym number ∙ z));
     }
 
 pub follows-ours : FollowsOurs
 follows-ours network a b z =
     let r = rankOf network a in
     let s = rankOf network b in
-    let one : (r .ours || s .ours) ≡ true = by-bool _ (r .ours || s .ours) (λ e. e) (λ e. absurd (refused-if-neither network a b .neither e .1 z)) in
+    let one : (ours r || ours s) ≡ true = by-bool _ (ours r || ours s) (λ e. e) (λ e. absurd (refused-if-neither network a b .neither e .1 z)) in
     by-bool _ (ranksAbove s r)
-    (λ e. rw (the-second network a b e) (ours network b (above-ours s r e)))
-    (λ e. rw (the-first network a b e) (ours network a (by-bool _ (r .ours) (λ o. o) (λ o. absurd (false≢true (sym e ∙ above-foreign s r (rw o at one) o))))))
+    (λ e. rw (the-second network a b e) (is-ours network b (above-ours s r e)))
+    (λ e. rw (the-first network a b e) (is-ours network a (by-bool _ (ours r) (λ o. o) (λ o. absurd (false≢true (sym e ∙ above-foreign s r (rw o at one) o))))))
 
 pub unread-never-wins : UnreadNeverWins
 unread-never-wins network a b o u =
     let r = rankOf network a in
     let s = rankOf network b in
-    let foreign : s .ours ≡ false = never (s .ours) (λ e. u (ours network b e .readable)) in (
+    let foreign : ours s ≡ false = never (ours s) (λ e. u (is-ours network b e .readable)) in (
       the-first network a b (never (ranksAbove s r) (λ e. false≢true (sym foreign ∙ above-ours s r e))),
       the-second network b a (above-foreign r s o foreign),
     )

@@ -3,7 +3,7 @@
 use Rattle.octets.proofs.Words.{_≡_, refl, sym, ap, _∙_, Bool, true, false, not, _&&_, _||_, and-eq-true-iff, false≢true, ℕ, _<_, arith, eq-eqb, eqb-true, eqb-false, ltb-true, ltb-false, lt-ltb, eqb, ltb}
 use Rattle.octets.proofs.TestLaws.{or-elim, or-left, or-right, by-bool}
 use Rattle.unit_choice.specs.declared.choosing.Rank.{Rank}
-use Rattle.unit_choice.specs.Choices.{ranksAbove}
+use Rattle.unit_choice.specs.Choices.{ours, ranksAbove}
 use Rattle.unit_choice.specs.Laws.{NeverAboveItself, AboveGoesOn, EqualGoesOn}
 
 -- the ways in which one ranks above another
@@ -14,28 +14,28 @@ module _ (a b : Rank) where
   abbrev clearer : Bool
   clearer = eqb (a .hop) (b .hop) && ltb (b .quality) (a .quality)
 
-  above-cases : (R : Type 0) → ranksAbove a b ≡ true → (b .ours ≡ false → R) → (a .hop < b .hop → R) → (a .hop ≡ b .hop → b .quality < a .quality → R) → R
+  above-cases : (R : Type 0) → ranksAbove a b ≡ true → (ours b ≡ false → R) → (a .hop < b .hop → R) → (a .hop ≡ b .hop → b .quality < a .quality → R) → R
   above-cases R e foreign hop quality =
-      let (ours, better) = and-eq-true-iff (a .ours) (not (b .ours) || nearer || clearer) .0 e in
-      or-elim R (not (b .ours) || nearer) clearer better
-      (λ x. or-elim R (not (b .ours)) nearer x (λ y. by-bool R (b .ours) (λ z. absurd (false≢true (sym (ap not z) ∙ y))) foreign) (λ y. hop (ltb-true (a .hop) (b .hop) y)))
+      let (accepted, better) = and-eq-true-iff (ours a) (not (ours b) || nearer || clearer) .0 e in
+      or-elim R (not (ours b) || nearer) clearer better
+      (λ x. or-elim R (not (ours b)) nearer x (λ y. by-bool R (ours b) (λ z. absurd (false≢true (sym (ap not z) ∙ y))) foreign) (λ y. hop (ltb-true (a .hop) (b .hop) y)))
       (λ x. let (same, more) = and-eq-true-iff (eqb (a .hop) (b .hop)) (ltb (b .quality) (a .quality)) .0 x in quality (eqb-true _ _ same) (ltb-true _ _ more))
 
-  pub above-ours : ranksAbove a b ≡ true → a .ours ≡ true
-  above-ours e = and-eq-true-iff (a .ours) (not (b .ours) || nearer || clearer) .0 e .0
+  pub above-ours : ranksAbove a b ≡ true → ours a ≡ true
+  above-ours e = and-eq-true-iff (ours a) (not (ours b) || nearer || clearer) .0 e .0
 
-  module _ (o : a .ours ≡ true) where
-    above-by : (not (b .ours) || nearer || clearer) ≡ true → ranksAbove a b ≡ true
+  module _ (o : ours a ≡ true) where
+    above-by : (not (ours b) || nearer || clearer) ≡ true → ranksAbove a b ≡ true
     above-by e = rw o e
 
-    pub above-foreign : b .ours ≡ false → ranksAbove a b ≡ true
+    pub above-foreign : ours b ≡ false → ranksAbove a b ≡ true
     above-foreign f = above-by (rw f)
 
     above-nearer : a .hop < b .hop → ranksAbove a b ≡ true
-    above-nearer h = above-by (or-left (not (b .ours) || nearer) clearer (or-right (not (b .ours)) nearer (lt-ltb _ _ h)))
+    above-nearer h = above-by (or-left (not (ours b) || nearer) clearer (or-right (not (ours b)) nearer (lt-ltb _ _ h)))
 
     above-clearer : a .hop ≡ b .hop → b .quality < a .quality → ranksAbove a b ≡ true
-    above-clearer h q = above-by (or-right (not (b .ours) || nearer) clearer (and-eq-true-iff (eqb (a .hop) (b .hop)) (ltb (b .quality) (a .quality)) .1 (eq-eqb _ _ h, lt-ltb _ _ q)))
+    above-clearer h q = above-by (or-right (not (ours b) || nearer) clearer (and-eq-true-iff (eqb (a .hop) (b .hop)) (ltb (b .quality) (a .quality)) .1 (eq-eqb _ _ h, lt-ltb _ _ q)))
 
 pub never : (b : Bool) → (b ≡ true → ⊥) → b ≡ false
 never true f = absurd (f refl)
@@ -66,7 +66,7 @@ equal-goes-on a b c e =
     let o = above-ours a c e in
     let left : ranksAbove a b ≡ true → (ranksAbove a b || ranksAbove b c) ≡ true = λ x. or-left _ _ x in
     let right : ranksAbove b c ≡ true → (ranksAbove a b || ranksAbove b c) ≡ true = λ x. or-right (ranksAbove a b) _ x in
-    by-bool _ (b .ours)
+    by-bool _ (ours b)
     (λ p. above-cases a c _ e
     (λ f. right (above-foreign b c p f))
     (λ h. by-bool _ (ltb (b .hop) (c .hop)) (λ x. right (above-nearer b c p (ltb-true _ _ x))) (λ x. let l = ltb-false (b .hop) (c .hop) x in left (above-nearer a b o (omega arith))))

@@ -20,28 +20,35 @@ abbrev pub heard : List ℕ → ℕ → Heard
 heard frame quality = record { frame = frame; quality = quality }
 
 -- ---- the order
--- what of a frame counts for a unit of a network
+-- what of a frame counts for a unit of a network: the number that refuses it, its hop, and how well it was heard
 unfoldable pub rankOf : ℕ → Heard → Rank
 rankOf network h =
-    record { ours = eqb (refusalFor network (h .frame)) 0; hop = eitherIn (h .frame) .hop; quality = h .quality }
+    record { refused = refusalFor network (h .frame); hop = eitherIn (h .frame) .hop; quality = h .quality }
+
+-- it is a beacon of ours, which nothing refuses
+abbrev pub ours : Rank → Bool
+ours r = eqb (r .refused) 0
 
 -- one ranks above another
 abbrev pub ranksAbove : Rank → Rank → Bool
 ranksAbove a b =
-    a .ours && (not (b .ours) || ltb (a .hop) (b .hop) || (eqb (a .hop) (b .hop) && ltb (b .quality) (a .quality)))
+    ours a && (not (ours b) || ltb (a .hop) (b .hop) || (eqb (a .hop) (b .hop) && ltb (b .quality) (a .quality)))
 
 -- ---- the choice
 -- where neither will do, the first's own number
-abbrev pub unfollowedReasons : ℕ → Heard → Heard → List Reason
-unfollowedReasons network a b =
-    reason (not (rankOf network a .ours || rankOf network b .ours)) (refusalFor network (a .frame)) ∷ []
+abbrev pub unfollowedReasons : Rank → Rank → List Reason
+unfollowedReasons a b =
+    reason (not (ours a || ours b)) (a .refused) ∷ []
 
 -- the first, unless the second ranks above it
 abbrev pub which : Rank → Rank → ℕ
 which a b = cond (ranksAbove b a) 1 0
 
 unfoldable pub chosenOf : ℕ → Heard → Heard → Chosen
-chosenOf network a b = record { refused = first (unfollowedReasons network a b); which = which (rankOf network a) (rankOf network b) }
+chosenOf network a b =
+    let one = rankOf network a in
+    let other = rankOf network b in
+    record { refused = first (unfollowedReasons one other); which = which one other }
 
 -- the chosen one of two slices, where it lies and what it holds; where neither will do, nothing, at the first's start
 unfoldable pub handedBack : ℕ → Lent → ℕ → Lent → ℕ → Lent

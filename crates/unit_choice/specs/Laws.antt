@@ -7,7 +7,7 @@ use lib.Dec.{eqb}
 use Rattle.octets.specs.Parts.{Lent}
 use Rattle.frame_beacons.specs.EitherBeacons.{eitherRefusal, eitherIn, refusalFor}
 use Rattle.unit_choice.specs.declared.choosing.Rank.{Rank}
-use Rattle.unit_choice.specs.Choices.{Heard, heard, rankOf, ranksAbove, chosenOf, handedBack}
+use Rattle.unit_choice.specs.Choices.{Heard, heard, rankOf, ours, ranksAbove, chosenOf, handedBack}
 
 -- ---- the order
 -- nothing ranks above itself, and what ranks above one that ranks above a third ranks above the third
@@ -43,8 +43,8 @@ NoneBetter =
 
 -- it is refused exactly if neither will do, with the first's own number
 pub record RefusedAs (network : ℕ) (a b : Heard) : Type 0 where
-  pub either : (rankOf network a .ours || rankOf network b .ours) ≡ true → chosenOf network a b .refused ≡ 0
-  pub neither : (rankOf network a .ours || rankOf network b .ours) ≡ false → (chosenOf network a b .refused ≡ refusalFor network (a .frame)) × (chosenOf network a b .refused ≡ 0 → ⊥)
+  pub either : (ours (rankOf network a) || ours (rankOf network b)) ≡ true → chosenOf network a b .refused ≡ 0
+  pub neither : (ours (rankOf network a) || ours (rankOf network b)) ≡ false → (chosenOf network a b .refused ≡ refusalFor network (a .frame)) × (chosenOf network a b .refused ≡ 0 → ⊥)
 
 abbrev pub RefusedIfNeither : Type 0
 RefusedIfNeither = (network : ℕ) (a b : Heard) → RefusedAs network a b
@@ -62,7 +62,7 @@ Exchanged = (network : ℕ) (a b : Heard) → ExchangedAs network a b
 -- a frame that cannot be read never wins over a beacon of ours, whichever is the first
 abbrev pub UnreadNeverWins : Type 0
 UnreadNeverWins =
-    (network : ℕ) (a b : Heard) → rankOf network a .ours ≡ true → (eitherRefusal (b .frame) ≡ 0 → ⊥)
+    (network : ℕ) (a b : Heard) → ours (rankOf network a) ≡ true → (eitherRefusal (b .frame) ≡ 0 → ⊥)
     → (followed network a b ≡ a) × (followed network b a ≡ a)
 
 -- ---- the slice and the number

@@ -3,13 +3,14 @@ ghost use mathlib.Core.Path.{_≡_};
 ghost use Rattle.octets.specs.Parts.{lent};
 ghost use Rattle.unit_choice.specs.Choices.{heard, rankOf, ranksAbove, chosenOf, handedBack};
 use frame_beacons::either::EitherBeacon;
+use frame_beacons::either::hop_in;
 use octets::answers::refuse_if;
 use octets::choices::either;
 use octets::parts::part;
 
-// What of a frame counts in the choice: whether it is a beacon for this unit, its hop, and how well it was heard.
+// What of a frame counts in the choice: the number that refuses it as a beacon for this unit, its hop, and how well it was heard.
 pub struct Rank {
-    pub ours: bool,
+    pub refused: u8,
     pub hop: u8,
     pub quality: u8,
 }
@@ -23,10 +24,9 @@ pub struct Chosen {
 fn rank_of(network: u16, frame: &[u8], quality: u8) -> Rank
     ensures { λ r. ⌜ r ≡ rankOf network (heard (now (frame .entry)) quality) ⌝ }
 {
-    let refused = EitherBeacon::refusal_for(network, frame);
     Rank {
-        ours: refused == 0,
-        hop: EitherBeacon::of(frame).hop,
+        refused: EitherBeacon::refusal_for(network, frame),
+        hop: hop_in(frame),
         quality,
     }
 }
@@ -37,7 +37,7 @@ fn ranks_above(one: Rank, other: Rank) -> bool
 {
     let nearer = one.hop < other.hop;
     let clearer = (one.hop == other.hop) & (other.quality < one.quality);
-    one.ours & (!other.ours | nearer | clearer)
+    (one.refused == 0) & (!(other.refused == 0) | nearer | clearer)
 }
 
 // The number of the frame to follow.
@@ -52,9 +52,9 @@ pub fn choose(
 {
     let one = rank_of(network, first, first_quality);
     let other = rank_of(network, second, second_quality);
-    let number = EitherBeacon::refusal_for(network, first);
+    let one_will_do = (one.refused == 0) | (other.refused == 0);
     Chosen {
-        refused: refuse_if(!(one.ours | other.ours), number, 0),
+        refused: refuse_if(!one_will_do, one.refused, 0),
         which: either(ranks_above(other, one), 1, 0),
     }
 }

@@ -9,10 +9,10 @@ returns : tie.Need-returns
 returns c =
     let above = c .before in
     let refused = above .before in
-    let number = refused .before .before .before in
-    let other = number .before in
-    chosen _ _ _ _ _ _ _ _ (other .before .rank-of .ensures) (other .rank-of2 .ensures) (number .refusal-for .ensures) (refused .refuse-if .ensures)
+    let other = refused .before .before .before in
+    chosen _ _ _ _ _ _ _ (other .before .rank-of .ensures) (other .rank-of2 .ensures)
+    (refused .refuse-if .ensures)
     (rw (above .ranks-above .ensures) at (c .either .ensures))
 
 pub choose-spec : {M : Type 1} → statement M
-choose-spec = tie.close (tie.spec (λ c κs. search needs) (λ c κs. search needs) (λ c κs. search needs) (λ c κs. search needs) (λ c κs. search needs) (λ c κs. search needs) returns)
+choose-spec = tie.close (tie.spec (λ c κs. search needs) (λ c κs. search needs) (λ c κs. search needs) (λ c κs. search needs) (λ c κs. search needs) returns)

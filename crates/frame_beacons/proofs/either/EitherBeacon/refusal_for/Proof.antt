@@ -9,10 +9,10 @@ returns : tie.Need-returns
 returns c =
     let named = c .before in
     let network = named .before in
-    let unread = network .before .before in
+    let unread = network .before in
     c .refuse-if3 .ensures ∙
     (rw (named .refuse-if2 .ensures, network .refuse-if .ensures)
-    (refused-for _ _ _ _ (unread .before .of .ensures) (unread .refusal .ensures)))
+    (refused-for _ _ _ _ (unread .before .network-in .ensures) (unread .refusal .ensures)))
 
 pub refusal-for-spec : {M : Type 1} → statement M
 refusal-for-spec = tie.close (tie.spec (λ c κs. search needs) (λ c κs. search needs) (λ c κs. search needs) (λ c κs. search needs) (λ c κs. search needs) returns)

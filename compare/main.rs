@@ -2,13 +2,14 @@
 //! subject, and stops at the first difference. This file is the command line and the order of the subjects.
 //!
 //! The paper is document 01, with beacons, plans and images as request 101 of document 02 has them, and times and the
-//! clock as its request 104 (`shared::moments`).
+//! clock as its request 104 (`shared::moments`). Following is its request 112.
 
 #![deny(warnings)]
 
 mod bench;
 mod book;
 mod clock;
+mod follow;
 mod frames;
 mod image;
 mod life;
@@ -30,7 +31,8 @@ Compares the library, call by call, with an independent implementation.
   --seed N    start of the random numbers, decimal or 0x and hex (1)
   --frames N  random frames to compare, each in several calls (300000)
   --routes N  random calls on tables of routes to compare (2100000)
-  --steps N   random steps of a unit's state, and as many of its clock (1000000)
+  --steps N   random steps of a unit's state, as many of its clock, and as many
+              pairs of frames of which it follows one (1000000)
   --books N   random calls on member books to compare (2100000)
   --images N  random stored images to compare, each in several calls (520000)
   --times N   each of these numbers so many times as large (1)
@@ -76,6 +78,7 @@ const SUBJECTS: &[Subject] = &[
     Subject { name: "routes", calls: &routes::calls::CALLS, check: routes::check::check },
     Subject { name: "life", calls: &life::calls::CALLS, check: life::check::check },
     Subject { name: "clock", calls: &clock::calls::CALLS, check: clock::check::check },
+    Subject { name: "following", calls: &follow::calls::CALLS, check: follow::check::check },
     Subject { name: "books", calls: &book::calls::CALLS, check: book::check::check },
     Subject { name: "images", calls: &image::calls::CALLS, check: image::check::check },
 ];

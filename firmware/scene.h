@@ -21,7 +21,7 @@ struct scene {
     uint32_t image_length;
     /* the answers */
     uint32_t fields[BRAIDLARK_MOST_FIELDS], place, length;
-    uint8_t out[BRAIDLARK_MOST_FRAME], hops, skipped;
+    uint8_t out[BRAIDLARK_MOST_FRAME], hops, skipped, which;
     uint16_t next_hop;
     uint32_t offset;
 };

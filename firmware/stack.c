@@ -118,6 +118,12 @@ static uint8_t call_clock_step_short(void)
     return braidlark_clock_step(&scene.offset, NOW, NETWORK, scene.short_beacon, BRAIDLARK_LENGTH_SHORT_BEACON);
 }
 
+static uint8_t call_follow(void)
+{
+    return braidlark_follow(scene.beacon, BRAIDLARK_LENGTH_BEACON, QUALITY, scene.short_beacon,
+                            BRAIDLARK_LENGTH_SHORT_BEACON, QUALITY, NETWORK, &scene.which);
+}
+
 static uint8_t call_plan(void)
 {
     return braidlark_plan(scene.plan, sizeof scene.plan, NETWORK, MANAGER, 1, 21, 22, 20, BRAIDLARK_TYPE_BEACON);
@@ -193,6 +199,7 @@ static const struct {
     {"state_tick", call_state_tick},
     {"clock_step, a beacon", call_clock_step},
     {"clock_step, a short beacon", call_clock_step_short},
+    {"follow, a beacon and a short one", call_follow},
     {"plan", call_plan},
     {"plan_numbers", call_plan_numbers},
     {"book_fresh", call_book_fresh},

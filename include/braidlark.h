@@ -54,7 +54,7 @@ extern "C" {
  * something is only added; docs/changes says what a caller has to change
  */
 #define BRAIDLARK_VERSION_MAJOR 4
-#define BRAIDLARK_VERSION_MINOR 0
+#define BRAIDLARK_VERSION_MINOR 1
 
 /* ---- refusals; braidlark_refusal_text says what each means */
 #define BRAIDLARK_ACCEPTED 0
@@ -398,6 +398,18 @@ uint8_t braidlark_state_tick(uint8_t *state, size_t state_length, uint32_t super
  * from network time is taken modulo 2^32 too, as a number from -2^31 to 2^31 - 1. Refusals: 1 2 1 3 4 15. */
 uint8_t braidlark_clock_step(uint32_t *offset, uint32_t local_time, uint16_t network, const uint8_t *frame,
                              size_t frame_length);
+
+/* ---- the beacon to follow */
+
+/* Says which of two frames that were heard in one slot, as by two antennas, is to be followed: 0 is the first, 1 the
+ * second. A beacon of this network that can be read, of either kind, goes before any other frame; of two such beacons
+ * the one with the lower hop, then the one heard with the higher quality, then the first. Neither frame has to be a
+ * beacon, and no quality is too low: qualities only rank. Nothing is changed: hand the frame to braidlark_clock_step
+ * and braidlark_forward as if it alone had been heard. Where neither will do, the refusal is the first frame's,
+ * whatever the second's would be; a network of 0 is 4 where the first is a beacon that can be read.
+ * Refusals: 1 2 1 3 4 15. */
+uint8_t braidlark_follow(const uint8_t *first, size_t first_length, uint8_t first_quality, const uint8_t *second,
+                         size_t second_length, uint8_t second_quality, uint16_t network, uint8_t *which);
 
 /* ---- the manager's plan, BRAIDLARK_PLAN_SIZE bytes, and book, BRAIDLARK_BOOK_SIZE bytes */
 

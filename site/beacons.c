@@ -3,6 +3,20 @@
  */
 #include "greenhouse.h"
 
+bool packet_is_beacon(const struct packet *packet)
+{
+    return packet->bytes[0] == BRAIDLARK_TYPE_BEACON || packet->bytes[0] == BRAIDLARK_TYPE_SHORT_BEACON;
+}
+
+/* How many hops from the office a beacon comes from, which is also the slot that it is sent in. */
+int beacon_hop(struct site *site, const struct packet *packet)
+{
+    struct frame frame;
+    frame_read(site, packet->bytes, packet->length, &frame);
+    bool is_short = frame.fields[BRAIDLARK_FIELD_TYPE] == BRAIDLARK_TYPE_SHORT_BEACON;
+    return (int)frame.fields[is_short ? BRAIDLARK_FIELD_SHORT_BEACON_HOP : BRAIDLARK_FIELD_BEACON_HOP];
+}
+
 static void write_long(struct site *site, struct packet *packet, uint32_t time, uint32_t number)
 {
     uint32_t fields[BRAIDLARK_FIELDS_BEACON] = {
@@ -64,19 +78,16 @@ void beacons_forward(struct site *site, int unit, const struct packet *packet)
     if (status != BRAIDLARK_ACCEPTED) {
         return;
     }
-    struct frame frame;
-    frame_read(site, copy.bytes, written, &frame);
-    bool is_short = frame.fields[BRAIDLARK_FIELD_TYPE] == BRAIDLARK_TYPE_SHORT_BEACON;
     copy.length = copy.frame_length = (uint8_t)written;
     self->beacon = copy;
-    self->beacon_slot = (int)frame.fields[is_short ? BRAIDLARK_FIELD_SHORT_BEACON_HOP : BRAIDLARK_FIELD_BEACON_HOP];
+    self->beacon_slot = beacon_hop(site, &copy);
 }
 
 /* What goes into the air, if it is a beacon: whoever sends it, it has the kind that the plan says. */
 void beacons_note(struct site *site, int sender, const struct packet *packet)
 {
     uint8_t type = packet->bytes[0];
-    if (type != BRAIDLARK_TYPE_BEACON && type != BRAIDLARK_TYPE_SHORT_BEACON) {
+    if (!packet_is_beacon(packet)) {
         return;
     }
     if (type != site->plan.beacon) {

@@ -188,6 +188,14 @@ static void check_ways(struct site *site)
     }
 }
 
+/* The back relay did have two beacons to choose from. */
+static void check_choices(struct site *site)
+{
+    if (site->tally.choices == 0) {
+        fail(site, "%s never had two beacons to choose from", site->units[BACK_RELAY].name);
+    }
+}
+
 /* The head that was refused got in, and so did, after the power cut, the units that were gone when it came. */
 static void check_joining(struct site *site)
 {
@@ -212,6 +220,7 @@ void check_end(struct site *site)
 {
     check_ways(site);
     check_joining(site);
+    check_choices(site);
     for (int number = 0; number < site->manager.order_count; number++) {
         const struct order *order = &site->manager.orders[number];
         bool cut_off = order->head == BENCH_5 || order->head_rejoins;

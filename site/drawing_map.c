@@ -39,8 +39,8 @@ static void draw_node(const struct site *site, FILE *file, int unit)
 
 void drawing_map(const struct site *site, FILE *file, int top)
 {
-    fprintf(file, "<text x=\"%d\" y=\"%d\" class=\"head\">Who hears whom, with the quality of each link</text>\n", LEFT,
-            top);
+    static const char TITLE[] = "Who hears whom, with the quality of each link; the back relay has two antennas";
+    fprintf(file, "<text x=\"%d\" y=\"%d\" class=\"head\">%s</text>\n", LEFT, top, TITLE);
     fprintf(file, "<g transform=\"translate(%d %d)\">\n", LEFT, top + 16);
     for (int one = 0; one < UNITS; one++) {
         for (int other = one + 1; other < UNITS; other++) {

@@ -98,6 +98,7 @@ struct unit {
     const char *name;
     uint16_t address;
     uint8_t wanted_slots;
+    bool two_antennas;
     bool powered;
     uint64_t switched; /* when its power came or went */
     int32_t skew_ms;
@@ -247,6 +248,7 @@ struct tally {
     uint32_t packets;
     uint32_t beacons;
     uint32_t beacon_bytes;
+    uint32_t choices; /* superframes in which the back relay had two beacons to choose from */
     uint32_t lost_on_links;
     uint32_t handed_over;
     uint32_t without_route;

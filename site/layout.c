@@ -10,7 +10,7 @@
  *                     benches 1, 2, 3
  *
  * The middle relay is the way of orders to the back, the shorter way to bench 4, and the only one to bench 5. The way
- * round it goes by the north relay.
+ * round it goes by the north relay. The back relay, which hears both, has two antennas.
  */
 #include <string.h>
 
@@ -93,6 +93,7 @@ void layout_set(struct site *site, uint32_t seed, uint32_t length_ms, bool short
         unit->name = PLACES[index].name;
         unit->address = PLACES[index].address;
         unit->wanted_slots = PLACES[index].wanted_slots;
+        unit->two_antennas = index == BACK_RELAY;
         /* Every crystal but the manager's, which is the network's time, is off and runs off, some fast, some slow. */
         int sign = index % 2 ? 1 : -1;
         unit->skew_ms = sign * index * SKEW_STEP_MS;

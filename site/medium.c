@@ -1,6 +1,6 @@
 /*
- * The air: what is sent in a slot, and who hears it. A packet is lost on a link the more often the poorer the link is;
- * of several that reach a unit in one slot it hears the strongest.
+ * The air: what is sent in a slot, and what of it reaches whom. A packet is lost on a link the more often the poorer
+ * the link is.
  */
 #include "greenhouse.h"
 
@@ -39,8 +39,9 @@ static bool comes_through(struct site *site, uint8_t quality)
     return false;
 }
 
-/* Whom a unit hears in this slot: the sender with the best link to it, or NOBODY; one that sends hears nobody. */
-static int strongest(const struct site *site, int unit)
+/* Whom an antenna of a unit hears in this slot: the sender with the best link to it, but for the one that its other
+ * antenna hears, or NOBODY; a unit that sends hears nobody. */
+int medium_strongest(const struct site *site, int unit, int other)
 {
     int best = NOBODY;
     uint8_t best_quality = 0;
@@ -49,7 +50,7 @@ static int strongest(const struct site *site, int unit)
         if (sender == unit) {
             return NOBODY;
         }
-        if (site->quality[sender][unit] > best_quality) {
+        if (sender != other && site->quality[sender][unit] > best_quality) {
             best = sender;
             best_quality = site->quality[sender][unit];
         }
@@ -57,17 +58,11 @@ static int strongest(const struct site *site, int unit)
     return best;
 }
 
-static void listen(struct site *site, int unit)
+/* Whether what is in the air is for a unit, and is not lost on the way. */
+bool medium_reaches(struct site *site, int unit, const struct on_air *air)
 {
-    int sender = strongest(site, unit);
-    for (int index = 0; sender != NOBODY && index < site->air_count; index++) {
-        const struct on_air *air = &site->air[index];
-        uint8_t quality = site->quality[sender][unit];
-        bool for_unit = air->packet.to == BRAIDLARK_EVERY_UNIT || air->packet.to == site->units[unit].address;
-        if (air->sender == sender && for_unit && comes_through(site, quality)) {
-            unit_hear(site, unit, sender, quality, &air->packet);
-        }
-    }
+    bool for_unit = air->packet.to == BRAIDLARK_EVERY_UNIT || air->packet.to == site->units[unit].address;
+    return for_unit && comes_through(site, site->quality[air->sender][unit]);
 }
 
 /* The slot is over: whoever has power and does not send itself hears what reaches it. */
@@ -75,7 +70,7 @@ void medium_deliver(struct site *site)
 {
     for (int unit = 0; unit < UNITS && site->air_count > 0; unit++) {
         if (site->units[unit].powered) {
-            listen(site, unit);
+            antennas_listen(site, unit);
         }
     }
     site->air_count = 0;

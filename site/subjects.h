@@ -15,10 +15,15 @@ uint32_t plan_clock_tolerance_ms(const struct plan *plan);
 void layout_set(struct site *site, uint32_t seed, uint32_t length_ms, bool short_beacons);
 int layout_find(const struct site *site, uint16_t address);
 
-/* medium.c: what is in the air in a slot and who hears it */
+/* medium.c: what is in the air in a slot, and what of it reaches whom */
 uint32_t medium_random(struct site *site, uint32_t below);
 void medium_send(struct site *site, int sender, const struct packet *packet);
+int medium_strongest(const struct site *site, int unit, int other);
+bool medium_reaches(struct site *site, int unit, const struct on_air *air);
 void medium_deliver(struct site *site);
+
+/* antennas.c: what a unit hears of a slot, and which of two beacons it follows */
+void antennas_listen(struct site *site, int unit);
 
 /* packet.c: frames in packets, and packets that wait for a slot */
 void packet_set(struct packet *packet, uint16_t to, const uint8_t *bytes, size_t length, size_t frame_length);
@@ -36,6 +41,8 @@ bool time_before(uint32_t one, uint32_t other);
 void clocks_watch(struct site *site);
 
 /* beacons.c: beacons of either kind, written, forwarded and in the air */
+bool packet_is_beacon(const struct packet *packet);
+int beacon_hop(struct site *site, const struct packet *packet);
 void beacons_write(struct site *site, struct packet *packet);
 void beacons_forward(struct site *site, int unit, const struct packet *packet);
 void beacons_note(struct site *site, int sender, const struct packet *packet);

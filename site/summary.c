@@ -91,7 +91,7 @@ static void print_clocks(const struct site *site)
     printf("             %d passed 2^32 ms and began again at 0, from %s to %s\n", site->turns.count, first, last);
 }
 
-/* What beacons took of the air, and what they would have as the other kind. */
+/* What beacons took of the air, and what they would have as the other kind; and how often there were two. */
 static void print_beacons(const struct site *site)
 {
     const struct tally *tally = &site->tally;
@@ -100,6 +100,8 @@ static void print_beacons(const struct site *site)
     printf("  beacons    %u sent, all of them %s: %u bytes in the air; %s ones would have been %u\n",
            (unsigned)tally->beacons, is_short ? "short" : "long", (unsigned)tally->beacon_bytes,
            is_short ? "long" : "short", (unsigned)other_bytes);
+    printf("             %s chose between two %u times, by the better link; never while the middle relay was gone\n",
+           site->units[BACK_RELAY].name, (unsigned)tally->choices);
 }
 
 void summary_print(struct site *site)

@@ -8,8 +8,10 @@ use crate::shared::refusal::Refusal;
 pub const NOW: Moment = Moment(100_000);
 /// The network of every site and beacon.
 pub const NETWORK: u16 = 0x0102;
-/// How well an update was heard.
+/// How well an update was heard, or the first of two frames.
 const QUALITY: u8 = 200;
+/// How well the second of two frames was heard.
+const BETTER_QUALITY: u8 = 201;
 /// The page of an update that is asked for.
 const PAGE: u32 = 0;
 /// How much later than it was heard a beacon goes on, in ms.
@@ -26,20 +28,24 @@ pub struct Buffers {
     pub before: Option<Vec<u8>>,
     /// The bytes of a frame or of an image.
     pub input: Vec<u8>,
+    /// The bytes of the second frame, where there are two.
+    pub second: Vec<u8>,
     /// Whom a lookup or a schedule is for, who is forgotten, or the manager that a beacon is forwarded with.
     pub unit: u16,
     pub out: Vec<u8>,
     pub next_hop: u16,
     pub hops: u8,
     pub skipped: u8,
+    pub which: u8,
     pub place: u32,
     pub length: u32,
 }
 
 impl Buffers {
     pub fn new(kept: Vec<u8>, input: Vec<u8>, unit: u16) -> Buffers {
-        let (out, next_hop, hops, skipped, place, length) = (vec![0; 255], 0, 0, 0, 0, 0);
-        Buffers { kept, before: None, input, unit, out, next_hop, hops, skipped, place, length }
+        let (second, out) = (Vec::new(), vec![0; 255]);
+        let (next_hop, hops, skipped, which, place, length) = (0, 0, 0, 0, 0, 0);
+        Buffers { kept, before: None, input, second, unit, out, next_hop, hops, skipped, which, place, length }
     }
 
     /// These buffers, of which `kept` is to be as it is now before each call.
@@ -53,6 +59,7 @@ impl Buffers {
 pub mod library {
     use super::*;
     use crate::book::calls::{braidlark_join, braidlark_schedule};
+    use crate::follow::calls::braidlark_follow;
     use crate::image::calls::{braidlark_image, braidlark_restore};
     use crate::routes::calls::{
         braidlark_forget, braidlark_forward, braidlark_lookup, braidlark_merge, braidlark_page, braidlark_relay,
@@ -100,6 +107,15 @@ pub mod library {
         }
     }
 
+    pub fn follow(buffers: &mut Buffers) -> u8 {
+        let Buffers { input, second, which, .. } = buffers;
+        // SAFETY: as above.
+        unsafe {
+            braidlark_follow(input.as_ptr(), input.len(), QUALITY, second.as_ptr(), second.len(), BETTER_QUALITY,
+                             NETWORK, which)
+        }
+    }
+
     pub fn join(buffers: &mut Buffers) -> u8 {
         let Buffers { kept, input, out, length, .. } = buffers;
         // SAFETY: as above.
@@ -131,6 +147,7 @@ pub mod library {
 pub mod independent {
     use super::*;
     use crate::book::members::Book;
+    use crate::follow::choice::{self, Heard};
     use crate::routes::table::Table;
 
     pub fn relay(buffers: &mut Buffers) -> Result<(), Refusal> {
@@ -172,6 +189,13 @@ pub mod independent {
         let Buffers { input, unit, out, .. } = buffers;
         buffers.length = table.forward(NETWORK, *unit, input, DELAY, NOW, out)? as u32;
         table.to_bytes(&mut buffers.kept);
+        Ok(())
+    }
+
+    pub fn follow(buffers: &mut Buffers) -> Result<(), Refusal> {
+        let first = Heard { frame: &buffers.input, quality: QUALITY };
+        let second = Heard { frame: &buffers.second, quality: BETTER_QUALITY };
+        buffers.which = choice::follow(first, second, NETWORK)?.number();
         Ok(())
     }
 

@@ -33,13 +33,14 @@ const MERGE: Call = Call { library: library::merge, independent: independent::me
 const PAGE: Call = Call { library: library::page, independent: independent::page };
 const FORGET: Call = Call { library: library::forget, independent: independent::forget };
 const FORWARD: Call = Call { library: library::forward, independent: independent::forward };
+const FOLLOW: Call = Call { library: library::follow, independent: independent::follow };
 const JOIN: Call = Call { library: library::join, independent: independent::join };
 const SCHEDULE: Call = Call { library: library::schedule, independent: independent::schedule };
 const IMAGE: Call = Call { library: library::image, independent: independent::image };
 const RESTORE: Call = Call { library: library::restore, independent: independent::restore };
 
 /// Tables are full where the name does not end in their rows.
-pub const CASES: [Case; 23] = [
+pub const CASES: [Case; 24] = [
     Case { name: "relay-10", call: RELAY, buffers: || relaying(10, MOST_ROWS), answer: ACCEPTED },
     Case { name: "relay-100", call: RELAY, buffers: || relaying(100, MOST_ROWS), answer: ACCEPTED },
     Case { name: "relay-255", call: RELAY, buffers: || relaying(255, MOST_ROWS), answer: ACCEPTED },
@@ -50,6 +51,7 @@ pub const CASES: [Case; 23] = [
     Case { name: "forget-all", call: FORGET, buffers: || forgetting(NEIGHBOUR), answer: ACCEPTED },
     Case { name: "forward", call: FORWARD, buffers: || forwarding(BEACON), answer: ACCEPTED },
     Case { name: "forward-short", call: FORWARD, buffers: || forwarding(SHORT_BEACON), answer: ACCEPTED },
+    Case { name: "follow", call: FOLLOW, buffers: following, answer: ACCEPTED },
     Case { name: "relay-100-0", call: RELAY, buffers: || relaying(100, 0), answer: NO_ROUTE },
     Case { name: "relay-100-12", call: RELAY, buffers: || relaying(100, 12), answer: ACCEPTED },
     Case { name: "relay-100-24", call: RELAY, buffers: || relaying(100, 24), answer: ACCEPTED },
@@ -136,9 +138,8 @@ fn forgetting(unit: u16) -> Buffers {
     }
 }
 
-/// A beacon of this type, of the unit in the last row and one hop nearer to it. Once forwarded it would not be forwarded
-/// again.
-fn forwarding(code: u8) -> Buffers {
+/// A beacon of this type that a neighbour forwarded, of the unit in the last row and one hop nearer to it.
+fn forwarded(code: u8) -> Vec<u8> {
     let fields = [
         ("source", u32::from(NEIGHBOUR)),
         ("network", u32::from(NETWORK)),
@@ -147,7 +148,18 @@ fn forwarding(code: u8) -> Buffers {
         ("max hops", MOST_BEACON_HOPS),
         ("delay", 1000),
     ];
-    Buffers::new(table(MOST_ROWS), beacon(code, &fields, &mut Random::new(BEACON_SEED)), LAST).reset_each_time()
+    beacon(code, &fields, &mut Random::new(BEACON_SEED))
+}
+
+/// Once forwarded, a beacon would not be forwarded again.
+fn forwarding(code: u8) -> Buffers {
+    Buffers::new(table(MOST_ROWS), forwarded(code), LAST).reset_each_time()
+}
+
+/// Two beacons of the same hop: only their qualities differ.
+fn following() -> Buffers {
+    let frame = forwarded(BEACON);
+    Buffers { second: frame.clone(), ..Buffers::new(Vec::new(), frame, OWN) }
 }
 
 /// A newcomer, to a site where half of the rows are taken.

@@ -1,5 +1,6 @@
 //! Frames: read, written and walked.
 
+pub mod beacons;
 pub mod bodies;
 pub mod calls;
 pub mod check;

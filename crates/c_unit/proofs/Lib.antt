@@ -1,2 +1,3 @@
 pub mod ClockCallLaws
+pub mod FollowCallLaws
 pub mod StateCallLaws

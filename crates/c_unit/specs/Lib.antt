@@ -1,2 +1,3 @@
 pub mod ClockCalls
+pub mod FollowCalls
 pub mod StateCalls

@@ -1,9 +1,11 @@
 -- A beacon of either kind, from what its own kind says.
 -- Assumes nothing.
-use Rattle.octets.proofs.Words.{_≡_, ap, Bool, true, false, cond, List, ℕ, _<_, arith, eqb}
-use Rattle.octets.specs.Answers.{refusing}
+use Rattle.octets.proofs.Words.{_≡_, ap, Bool, true, false, not, cond, List, [], _∷_, ℕ, _<_, arith, eqb}
+use Rattle.octets.specs.Addresses as rules
+use Rattle.octets.specs.Answers.{reason, refusing, first}
 use Rattle.octets.proofs.AnswerLaws.{Where}
 use Rattle.octets.specs.Layouts.{Bytes}
+use Rattle.octets.specs.Numbers.{num}
 use Rattle.octets.proofs.LayoutLaws.{fields-fit}
 use Rattle.frame_kinds.proofs.FourteenLaws.{read-never}
 use Rattle.frame_kinds.specs.Reading.{refusalAs}
@@ -12,7 +14,7 @@ use Rattle.frame_beacons.specs.declared.beacon.Beacon.{Beacon}
 use Rattle.frame_beacons.specs.declared.short.ShortBeacon.{ShortBeacon}
 use Rattle.frame_beacons.specs.Beacons.{beacon, beaconValues, beaconFrom}
 use Rattle.frame_beacons.specs.ShortBeacons.{shortBeacon, shortBeaconValues, shortBeaconFrom}
-use Rattle.frame_beacons.specs.EitherBeacons.{ofBeacon, ofShort, beaconIn, shortIn, isShort, beaconKind, eitherRefusal, eitherIn}
+use Rattle.frame_beacons.specs.EitherBeacons.{ofBeacon, ofShort, beaconIn, shortIn, isShort, beaconKind, eitherRefusal, eitherIn, refusalFor}
 
 module _ (s : List ℕ) where
   pub short-refused : isShort s ≡ true → refusalAs shortBeacon s ≡ eitherRefusal s
@@ -30,6 +32,29 @@ module _ (s : List ℕ) where
   pub beacon-read : isShort s ≡ false → (b : Beacon) → beaconValues b ≡ valuesIn beacon s → ofBeacon b ≡ eitherIn s
   unfolding eitherIn
   beacon-read t b v = rw t (ap (λ (vs : List ℕ). ofBeacon (beaconFrom vs)) v)
+
+  -- one field of either kind
+  pub short-network : isShort s ≡ true → num 2 s 3 ≡ eitherIn s .network
+  unfolding eitherIn
+  short-network t = rw t
+
+  pub beacon-network : isShort s ≡ false → num 2 s 6 ≡ eitherIn s .network
+  unfolding eitherIn
+  beacon-network t = rw t
+
+  pub short-hop : isShort s ≡ true → num 1 s 8 ≡ eitherIn s .hop
+  unfolding eitherIn
+  short-hop t = rw t
+
+  pub beacon-hop : isShort s ≡ false → num 1 s 21 ≡ eitherIn s .hop
+  unfolding eitherIn
+  beacon-hop t = rw t
+
+  -- for a unit of a network, from the network that was sent and what refuses the bytes
+  pub refused-for : (sent unread network : ℕ) → sent ≡ eitherIn s .network → unread ≡ eitherRefusal s
+      → first (refusing unread ∷ reason (not (rules.network network)) 4 ∷ reason (not (eqb sent network)) 15 ∷ []) ≡ refusalFor network s
+  unfolding refusalFor
+  refused-for sent unread network v u = rw (v, u)
 
 -- a beacon of neither kind is never refused with 14
 pub either-never : (s : List ℕ) → Where (eqb (eitherRefusal s) 14) (refusing (eitherRefusal s) .holds ≡ false)

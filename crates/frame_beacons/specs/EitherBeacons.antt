@@ -1,9 +1,11 @@
--- A beacon of either kind: what a unit that hears one needs of it, and why bytes are neither.
+-- A beacon of either kind: what a unit that hears one needs of it, why bytes are neither, and why they are none for a unit of a network.
 -- Assumes nothing.
 use Prim.Native.Nat.{ℕ}
-use mathlib.Core.Bool.{Bool, true, false, cond}
-use mathlib.Core.List.{List}
+use mathlib.Core.Bool.{Bool, true, false, not, cond}
+use mathlib.Core.List.{List, [], _∷_}
 use lib.Dec.{eqb}
+use Rattle.octets.specs.Addresses as rules
+use Rattle.octets.specs.Answers.{Reason, reason, refusing, first}
 use Rattle.octets.specs.Numbers.{num}
 use Rattle.frame_kinds.specs.Reading.{refusalAs}
 use Rattle.frame_kinds.specs.Shape.{Kind, valuesIn}
@@ -64,3 +66,15 @@ eitherRefusal s = refusalAs (beaconKind s) s
 -- what they say as the kind that their type is
 unfoldable pub eitherIn : List ℕ → EitherBeacon
 eitherIn s = cond (isShort s) (ofShort (shortIn s)) (ofBeacon (beaconIn s))
+
+-- ---- for a unit of a network
+-- 1 2 1 3 4 of either kind, then 4 for a unit that names no network, 15 for a beacon of another
+abbrev pub reasonsFor : ℕ → List ℕ → List Reason
+reasonsFor network s =
+    refusing (eitherRefusal s) ∷
+    reason (not (rules.network network)) 4 ∷
+    reason (not (eqb (eitherIn s .network) network)) 15 ∷
+    []
+
+unfoldable pub refusalFor : ℕ → List ℕ → ℕ
+refusalFor network s = first (reasonsFor network s)

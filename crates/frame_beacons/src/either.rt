@@ -2,10 +2,13 @@
 ghost use mathlib.Core.Path.{_≡_};
 ghost use lib.Dec.{eqb};
 ghost use Rattle.octets.specs.Numbers.{num};
-ghost use Rattle.frame_beacons.specs.EitherBeacons.{ofBeacon, ofShort, isShort, eitherRefusal, eitherIn};
+ghost use Rattle.frame_beacons.specs.EitherBeacons.{ofBeacon, ofShort, isShort, eitherRefusal, eitherIn, refusalFor};
 use crate::beacon::Beacon;
 use crate::short::ShortBeacon;
+use octets::answers::Refusal;
+use octets::answers::refuse_if;
 use octets::numbers::number8;
+use octets::numbers::number16;
 
 // `original_source` is 0 where the kind has none.
 pub struct EitherBeacon {
@@ -59,6 +62,25 @@ fn of_short(beacon: ShortBeacon) -> EitherBeacon
     }
 }
 
+// The network alone, and the hop: who needs no more of a beacon spares reading all of it.
+fn network_in(s: &[u8]) -> u16
+    ensures { λ r. ⌜ r ≡ eitherIn (now (s .entry)) .network ⌝ }
+{
+    if is_short(s) {
+        return number16(s, 3);
+    }
+    number16(s, 6)
+}
+
+pub fn hop_in(s: &[u8]) -> u8
+    ensures { λ r. ⌜ r ≡ eitherIn (now (s .entry)) .hop ⌝ }
+{
+    if is_short(s) {
+        return number8(s, 8);
+    }
+    number8(s, 21)
+}
+
 impl EitherBeacon {
     // What the bytes say as the kind that their type is.
     pub fn of(s: &[u8]) -> EitherBeacon
@@ -78,5 +100,16 @@ impl EitherBeacon {
             return ShortBeacon::refusal(s);
         }
         Beacon::refusal(s)
+    }
+
+    // Why they are none for a unit of this network, 0 where they are one.
+    pub fn refusal_for(network: u16, s: &[u8]) -> u8
+        ensures { λ r. ⌜ r ≡ refusalFor network (now (s .entry)) ⌝ }
+    {
+        let sent = network_in(s);
+        let unread = EitherBeacon::refusal(s);
+        let refused = refuse_if(!(sent == network), Refusal::NETWORK, 0);
+        let refused = refuse_if(!(1 <= network), Refusal::FIELD, refused);
+        refuse_if(!(unread == 0), unread, refused)
     }
 }

@@ -101,6 +101,7 @@ views-tell-apart =
       forwards = undone any _ (λ l. (l .status, l .table, l .out, l .written)) (λ a p. refl);
       states = undone any _ (λ l. (l .status, l .state)) (λ a p. refl);
       clocks = undone any _ (λ l. (l .status, l .offset)) (λ a p. refl);
+      follows = undone any _ (λ l. (l .status, l .which)) (λ a p. refl);
       bookCalls = undone any _ (λ l. (l .status, l .book)) (λ a p. refl);
       planNumberings = undone any _ (λ l. (l .status, l .numbers)) (λ a p. refl);
       requests = undone any _ (λ l. (l .status, l .book, l .out, l .written)) (λ a p. refl);

@@ -19,6 +19,7 @@ use Rattle.site_plan.specs.Plans.{active, slots, superframeMs, planOf, longBeac
 use Rattle.paper.specs.Story.{story}
 use Rattle.frame_beacons.specs.Beacons.{beacon}
 use Rattle.frame_beacons.specs.ShortBeacons.{shortBeacon}
+use Rattle.unit_choice.specs.Choices.{Heard, heard, chosenOf}
 use Rattle.unit_clock.specs.Clock.{drift, corrected}
 
 pub record Example : Type 0 where
@@ -53,6 +54,15 @@ eightMade beacon = planOf 1 0x0100 1 8 8 1000 beacon
 -- a short beacon of that site, which 0x0201 sends on 20 ms after it was heard
 abbrev pub shortBytes : List ℕ
 shortBytes = 0x47 ∷ 0x01 ∷ 0x02 ∷ 0x01 ∷ 0x00 ∷ 0x46 ∷ 0xE8 ∷ 0x03 ∷ 0x01 ∷ 0x88 ∷ 0x13 ∷ 0x00 ∷ 0x00 ∷ 0x14 ∷ 0x00 ∷ 0x01 ∷ 0x09 ∷ 0x00 ∷ 0x6E ∷ []
+
+-- ---- document 02's two beacons in one slot
+-- a short beacon of network 1 at a hop
+abbrev pub shortAt : ℕ → List ℕ
+shortAt hop = frameOf shortBeacon (0x0201 ∷ 1 ∷ 70 ∷ 1000 ∷ hop ∷ 5000 ∷ 20 ∷ 10 ∷ 9 ∷ []) []
+
+-- what choosing between two frames says to a unit of a network: the number, and which of the two
+abbrev pub chosen : ℕ → Heard → Heard → List ℕ
+chosen network a b = let c = chosenOf network a b in c .refused ∷ c .which ∷ []
 
 -- ---- what a drift leaves
 -- a number with its sign as a list: 1 below zero and else 0, then the magnitude
@@ -106,6 +116,14 @@ examplesWith told =
       computed = frameOf shortBeacon (0x0201 ∷ 1 ∷ 70 ∷ 1000 ∷ 1 ∷ 5000 ∷ 20 ∷ 1 ∷ 9 ∷ []) [];
       paper = shortBytes;
     } ∷
+    -- a beacon of ours over any other frame, then the lower hop, then the higher quality, then the first
+    record { computed = chosen 1 (heard joinBytes 255) (heard (shortAt 10) 0); paper = 0 ∷ 1 ∷ [] } ∷
+    record { computed = chosen 1 (heard (shortAt 2) 255) (heard (shortAt 1) 0); paper = 0 ∷ 1 ∷ [] } ∷
+    record { computed = chosen 1 (heard (shortAt 1) 60) (heard (shortAt 1) 61); paper = 0 ∷ 1 ∷ [] } ∷
+    record { computed = chosen 1 (heard (shortAt 1) 60) (heard (shortAt 1) 60); paper = 0 ∷ 0 ∷ [] } ∷
+    -- where neither will do, the first's own number
+    record { computed = chosen 2 (heard (shortAt 1) 60) (heard joinBytes 60); paper = 15 ∷ 0 ∷ [] } ∷
+    record { computed = chosen 2 (heard joinBytes 60) (heard (shortAt 1) 60); paper = 2 ∷ 0 ∷ [] } ∷
     []
 
 abbrev pub allSame : List Example → Bool

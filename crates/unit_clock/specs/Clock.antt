@@ -2,15 +2,14 @@
 -- is the wrapped difference of two times, read with its sign.
 -- Assumes nothing.
 use Prim.Native.Nat.{ℕ, suc, _+_, _-_, _%_, _^_}
-use mathlib.Core.Bool.{not, cond}
-use mathlib.Core.List.{List, [], _∷_}
-use lib.Dec.{eqb, ltb}
+use mathlib.Core.Bool.{cond}
+use mathlib.Core.List.{List}
+use lib.Dec.{ltb}
 use lib.IntN.{ℤ, pos, negsuc, natAbs, _-ℤ_}
 use lib.Signed.{quotZ}
-use Rattle.octets.specs.Answers.{Reason, reason, first}
 use Rattle.octets.specs.Calls.{after}
 use Rattle.moments.specs.Moments.{ageAt}
-use Rattle.frame_beacons.specs.EitherBeacons.{eitherRefusal, eitherIn}
+use Rattle.frame_beacons.specs.EitherBeacons.{eitherIn, refusalFor}
 use Rattle.unit_clock.specs.declared.steps.Stepped.{Stepped}
 
 -- ---- 32 bits, with a sign and without
@@ -45,18 +44,8 @@ corrected local offset original delay = wrapped (pos offset -ℤ correction (dri
 abbrev pub stepped : ℕ → ℕ → ℕ → Stepped
 stepped number offset next = record { refused = number; offset = after number offset next }
 
--- why a frame that is refused by this number, and has this network, gives no step to a caller of a network: 1, 2, 1, 3, 4 of the frame,
--- 4 of the caller's network, 15
-abbrev pub stepReasons : ℕ → ℕ → ℕ → List Reason
-stepReasons unread heard network =
-    reason (not (eqb unread 0)) unread ∷
-    reason (eqb network 0) 4 ∷
-    reason (not (eqb network heard)) 15 ∷
-    []
-
--- a step by the frame of a beacon of either kind
+-- a step by the frame of a beacon of either kind: 1 2 1 3 4 of the frame, 4 of the caller's network, 15
 unfoldable pub beaconStepOf : ℕ → ℕ → ℕ → List ℕ → Stepped
 beaconStepOf offset local network s =
     let heard = eitherIn s in
-    stepped (first (stepReasons (eitherRefusal s) (heard .network) network)) offset
-    (corrected local offset (heard .«original_time») (heard .delay))
+    stepped (refusalFor network s) offset (corrected local offset (heard .«original_time») (heard .delay))

@@ -8,11 +8,11 @@ use Rattle.unit_clock.proofs.steps.step_by_beacon.Tie as tie
 returns : tie.Need-returns
 returns c =
     let n = c .before in
-    let r = n .before in
-    let o = r .before in
-    let s = o .before .before .before in
-    by-beacon (o .of .result) (s .args .offset) (s .args .local) (s .args .network) (now (s .args .frame)) _ _ _ _
-    (o .of .ensures) (o .before .refusal .ensures) (r .refusal2 .ensures) (n .step .ensures) (c .unless .ensures)
+    let o = n .before in
+    let r = o .before in
+    let s = r .before .before in
+    by-beacon (o .of .result) (s .args .offset) (s .args .local) (s .args .network) (now (s .args .frame)) _ _ _
+    (o .of .ensures) (r .refusal-for .ensures) (n .step .ensures) (c .unless .ensures)
 
 pub step-by-beacon-spec : {M : Type 1} → statement M
-step-by-beacon-spec = tie.close (tie.spec (λ c κs. search needs) (λ c κs. search needs) (λ c κs. search needs) (λ c κs. search needs) (λ c κs. search needs) returns)
+step-by-beacon-spec = tie.close (tie.spec (λ c κs. search needs) (λ c κs. search needs) (λ c κs. search needs) (λ c κs. search needs) returns)

@@ -1,0 +1,3 @@
+pub mod BestLaws
+pub mod ChoiceLaws
+pub mod OrderLaws

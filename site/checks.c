@@ -147,15 +147,15 @@ void check_turn(struct site *site, int unit)
     }
 }
 
-/* A unit counts as gone: its last word is longer ago than a member is live. If it is the relay, the network's time has
- * to have begun again at 0 since its unbolting. */
+/* A unit counts as gone: its last word is longer ago than a member is live. If it is the unbolted relay, the network's
+ * time has to have begun again at 0 since. */
 void check_gone(struct site *site, int unit)
 {
     uint64_t silence = site->now - site->manager.last_word[unit];
     if (silence <= BRAIDLARK_LIVE_MS) {
         fail(site, "%s counts as gone, %u ms after its last word", site->units[unit].name, (unsigned)silence);
     }
-    if (unit != MIDDLE_RELAY) {
+    if (unit != MIDDLE_RELAY || site->units[unit].powered) {
         return;
     }
     if (site->script.clock_top <= site->script.unbolted || site->script.clock_top >= site->now) {
@@ -196,37 +196,42 @@ static void check_choices(struct site *site)
     }
 }
 
-/* The head that was refused got in, and so did, after the power cut, the units that were gone when it came. */
+/* The book was full at times, and yet the new head got in; so did, after the power cut, the units that were gone when
+ * it came. */
 static void check_joining(struct site *site)
 {
     static const int GONE[] = {MIDDLE_RELAY, BENCH_5};
-    if (!site->live[BENCH_9] || site->silence.inherited == 0) {
-        fail(site, "bench 9 never got into the book, or not in the relay's place");
+    if (site->tally.refused_joins == 0 || site->inheritance.from == NOBODY) {
+        fail(site, "nobody was ever refused for want of a row, or bench 9 never got the row of another");
     }
     if (site->cut.recovered == 0) {
         fail(site, "the site did not get over the power cut");
     }
     for (size_t index = 0; index < sizeof GONE / sizeof GONE[0]; index++) {
-        if (site->cut.before.live[GONE[index]] || !site->live[GONE[index]]) {
+        if (site->cut.before.live[GONE[index]] || site->joined[GONE[index]] <= site->script.power_returns) {
             fail(site, "%s did not join after the power cut", site->units[GONE[index]].name);
         }
     }
 }
 
-/* The end of the night: every order that had time to arrive did, where there was a way in the end. For as long as a
- * route outlives its next hop, orders may be lost. One that was open while its head was cut off, or had to join anew,
- * may have been replaced instead; one whose head was taken out was withdrawn. */
+/* An order arrives if a few of its tries were fair: links do not lose them all. */
+static void check_orders(struct site *site)
+{
+    enum { FEW = 3 };
+    for (int number = 0; number < site->manager.order_count; number++) {
+        const struct order *order = &site->manager.orders[number];
+        if (!order->arrived && order->fair_tries >= FEW) {
+            fail(site, "order %d for %s never arrived, and in %d of its tries there was a way", number + 1,
+                 site->units[order->head].name, order->fair_tries);
+        }
+    }
+}
+
+/* What shows only when the night is over. */
 void check_end(struct site *site)
 {
     check_ways(site);
     check_joining(site);
     check_choices(site);
-    for (int number = 0; number < site->manager.order_count; number++) {
-        const struct order *order = &site->manager.orders[number];
-        bool cut_off = order->head == BENCH_5 || order->head_rejoins;
-        bool had_way = !cut_off || (site->live[order->head] && !order->replaced);
-        if (!order->arrived && !order->withdrawn && had_way && site->now - order->given >= BRAIDLARK_USABLE_MS) {
-            fail(site, "order %d for %s never arrived", number + 1, site->units[order->head].name);
-        }
-    }
+    check_orders(site);
 }

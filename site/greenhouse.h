@@ -139,7 +139,7 @@ struct order {
     bool replaced;  /* by a later order for the same head */
     bool withdrawn; /* as its head was taken out */
     bool waits_for_route;
-    bool head_rejoins; /* its head had to join anew while the order was open, as the book was lost */
+    int fair_tries; /* those while there was a settled way to its head */
     uint64_t arrival;
     int carriers[MOST_CARRIERS];
     int carrier_count;
@@ -228,13 +228,25 @@ struct script {
     uint64_t end;
 };
 
-/* The middle relay as the office knew it when it fell silent. */
+/* The ways that there are from the office, known or not. */
+struct ways {
+    uint32_t to;           /* whom there is one to, one bit each */
+    uint64_t since[UNITS]; /* since when, or since when none of the others was lost */
+};
+
+/* The last that the office heard of the middle relay before it was back. */
 struct silence {
-    int row;              /* NOBODY before */
-    uint32_t held;        /* data slots, one bit each */
-    uint32_t inherited;   /* of them, those that bench 9 got */
+    bool begun;           /* with the unbolting */
     uint64_t last_word;   /* when a frame of it came in last, from which its place in the book grows old */
     uint64_t last_update; /* the same of an update, from which the routes by it do */
+};
+
+/* The place in the book that bench 9 got when it first joined. */
+struct inheritance {
+    int from; /* whose row it was; NOBODY before bench 9 joins */
+    int row;
+    uint32_t held;      /* data slots, one bit each */
+    bool after_refusal; /* whether bench 9 had been refused before */
 };
 
 /* The clocks that have begun again at 0. */
@@ -274,10 +286,14 @@ struct site {
     struct cut cut;
     struct on_air air[MOST_IN_AIR];
     int air_count;
-    bool live[UNITS];     /* as the schedules said last */
-    uint32_t held[UNITS]; /* data slots, one bit each, as the schedules said last */
-    int row[UNITS];       /* of the book, by the control slot in the schedule */
+    bool live[UNITS];         /* as the schedules said last */
+    uint32_t held[UNITS];     /* data slots, one bit each, as the schedules said last */
+    int row[UNITS];           /* of the book, by the control slot in the schedule */
+    int holders[MEMBER_ROWS]; /* who holds each row, or held it last; NOBODY before */
+    uint64_t joined[UNITS];   /* when each unit joined last; 0 before */
+    struct ways ways;
     struct silence silence;
+    struct inheritance inheritance;
     uint64_t next_order;
     int orders_given;
     struct record slot_holders[DATA_SLOTS];

@@ -17,20 +17,7 @@ void orders_give(struct site *site, int head, uint8_t setting)
         order->replaced = order->replaced || (order->head == head && !order->confirmed);
     }
     manager->orders[manager->order_count++] =
-        (struct order){.head = head,
-                       .setting = setting,
-                       .given = site->now,
-                       .next_try = site->now,
-                       .head_rejoins = site->cut.book_lost && site->cut.recovered == 0};
-}
-
-/* The book is lost: whoever an open order is for has to join anew. */
-void orders_meet_lost_book(struct site *site)
-{
-    for (int number = 0; number < site->manager.order_count; number++) {
-        struct order *order = &site->manager.orders[number];
-        order->head_rejoins = !order->arrived && !order->replaced;
-    }
+        (struct order){.head = head, .setting = setting, .given = site->now, .next_try = site->now};
 }
 
 /* Where a head is taken out, nobody is there to follow what was still on its way. */
@@ -52,6 +39,7 @@ static void try_order(struct site *site, int number)
     uint16_t next_hop = 0;
     uint8_t hops = 0;
     order->next_try = site->now + TRY_EVERY_MS;
+    order->fair_tries += ways_settled(site, order->head);
     if (!routes_find(site, OFFICE, head->address, &next_hop, &hops)) {
         if (!order->waits_for_route && !order->arrived) {
             say(site, "order %d waits: there is no way to %s", number + 1, head->name);

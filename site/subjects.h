@@ -96,7 +96,6 @@ void check_holdings(struct site *site);
 void orders_give(struct site *site, int head, uint8_t setting);
 void orders_withdraw(struct site *site, int head);
 void orders_repeat(struct site *site);
-void orders_meet_lost_book(struct site *site);
 void orders_arrive(struct site *site, int unit, const uint8_t *words);
 void orders_confirm(struct site *site, int unit, const uint8_t *words);
 void orders_carried(struct site *site, int carrier, const struct packet *packet);
@@ -104,6 +103,10 @@ void orders_carried(struct site *site, int carrier, const struct packet *packet)
 /* routes.c: the ways that units know, and the office's over the night */
 bool routes_find(struct site *site, int unit, uint16_t destination, uint16_t *next_hop, uint8_t *hops);
 void routes_watch(struct site *site);
+
+/* ways.c: the ways that there are, known or not */
+void ways_watch(struct site *site);
+bool ways_settled(const struct site *site, int unit);
 
 /* story.c: what happens when */
 void story_slot(struct site *site);

@@ -48,7 +48,6 @@ static struct outcome count_orders(const struct site *site)
 static void print_orders(const struct site *site)
 {
     struct outcome outcome = count_orders(site);
-    char slots[80];
     int given = site->manager.order_count;
     printf("  orders     %d given; arrived: %d, replaced by a later one for the same bench: %d, withdrawn: %d, still on "
            "their way: %d\n",
@@ -62,8 +61,6 @@ static void print_orders(const struct site *site)
            outcome.lost_tries, outcome.late, (unsigned)(outcome.latest_ms / 1000));
     printf("             no frame went to a unit gone for more than %d s; the last to one that was gone, after %u s\n",
            BRAIDLARK_USABLE_MS / 1000, (unsigned)(site->tally.latest_loss_ms / 1000));
-    number_words(site->silence.inherited, slots);
-    printf("             its row and its data slots %s went to bench 9, which was refused before\n", slots);
 }
 
 static void print_power(const struct site *site)
@@ -79,6 +76,18 @@ static void print_power(const struct site *site)
                cut->members, took_s);
         printf("             the flash was written %u times in the night\n", (unsigned)site->flash.writes);
     }
+}
+
+static void print_joining(const struct site *site)
+{
+    const struct inheritance *inheritance = &site->inheritance;
+    char slots[80];
+    number_words(inheritance->held, slots);
+    printf("  joining    %u requests refused, with every row live; places lost and asked for anew: %u\n",
+           (unsigned)site->tally.refused_joins, (unsigned)site->tally.started_over);
+    printf("             bench 9%s got row %d, which had been that of %s, and data slots %s\n",
+           inheritance->after_refusal ? ", refused before," : "", inheritance->row, site->units[inheritance->from].name,
+           slots);
 }
 
 static void print_clocks(const struct site *site)
@@ -116,8 +125,7 @@ void summary_print(struct site *site)
            (unsigned)tally->handed_over, (unsigned)tally->oldest_word_ms, (unsigned)tally->without_route);
     printf("  slots      %u schedules, and all that was in the air: no control or data slot has two senders\n",
            (unsigned)tally->schedules);
-    printf("  joining    %u requests refused, with every row live; places lost and asked for anew: %u\n",
-           (unsigned)tally->refused_joins, (unsigned)tally->started_over);
+    print_joining(site);
     print_clocks(site);
     print_beacons(site);
     printf("  the air    %u packets sent, %u losses on links\n", (unsigned)tally->packets,

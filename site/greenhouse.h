@@ -57,11 +57,16 @@ enum {
     MOST_CHANGES = 256,
     MOST_LOSSES = 96,
     MOST_PAYLOAD = 1 + BRAIDLARK_RESPONSES_SIZE,
-    SOON_MS = 30000 /* an order that takes longer is late */
+    SOON_MS = 30000,      /* an order that takes longer is late */
+    LEAST_LEFT_MS = 20000 /* that a route must last for an order to set out on it */
 };
 
 /* What the payload of a data frame is, its first byte; the frames of a request or of its answer follow theirs. */
 enum { ORDER = 1, REPORT, REQUEST, ANSWER };
+
+/* The grower's desk, where orders are given. It is wired to the office and no unit of the mesh: the office relays what
+ * comes from it. */
+enum { DESK_ADDRESS = 0x0101 };
 
 /* What goes from one unit to another, or to all: a frame, or the responses to one request in a row. A slot has room
  * for BRAIDLARK_MOST_FRAME bytes of them. */
@@ -128,6 +133,20 @@ struct unit {
     bool was_told[UNITS];         /* whether there was one since power came */
 };
 
+/* The way that a unit knows to another, as braidlark_lookup answers it. */
+struct route {
+    uint16_t next_hop;
+    uint8_t hops;
+    uint32_t left; /* ms for which it stays usable */
+};
+
+/* How an order set out from the office, the last time that it did. */
+struct departure {
+    uint64_t time; /* 0 before */
+    struct route route;
+    uint8_t table[BRAIDLARK_TABLE_SIZE]; /* the office's, as it then was */
+};
+
 struct order {
     int head;
     uint8_t setting;
@@ -140,6 +159,9 @@ struct order {
     bool withdrawn; /* as its head was taken out */
     bool waits_for_route;
     int fair_tries; /* those while there was a settled way to its head */
+    struct departure departure;
+    uint64_t held_since; /* as its route was about to end; 0 if it never was */
+    uint64_t held_ms;    /* from then until it set out */
     uint64_t arrival;
     int carriers[MOST_CARRIERS];
     int carrier_count;
@@ -239,6 +261,7 @@ struct silence {
     bool begun;           /* with the unbolting */
     uint64_t last_word;   /* when a frame of it came in last, from which its place in the book grows old */
     uint64_t last_update; /* the same of an update, from which the routes by it do */
+    bool late_order;      /* whether one was given when those were about to end */
 };
 
 /* The place in the book that bench 9 got when it first joined. */

@@ -7,13 +7,12 @@
 /* The hop that the manager takes a unit to be at. */
 static uint8_t hop_of(struct site *site, int unit)
 {
-    uint16_t next_hop = 0;
-    uint8_t hops = 0;
+    struct route route;
     if (unit == OFFICE) {
         return 0;
     }
-    bool known = routes_find(site, OFFICE, site->units[unit].address, &next_hop, &hops);
-    return known && hops <= MOST_HOPS ? hops : MOST_HOPS;
+    bool known = routes_find(site, OFFICE, site->units[unit].address, &route);
+    return known && route.hops <= MOST_HOPS ? route.hops : MOST_HOPS;
 }
 
 /* Draws up the schedule of a unit at a hop; answers whether it is a live member, as only those have one. */

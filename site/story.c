@@ -55,6 +55,19 @@ static void unbolt(struct site *site)
     say(site, "benches 1 to 4 can also be reached by the north relay; bench 5 is cut off");
 }
 
+/* The grower gives an order just when the routes by the relay are about to end. */
+static void order_late(struct site *site)
+{
+    struct route route;
+    bool awaited = site->silence.begun && !site->silence.late_order && site->manager.running;
+    if (awaited && routes_find(site, OFFICE, site->units[BENCH_4].address, &route) &&
+        route.next_hop == site->units[MIDDLE_RELAY].address && route.left < LEAST_LEFT_MS) {
+        site->silence.late_order = true;
+        orders_give(site, BENCH_4, 35);
+        orders_repeat(site);
+    }
+}
+
 static void bring_back(struct site *site)
 {
     if (due(site, site->script.returned)) {
@@ -85,6 +98,7 @@ void story_slot(struct site *site)
 {
     switch_on(site);
     unbolt(site);
+    order_late(site);
     cut_power(site);
     bring_back(site);
 }

@@ -11,6 +11,8 @@ struct outcome {
     int waited; /* of those that arrived */
     int slowest;
     uint64_t slowest_ms;
+    int held_back;
+    uint64_t longest_held_ms;
     int lost_tries;
     int late; /* of those that arrived, for a lost try */
     uint64_t latest_ms;
@@ -29,6 +31,8 @@ static struct outcome count_orders(const struct site *site)
         outcome.arrived += order->arrived;
         outcome.replaced += !order->arrived && order->replaced;
         outcome.withdrawn += order->withdrawn;
+        outcome.held_back += order->held_since > 0;
+        outcome.longest_held_ms = greater(order->held_ms, outcome.longest_held_ms);
         outcome.lost_tries += order->lost_at_silent;
         if (!order->arrived) {
             continue;
@@ -57,6 +61,9 @@ static void print_orders(const struct site *site)
     printf(
         "             the slowest was order %d, which %s followed after %u s; %d that arrived had waited for a way\n",
         outcome.slowest + 1, site->units[slowest->head].name, (unsigned)(outcome.slowest_ms / 1000), outcome.waited);
+    printf("             held back, as the office's route had less than %d s left: %d, for %u s at most\n",
+           LEAST_LEFT_MS / 1000, outcome.held_back, (unsigned)(outcome.longest_held_ms / 1000));
+    printf("             for none that set out did the office's route grow too old before its time\n");
     printf("  the relay  %d tries were lost at it; orders late for that: %d, the slowest of them after %u s\n",
            outcome.lost_tries, outcome.late, (unsigned)(outcome.latest_ms / 1000));
     printf("             no frame went to a unit gone for more than %d s; the last to one that was gone, after %u s\n",
@@ -121,7 +128,8 @@ void summary_print(struct site *site)
     print_power(site);
     printf("  routes     %u looked at: none outlives the last update of its next hop by more than %d ms\n",
            (unsigned)tally->routes, BRAIDLARK_USABLE_MS);
-    printf("             %u frames handed to a next hop, whose last update was at most %u ms old; %u had no way\n",
+    printf("             %u frames handed to a next hop, whose last update was at most %u ms old; %u had no way that "
+           "would do\n",
            (unsigned)tally->handed_over, (unsigned)tally->oldest_word_ms, (unsigned)tally->without_route);
     printf("  slots      %u schedules, and all that was in the air: no control or data slot has two senders\n",
            (unsigned)tally->schedules);

@@ -1,8 +1,9 @@
 //! `compare` puts the same calls to the library and to an implementation written from the paper, subject by
 //! subject, and stops at the first difference. This file is the command line and the order of the subjects.
 //!
-//! The paper is document 01, with beacons, plans and images as request 101 of document 02 has them, and times and the
-//! clock as its request 104 (`shared::moments`). Following is its request 112.
+//! The paper is document 01, with beacons, plans and images as request 101 of document 02 has them, what lookups and
+//! relays say and ask of a route's time as its request 102, and times and the clock as its request 104
+//! (`shared::moments`). Following is its request 112.
 
 #![deny(warnings)]
 

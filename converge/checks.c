@@ -9,26 +9,44 @@ struct answer {
     uint8_t status;
     uint16_t next_hop;
     uint8_t hops;
+    uint32_t left;
 };
 
-/* Asks a unit for its way to an address. Where it knows none, both numbers have to stay as they were. The hops that
- * stand there are more than any way has, so that it shows whether others were written. */
+/* A unit heard of each of its routes within its window, in its last call at the latest. */
+static void check_left(const struct site *site, int unit, uint32_t time, uint32_t left)
+{
+    const struct unit *self = &site->units[unit];
+    uint32_t least = BRAIDLARK_USABLE_MS - (time - self->start), most = BRAIDLARK_USABLE_MS - (time - self->now);
+    if (left < least || left > most) {
+        differ(site, "a way of unit %04X: expected %u to %u ms left, answered %u", self->address, (unsigned)least,
+               (unsigned)most, (unsigned)left);
+    }
+}
+
+/* Asks a unit for its way to an address. Where it knows none, all numbers have to stay as they were. The hops and the
+ * ms left that stand there are more than any way has, so that it shows whether others were written. */
 static struct answer ask(struct site *site, int unit, uint16_t destination)
 {
     const struct unit *self = &site->units[unit];
     uint16_t next_hop = (uint16_t)random_below(&site->random, UINT16_MAX + 1);
     uint8_t hops = (uint8_t)(UINT8_MAX - random_below(&site->random, UINT8_MAX - BRAIDLARK_MOST_ROUTE_HOPS));
-    struct answer answer = {.next_hop = next_hop, .hops = hops};
-    answer.status = braidlark_lookup(self->table, sizeof self->table, destination, unit_any_time(site, unit),
-                                     &answer.next_hop, &answer.hops);
+    uint32_t time = unit_any_time(site, unit);
+    struct answer answer = {.next_hop = next_hop, .hops = hops, .left = UINT32_MAX};
+    answer.status = braidlark_lookup(self->table, sizeof self->table, destination, time, &answer.next_hop, &answer.hops,
+                                     &answer.left);
     site->tally.calls++;
     if (answer.status != BRAIDLARK_ACCEPTED && answer.status != BRAIDLARK_NO_ROUTE) {
         differ(site, "unit %04X is asked for its way to %04X: expected 0 or 11, answered %d", self->address,
                destination, answer.status);
     }
-    if (answer.status == BRAIDLARK_NO_ROUTE && (answer.next_hop != next_hop || answer.hops != hops)) {
-        differ(site, "unit %04X knows no way to %04X: expected %04X and %d as they were, found %04X and %d",
-               self->address, destination, next_hop, hops, answer.next_hop, answer.hops);
+    if (answer.status == BRAIDLARK_NO_ROUTE &&
+        (answer.next_hop != next_hop || answer.hops != hops || answer.left != UINT32_MAX)) {
+        differ(site, "unit %04X knows no way to %04X: expected %04X, %d and %u as they were, found %04X, %d and %u",
+               self->address, destination, next_hop, hops, (unsigned)UINT32_MAX, answer.next_hop, answer.hops,
+               (unsigned)answer.left);
+    }
+    if (answer.status == BRAIDLARK_ACCEPTED) {
+        check_left(site, unit, time, answer.left);
     }
     return answer;
 }

@@ -20,7 +20,7 @@ struct scene {
     uint8_t payload[BRAIDLARK_MOST_PAYLOAD];
     uint32_t image_length;
     /* the answers */
-    uint32_t fields[BRAIDLARK_MOST_FIELDS], place, length;
+    uint32_t fields[BRAIDLARK_MOST_FIELDS], place, length, left;
     uint8_t out[BRAIDLARK_MOST_FRAME], hops, skipped, which;
     uint16_t next_hop;
     uint32_t offset;

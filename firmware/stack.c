@@ -67,7 +67,7 @@ static uint8_t call_forget(void)
 
 static uint8_t call_lookup(void)
 {
-    return braidlark_lookup(scene.table, sizeof scene.table, MANAGER, NOW, &scene.next_hop, &scene.hops);
+    return braidlark_lookup(scene.table, sizeof scene.table, MANAGER, NOW, &scene.next_hop, &scene.hops, &scene.left);
 }
 
 static uint8_t call_page(void)
@@ -77,8 +77,8 @@ static uint8_t call_page(void)
 
 static uint8_t call_relay(void)
 {
-    return braidlark_relay(scene.table, sizeof scene.table, scene.data, BRAIDLARK_MOST_FRAME, NOW, scene.out,
-                           sizeof scene.out, &scene.next_hop, &scene.place, &scene.length);
+    return braidlark_relay(scene.table, sizeof scene.table, scene.data, BRAIDLARK_MOST_FRAME, NOW, 0, scene.out,
+                           sizeof scene.out, &scene.next_hop, &scene.place, &scene.length, &scene.left);
 }
 
 static uint8_t call_forward(void)

@@ -53,8 +53,8 @@ extern "C" {
  * ---- the version of this interface: MAJOR is raised where a name, a call or a buffer's length changes, MINOR where
  * something is only added; docs/changes says what a caller has to change
  */
-#define BRAIDLARK_VERSION_MAJOR 4
-#define BRAIDLARK_VERSION_MINOR 1
+#define BRAIDLARK_VERSION_MAJOR 5
+#define BRAIDLARK_VERSION_MINOR 0
 
 /* ---- refusals; braidlark_refusal_text says what each means */
 #define BRAIDLARK_ACCEPTED 0
@@ -90,7 +90,7 @@ static inline const char *braidlark_refusal_text(int number)
         "time earlier than the last accepted one: a step of 2^31 ms or more",
         "link quality under 40",
         "ttl 0 or 1 and not for this unit",
-        "no usable route",
+        "no usable route, or less time left on it than the caller names",
         "every member row live",
         "not a live member, or the manager asked to leave",
         "plan, image, page, hop, superframe length, or a stored value, out of rule",
@@ -350,23 +350,28 @@ uint8_t braidlark_merge(uint8_t *table, size_t table_length, const uint8_t *fram
  * Refusals: 14 4 6 8. */
 uint8_t braidlark_forget(uint8_t *table, size_t table_length, uint16_t unit, uint32_t time);
 
-/* Answers the next hop to a destination, and how many hops it is away. It is how a unit sends a frame of its own:
- * look up its destination, write it, send it to the next hop; to relay one's own frame is refused (6).
+/* Answers the next hop to a destination, how many hops it is away, and the ms for which the route stays usable:
+ * BRAIDLARK_USABLE_MS less its age. As long as no call changes the table, a lookup within the next `left` ms answers
+ * the same next hop and hops, and `left` less what has passed; one ms later it is 11. It is how a unit sends a frame
+ * of its own: look up its destination, write it, send it to the next hop; to relay one's own frame is refused (6).
  * Refusals: 14 4 8 11. */
 uint8_t braidlark_lookup(const uint8_t *table, size_t table_length, uint16_t destination, uint32_t time,
-                         uint16_t *next_hop, uint8_t *hops);
+                         uint16_t *next_hop, uint8_t *hops, uint32_t *left);
 
 /* Writes a page, counted from 0, of this unit's own update, and says how many bytes it has. The page behind the last is
  * out of rule, so a unit tells all that it knows by counting up to that. Refusals: 14 8 14 (the page) 5. */
 uint8_t braidlark_page(const uint8_t *table, size_t table_length, uint32_t page, uint32_t time, uint8_t *out,
                        size_t out_length, uint32_t *written);
 
-/* Relays a data frame. One for this unit answers next hop 0 and the place and length of its payload in the frame;
- * any other is written with its ttl one less, and answers the next hop, place 0 and the number of bytes written.
+/* Relays a data frame. One for this unit answers next hop 0, the place and length of its payload in the frame, and 0
+ * left, whatever `least_left` is: it needs no route. Any other is written with its ttl one less, and answers the next
+ * hop, place 0, the number of bytes written, and what braidlark_lookup says that its route has left. A route with less
+ * left than `least_left` ms is refused (11), one with just as much is not: an order that has several hops to go should
+ * not set out on a route that is seconds from its end. 0 names no time; above BRAIDLARK_USABLE_MS no route will do.
  * Refusals: 14 1 2 1 3 4 6 8 10 11 5. */
 uint8_t braidlark_relay(const uint8_t *table, size_t table_length, const uint8_t *frame, size_t frame_length,
-                        uint32_t time, uint8_t *out, size_t out_length, uint16_t *next_hop, uint32_t *place,
-                        uint32_t *length);
+                        uint32_t time, uint32_t least_left, uint8_t *out, size_t out_length, uint16_t *next_hop,
+                        uint32_t *place, uint32_t *length, uint32_t *left);
 
 /* Forwards a beacon of this network with this delay added, the ms until the copy goes out, and says how many bytes were
  * written. The unit sends the copy in the beacon slot of its own hop, which is the copy's. Either kind is taken,

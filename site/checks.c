@@ -57,21 +57,24 @@ void check_next_hop(struct site *site, int unit, uint16_t next_hop)
     }
 }
 
-/* The way that a unit knows to another, if any: about the first moment when it is too old it knows none. */
+/* The way that a unit knows to another, if any: it ends just when the time that it has left is over, and no later than
+ * the last update of its next hop is too old. */
 static void check_route(struct site *site, int unit, int other)
 {
     const struct unit *self = &site->units[unit];
-    uint16_t destination = site->units[other].address, next_hop = 0;
-    uint8_t hops = 0;
-    if (!routes_find(site, unit, destination, &next_hop, &hops)) {
+    uint16_t destination = site->units[other].address;
+    struct route route, last, none;
+    if (!routes_find(site, unit, destination, &route)) {
         return;
     }
-    uint32_t too_late = (uint32_t)(self->update_taken[check_fresh(site, unit, next_hop)] + BRAIDLARK_USABLE_MS + 1);
-    uint8_t status = braidlark_lookup(self->table, sizeof self->table, destination, too_late, &next_hop, &hops);
-    check_status(site, "braidlark_lookup", status, REFUSAL(BRAIDLARK_NO_ROUTE));
-    if (status == BRAIDLARK_ACCEPTED) {
-        fail(site, "%s would still name %04X for %s at %u ms of its clock", self->name, next_hop,
-             site->units[other].name, (unsigned)too_late);
+    uint64_t age = unit_wide_time(site, unit) - self->update_taken[check_fresh(site, unit, route.next_hop)];
+    uint32_t end = unit_time(site, unit) + route.left;
+    bool lasts = routes_find_at(site, self->table, destination, end, &last) && last.next_hop == route.next_hop &&
+                 last.hops == route.hops && last.left == 0;
+    if (age + route.left > BRAIDLARK_USABLE_MS || !lasts ||
+        routes_find_at(site, self->table, destination, end + 1, &none)) {
+        fail(site, "%s has %u ms left on its way to %s by %04X, last heard of %u ms ago, and it does not end so",
+             self->name, (unsigned)route.left, site->units[other].name, route.next_hop, (unsigned)age);
     }
     site->tally.routes++;
 }
@@ -128,38 +131,59 @@ void check_silence(struct site *site, int unit, uint8_t before)
     }
 }
 
-/* A unit's clock has begun again: in its last ms and in its first one it knows the same ways. */
+/* A unit's clock has begun again: in its last ms and in its first one it knows the same ways, with 1 ms less left. */
 void check_turn(struct site *site, int unit)
 {
     const struct unit *self = &site->units[unit];
     for (int other = 0; other < UNITS; other++) {
-        uint16_t destination = site->units[other].address, next_hops[] = {0, 0};
-        uint8_t hops[] = {0, 0};
+        uint16_t destination = site->units[other].address;
+        struct route routes[] = {{.left = 1}, {.left = 0}}; /* as they stay where no way is known */
         for (uint32_t time = UINT32_MAX, turn = 0; turn < 2; time++, turn++) {
-            uint8_t status = braidlark_lookup(self->table, sizeof self->table, destination, time, &next_hops[turn],
-                                              &hops[turn]);
-            check_status(site, "braidlark_lookup", status, REFUSAL(BRAIDLARK_NO_ROUTE));
+            routes_find_at(site, self->table, destination, time, &routes[turn]);
         }
-        if (next_hops[0] != next_hops[1] || hops[0] != hops[1]) {
+        if (routes[0].next_hop != routes[1].next_hop || routes[0].hops != routes[1].hops ||
+            routes[0].left != routes[1].left + 1) {
             fail(site, "%s knows another way to %s since its clock has begun again", self->name,
                  site->units[other].name);
         }
     }
 }
 
-/* A unit counts as gone: its last word is longer ago than a member is live. If it is the relay, the network's time has
- * to have begun again at 0 since its unbolting. */
+/* A unit counts as gone: its last word is longer ago than a member is live. If it is the unbolted relay, the network's
+ * time has to have begun again at 0 since. */
 void check_gone(struct site *site, int unit)
 {
     uint64_t silence = site->now - site->manager.last_word[unit];
     if (silence <= BRAIDLARK_LIVE_MS) {
         fail(site, "%s counts as gone, %u ms after its last word", site->units[unit].name, (unsigned)silence);
     }
-    if (unit != MIDDLE_RELAY) {
+    if (unit != MIDDLE_RELAY || site->units[unit].powered) {
         return;
     }
     if (site->script.clock_top <= site->script.unbolted || site->script.clock_top >= site->now) {
         fail(site, "the office's clock did not begin again between the unbolting of the relay and its being noticed");
+    }
+}
+
+/* An order reached its head, or a unit has no way for it. If that is within the time that the office's route had left
+ * when the order set out, that route has not grown too old: by the table of then it is still usable, and its next hop
+ * was heard of lately enough. It may have been withdrawn; and the next hop's own route has an age of its own. */
+void check_lasts(struct site *site, int number, const struct order *order)
+{
+    const struct departure *departure = &order->departure;
+    uint64_t passed = site->now - departure->time;
+    if (departure->time == 0 || passed > departure->route.left) {
+        return;
+    }
+    struct route route;
+    bool lasts = routes_find_at(site, departure->table, site->units[order->head].address, unit_time(site, OFFICE),
+                                &route) &&
+                 route.next_hop == departure->route.next_hop && route.left == departure->route.left - passed;
+    int next = layout_find(site, departure->route.next_hop);
+    uint64_t age = unit_wide_time(site, OFFICE) - site->units[OFFICE].update_taken[next];
+    if (!lasts || age > BRAIDLARK_USABLE_MS) {
+        fail(site, "order %d set out %u ms ago on a route with %u ms left, which has ended since", number,
+             (unsigned)passed, (unsigned)departure->route.left);
     }
 }
 
@@ -196,37 +220,54 @@ static void check_choices(struct site *site)
     }
 }
 
-/* The head that was refused got in, and so did, after the power cut, the units that were gone when it came. */
+/* The book was full at times, and yet the new head got in; so did, after the power cut, the units that were gone when
+ * it came. */
 static void check_joining(struct site *site)
 {
     static const int GONE[] = {MIDDLE_RELAY, BENCH_5};
-    if (!site->live[BENCH_9] || site->silence.inherited == 0) {
-        fail(site, "bench 9 never got into the book, or not in the relay's place");
+    if (site->tally.refused_joins == 0 || site->inheritance.from == NOBODY) {
+        fail(site, "nobody was ever refused for want of a row, or bench 9 never got the row of another");
     }
     if (site->cut.recovered == 0) {
         fail(site, "the site did not get over the power cut");
     }
     for (size_t index = 0; index < sizeof GONE / sizeof GONE[0]; index++) {
-        if (site->cut.before.live[GONE[index]] || !site->live[GONE[index]]) {
+        if (site->cut.before.live[GONE[index]] || site->joined[GONE[index]] <= site->script.power_returns) {
             fail(site, "%s did not join after the power cut", site->units[GONE[index]].name);
         }
     }
 }
 
-/* The end of the night: every order that had time to arrive did, where there was a way in the end. For as long as a
- * route outlives its next hop, orders may be lost. One that was open while its head was cut off, or had to join anew,
- * may have been replaced instead; one whose head was taken out was withdrawn. */
+/* An order arrives if a few of its tries were fair: links do not lose them all. */
+static void check_orders(struct site *site)
+{
+    enum { FEW = 3 };
+    for (int number = 0; number < site->manager.order_count; number++) {
+        const struct order *order = &site->manager.orders[number];
+        if (!order->arrived && order->fair_tries >= FEW) {
+            fail(site, "order %d for %s never arrived, and in %d of its tries there was a way", number + 1,
+                 site->units[order->head].name, order->fair_tries);
+        }
+    }
+}
+
+/* The office did hold an order back, which set out later. */
+static void check_held(struct site *site)
+{
+    for (int number = 0; number < site->manager.order_count; number++) {
+        if (site->manager.orders[number].held_ms > 0) {
+            return;
+        }
+    }
+    fail(site, "no order was held back, or none of those ever set out");
+}
+
+/* What shows only when the night is over. */
 void check_end(struct site *site)
 {
     check_ways(site);
     check_joining(site);
     check_choices(site);
-    for (int number = 0; number < site->manager.order_count; number++) {
-        const struct order *order = &site->manager.orders[number];
-        bool cut_off = order->head == BENCH_5 || order->head_rejoins;
-        bool had_way = !cut_off || (site->live[order->head] && !order->replaced);
-        if (!order->arrived && !order->withdrawn && had_way && site->now - order->given >= BRAIDLARK_USABLE_MS) {
-            fail(site, "order %d for %s never arrived", number + 1, site->units[order->head].name);
-        }
-    }
+    check_orders(site);
+    check_held(site);
 }

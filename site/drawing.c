@@ -96,11 +96,14 @@ void drawing_write(const struct site *site, FILE *file)
     const char *cut_title =
         site->cut.book_lost ? "The power cut in the office: routes and book are lost, every member joins anew"
                             : "The power cut in the office: the routes are lost and learned again, every slot is kept";
+    char relay_title[96];
+    snprintf(relay_title, sizeof relay_title,
+             "The relay is unbolted: its orders go round it, and bench 9 gets the row of %s",
+             site->units[site->inheritance.from].name);
     int first = FIRST_TOP, second = first + PANEL_STEP, third = second + PANEL_STEP;
     const struct panel panels[PANELS] = {
         {site, file, first, "The whole night", 0, end, tick_for(end), false},
-        {site, file, second, "The relay is unbolted: its slots go to bench 9, its orders go round it",
-         unbolted - 4 * MINUTE, unbolted + 11 * MINUTE, 2 * MINUTE, true},
+        {site, file, second, relay_title, unbolted - 4 * MINUTE, unbolted + 11 * MINUTE, 2 * MINUTE, true},
         {site, file, third, cut_title, cut_from, cut_to, cut_tick < 2 * MINUTE ? 2 * MINUTE : cut_tick, true},
     };
     draw_head(site, file);

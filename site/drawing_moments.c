@@ -62,14 +62,18 @@ static void draw_moment(const struct panel *panel, const struct moment *moment, 
     }
 }
 
-/* The moments from the last to the first: so no line runs through the words of another. */
+/* The moments from the last to the first: so no line runs through the words of another. The relay's last word may have
+ * been on its way still when the relay was unbolted. */
 void drawing_moments(const struct panel *panel)
 {
     const struct script *script = &panel->site->script;
     const struct cut *cut = &panel->site->cut;
+    const struct moment last_word = {panel->site->silence.last_word, "the relay's last word", true};
+    const struct moment unbolted = {script->unbolted, "relay unbolted", false};
+    bool late = last_word.time > unbolted.time;
     const struct moment moments[] = {
-        {panel->site->silence.last_word, "the relay's last word", true},
-        {script->unbolted, "relay unbolted", false},
+        late ? unbolted : last_word,
+        late ? last_word : unbolted,
         {script->clock_top, "clocks begin again at 0", true},
         {script->power_fails, "power fails", false},
         {script->power_returns, "power back", true},

@@ -57,11 +57,16 @@ enum {
     MOST_CHANGES = 256,
     MOST_LOSSES = 96,
     MOST_PAYLOAD = 1 + BRAIDLARK_RESPONSES_SIZE,
-    SOON_MS = 30000 /* an order that takes longer is late */
+    SOON_MS = 30000,      /* an order that takes longer is late */
+    LEAST_LEFT_MS = 20000 /* that a route must last for an order to set out on it */
 };
 
 /* What the payload of a data frame is, its first byte; the frames of a request or of its answer follow theirs. */
 enum { ORDER = 1, REPORT, REQUEST, ANSWER };
+
+/* The grower's desk, where orders are given. It is wired to the office and no unit of the mesh: the office relays what
+ * comes from it. */
+enum { DESK_ADDRESS = 0x0101 };
 
 /* What goes from one unit to another, or to all: a frame, or the responses to one request in a row. A slot has room
  * for BRAIDLARK_MOST_FRAME bytes of them. */
@@ -128,6 +133,20 @@ struct unit {
     bool was_told[UNITS];         /* whether there was one since power came */
 };
 
+/* The way that a unit knows to another, as braidlark_lookup answers it. */
+struct route {
+    uint16_t next_hop;
+    uint8_t hops;
+    uint32_t left; /* ms for which it stays usable */
+};
+
+/* How an order set out from the office, the last time that it did. */
+struct departure {
+    uint64_t time; /* 0 before */
+    struct route route;
+    uint8_t table[BRAIDLARK_TABLE_SIZE]; /* the office's, as it then was */
+};
+
 struct order {
     int head;
     uint8_t setting;
@@ -139,7 +158,10 @@ struct order {
     bool replaced;  /* by a later order for the same head */
     bool withdrawn; /* as its head was taken out */
     bool waits_for_route;
-    bool head_rejoins; /* its head had to join anew while the order was open, as the book was lost */
+    int fair_tries; /* those while there was a settled way to its head */
+    struct departure departure;
+    uint64_t held_since; /* as its route was about to end; 0 if it never was */
+    uint64_t held_ms;    /* from then until it set out */
     uint64_t arrival;
     int carriers[MOST_CARRIERS];
     int carrier_count;
@@ -228,13 +250,26 @@ struct script {
     uint64_t end;
 };
 
-/* The middle relay as the office knew it when it fell silent. */
+/* The ways that there are from the office, known or not. */
+struct ways {
+    uint32_t to;           /* whom there is one to, one bit each */
+    uint64_t since[UNITS]; /* since when, or since when none of the others was lost */
+};
+
+/* The last that the office heard of the middle relay before it was back. */
 struct silence {
-    int row;              /* NOBODY before */
-    uint32_t held;        /* data slots, one bit each */
-    uint32_t inherited;   /* of them, those that bench 9 got */
+    bool begun;           /* with the unbolting */
     uint64_t last_word;   /* when a frame of it came in last, from which its place in the book grows old */
     uint64_t last_update; /* the same of an update, from which the routes by it do */
+    bool late_order;      /* whether one was given when those were about to end */
+};
+
+/* The place in the book that bench 9 got when it first joined. */
+struct inheritance {
+    int from; /* whose row it was; NOBODY before bench 9 joins */
+    int row;
+    uint32_t held;      /* data slots, one bit each */
+    bool after_refusal; /* whether bench 9 had been refused before */
 };
 
 /* The clocks that have begun again at 0. */
@@ -274,10 +309,14 @@ struct site {
     struct cut cut;
     struct on_air air[MOST_IN_AIR];
     int air_count;
-    bool live[UNITS];     /* as the schedules said last */
-    uint32_t held[UNITS]; /* data slots, one bit each, as the schedules said last */
-    int row[UNITS];       /* of the book, by the control slot in the schedule */
+    bool live[UNITS];         /* as the schedules said last */
+    uint32_t held[UNITS];     /* data slots, one bit each, as the schedules said last */
+    int row[UNITS];           /* of the book, by the control slot in the schedule */
+    int holders[MEMBER_ROWS]; /* who holds each row, or held it last; NOBODY before */
+    uint64_t joined[UNITS];   /* when each unit joined last; 0 before */
+    struct ways ways;
     struct silence silence;
+    struct inheritance inheritance;
     uint64_t next_order;
     int orders_given;
     struct record slot_holders[DATA_SLOTS];

@@ -85,7 +85,10 @@ void layout_set(struct site *site, uint32_t seed, uint32_t length_ms, bool short
 {
     memset(site, 0, sizeof *site);
     site->random = seed;
-    site->silence.row = NOBODY;
+    site->inheritance.from = NOBODY;
+    for (int row = 0; row < MEMBER_ROWS; row++) {
+        site->holders[row] = NOBODY;
+    }
     plan_set(&site->plan, short_beacons);
     set_script(&site->script, &site->plan, length_ms);
     for (int index = 0; index < UNITS; index++) {

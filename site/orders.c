@@ -17,20 +17,7 @@ void orders_give(struct site *site, int head, uint8_t setting)
         order->replaced = order->replaced || (order->head == head && !order->confirmed);
     }
     manager->orders[manager->order_count++] =
-        (struct order){.head = head,
-                       .setting = setting,
-                       .given = site->now,
-                       .next_try = site->now,
-                       .head_rejoins = site->cut.book_lost && site->cut.recovered == 0};
-}
-
-/* The book is lost: whoever an open order is for has to join anew. */
-void orders_meet_lost_book(struct site *site)
-{
-    for (int number = 0; number < site->manager.order_count; number++) {
-        struct order *order = &site->manager.orders[number];
-        order->head_rejoins = !order->arrived && !order->replaced;
-    }
+        (struct order){.head = head, .setting = setting, .given = site->now, .next_try = site->now};
 }
 
 /* Where a head is taken out, nobody is there to follow what was still on its way. */
@@ -49,10 +36,11 @@ static void try_order(struct site *site, int number)
 {
     struct order *order = &site->manager.orders[number];
     const struct unit *head = &site->units[order->head];
-    uint16_t next_hop = 0;
-    uint8_t hops = 0;
+    struct route route;
     order->next_try = site->now + TRY_EVERY_MS;
-    if (!routes_find(site, OFFICE, head->address, &next_hop, &hops)) {
+    order->fair_tries += ways_settled(site, order->head);
+    if (!routes_find(site, OFFICE, head->address, &route)) {
+        check_lasts(site, number + 1, order);
         if (!order->waits_for_route && !order->arrived) {
             say(site, "order %d waits: there is no way to %s", number + 1, head->name);
         }
@@ -74,13 +62,22 @@ void orders_repeat(struct site *site)
 }
 
 /* The order that the bytes of a payload name, if there is such. */
-static struct order *find_order(struct site *site, const uint8_t *words, int *number)
+static struct order *named_order(struct site *site, const uint8_t *words, int *number)
 {
     *number = words[0] + 256 * words[1];
     if (*number < 1 || *number > site->manager.order_count) {
         return NULL;
     }
     return &site->manager.orders[*number - 1];
+}
+
+/* The order in a packet, if there is one. */
+struct order *orders_find(struct site *site, const struct packet *packet, int *number)
+{
+    struct frame frame;
+    frame_read(site, packet->bytes, packet->frame_length, &frame);
+    bool is_order = frame.fields[BRAIDLARK_FIELD_TYPE] == BRAIDLARK_TYPE_DATA && packet->bytes[frame.place] == ORDER;
+    return is_order ? named_order(site, packet->bytes + frame.place + 1, number) : NULL;
 }
 
 static void say_arrival(struct site *site, int number, const struct order *order)
@@ -100,7 +97,7 @@ void orders_arrive(struct site *site, int unit, const uint8_t *words)
 {
     struct unit *self = &site->units[unit];
     int number;
-    struct order *order = find_order(site, words, &number);
+    struct order *order = named_order(site, words, &number);
     if (order == NULL) {
         return;
     }
@@ -112,6 +109,7 @@ void orders_arrive(struct site *site, int unit, const uint8_t *words)
     if (order->arrived) {
         return;
     }
+    check_lasts(site, number, order);
     order->arrived = true;
     order->arrival = site->now;
     if (story_is_quiet(site) && site->now - order->given < SOON_MS) {
@@ -146,13 +144,8 @@ static void note_loss(struct site *site, int number, struct order *order, int ca
 /* Follows an order through the air: who carries it, and whether to a unit that is there. */
 void orders_carried(struct site *site, int carrier, const struct packet *packet)
 {
-    struct frame frame;
-    frame_read(site, packet->bytes, packet->frame_length, &frame);
-    if (frame.fields[BRAIDLARK_FIELD_TYPE] != BRAIDLARK_TYPE_DATA || packet->bytes[frame.place] != ORDER) {
-        return;
-    }
     int number;
-    struct order *order = find_order(site, packet->bytes + frame.place + 1, &number);
+    struct order *order = orders_find(site, packet, &number);
     if (order == NULL || order->arrived) {
         return;
     }

@@ -56,9 +56,6 @@ void power_fails(struct site *site)
         cut->members += cut->before.live[unit];
     }
     cut->book_lost = site->flash.length == 0;
-    if (cut->book_lost) {
-        orders_meet_lost_book(site);
-    }
     unit_power_off(site, OFFICE);
     unit_power_off(site, BENCH_8);
     manager->running = false;

@@ -4,23 +4,28 @@
  */
 #include "greenhouse.h"
 
-/* Whether a unit knows a way to an address, and then its next hop and how many hops it is long. */
-bool routes_find(struct site *site, int unit, uint16_t destination, uint16_t *next_hop, uint8_t *hops)
+/* Whether a table has a way to an address at a time, and then which. */
+bool routes_find_at(struct site *site, const uint8_t table[BRAIDLARK_TABLE_SIZE], uint16_t destination, uint32_t time,
+                    struct route *route)
 {
-    const struct unit *self = &site->units[unit];
-    uint8_t status =
-        braidlark_lookup(self->table, sizeof self->table, destination, unit_time(site, unit), next_hop, hops);
+    uint8_t status = braidlark_lookup(table, BRAIDLARK_TABLE_SIZE, destination, time, &route->next_hop, &route->hops,
+                                      &route->left);
     check_status(site, "braidlark_lookup", status, REFUSAL(BRAIDLARK_NO_ROUTE));
     return status == BRAIDLARK_ACCEPTED;
+}
+
+/* Whether a unit knows a way to an address now. */
+bool routes_find(struct site *site, int unit, uint16_t destination, struct route *route)
+{
+    return routes_find_at(site, site->units[unit].table, destination, unit_time(site, unit), route);
 }
 
 /* The office's next hop to a unit, or NOBODY. */
 static int next_hop_to(struct site *site, int unit)
 {
-    uint16_t next_hop = 0;
-    uint8_t hops = 0;
-    bool known = site->units[OFFICE].powered && routes_find(site, OFFICE, site->units[unit].address, &next_hop, &hops);
-    return known ? layout_find(site, next_hop) : NOBODY;
+    struct route route;
+    bool known = site->units[OFFICE].powered && routes_find(site, OFFICE, site->units[unit].address, &route);
+    return known ? layout_find(site, route.next_hop) : NOBODY;
 }
 
 /* Tells the grower to which benches orders go another way from now on: straight, by a unit, or not at all. */

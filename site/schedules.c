@@ -7,13 +7,12 @@
 /* The hop that the manager takes a unit to be at. */
 static uint8_t hop_of(struct site *site, int unit)
 {
-    uint16_t next_hop = 0;
-    uint8_t hops = 0;
+    struct route route;
     if (unit == OFFICE) {
         return 0;
     }
-    bool known = routes_find(site, OFFICE, site->units[unit].address, &next_hop, &hops);
-    return known && hops <= MOST_HOPS ? hops : MOST_HOPS;
+    bool known = routes_find(site, OFFICE, site->units[unit].address, &route);
+    return known && route.hops <= MOST_HOPS ? route.hops : MOST_HOPS;
 }
 
 /* Draws up the schedule of a unit at a hop; answers whether it is a live member, as only those have one. */
@@ -60,18 +59,54 @@ static void read_schedule(struct site *site, int unit, const uint8_t *kinds, int
     }
 }
 
-/* The head that was refused is in: it must have been refused before, and have come by the silent relay's place. In a
- * book that began anew any place is as good. */
-static void check_new_head(struct site *site)
+/* Whether the numbers of a set are the lowest that others leave free. */
+static bool are_lowest(uint32_t numbers, uint32_t others)
 {
-    if (!site->units[BENCH_9].was_refused || site->silence.row == NOBODY) {
+    uint32_t all = numbers | others, first_free = ~all & (all + 1);
+    return (numbers & others) == 0 && numbers < first_free;
+}
+
+/* The head that the plan has no row for joins. Whoever fell silent first, the relay or a bench, held its row before; no
+ * live member does, and none of the lower rows and data slots is free. */
+static void check_new_head(struct site *site, int from)
+{
+    int row = site->row[BENCH_9];
+    uint32_t held = site->held[BENCH_9], rows = 0, slots = 0;
+    for (int unit = 0; unit < BENCH_9; unit++) {
+        rows |= site->live[unit] ? 1u << site->row[unit] : 0;
+        slots |= site->live[unit] ? site->held[unit] : 0;
+    }
+    if (from == NOBODY) {
         fail(site, "bench 9 joined a book that should have been full");
     }
-    if (site->row[BENCH_9] != site->silence.row || (site->held[BENCH_9] & ~site->silence.held) != 0) {
-        fail(site, "bench 9 got row %d and slots %04X, not those of the silent relay: row %d, slots %04X",
-             site->row[BENCH_9], (unsigned)site->held[BENCH_9], site->silence.row, (unsigned)site->silence.held);
+    if (!are_lowest(1u << row, rows) || !are_lowest(held, slots)) {
+        fail(site, "bench 9 got row %d and slots %05X, not the lowest free ones: rows %03X and slots %05X are taken",
+             row, (unsigned)held, (unsigned)rows, (unsigned)slots);
     }
-    site->silence.inherited = site->held[BENCH_9];
+    bool after_refusal = site->units[BENCH_9].was_refused;
+    site->inheritance = (struct inheritance){.from = from, .row = row, .held = held, .after_refusal = after_refusal};
+}
+
+/* Keeps who joined when, and in which row. In a book that began anew any row is as good for bench 9. */
+static void note_joining(struct site *site, int unit)
+{
+    int *holder = &site->holders[site->row[unit]];
+    if (unit == BENCH_9 && site->inheritance.from == NOBODY && !site->cut.book_lost) {
+        check_new_head(site, *holder);
+    }
+    *holder = unit;
+    site->joined[unit] = site->now;
+}
+
+/* A unit counts as gone. If it is the unbolted relay, the picture shows from when its time ran. */
+static void note_gone(struct site *site, int unit)
+{
+    say(site, "%s counts as gone: %d s without a word; its row and slots are free", site->units[unit].name,
+        BRAIDLARK_LIVE_MS / 1000);
+    check_gone(site, unit);
+    if (unit == MIDDLE_RELAY && !site->units[unit].powered) {
+        site->silence.last_word = site->manager.last_word[unit];
+    }
 }
 
 /* Tells the grower who has joined, who holds other slots, and who is gone. */
@@ -87,13 +122,11 @@ static void note_live(struct site *site, int unit, bool live, uint32_t held_befo
     } else if (live && unit != OFFICE && site->held[unit] != held_before) {
         say(site, "%s now holds data slot%s %s", site->units[unit].name, plural, slots);
     } else if (!live && site->live[unit]) {
-        say(site, "%s counts as gone: %d s without a word; its row and slots are free", site->units[unit].name,
-            BRAIDLARK_LIVE_MS / 1000);
-        check_gone(site, unit);
+        note_gone(site, unit);
     }
     site->live[unit] = live;
-    if (joined && unit == BENCH_9 && !site->cut.book_lost) {
-        check_new_head(site);
+    if (joined) {
+        note_joining(site, unit);
     }
 }
 

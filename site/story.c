@@ -33,28 +33,39 @@ static void switch_on(struct site *site)
 }
 
 /* The relay falls silent at once and with it bench 5, which only it can hear. That happens right after a word of bench
- * 5 came through, so that the relay's is the first time to run out. */
+ * 5 came through, so that the relay's is the first time to run out; unless the relay, for want of the office's beacon,
+ * has just asked the back relay to carry a request, which still arrives. */
 static void unbolt(struct site *site)
 {
     const uint64_t *last_word = site->manager.last_word;
-    if (site->silence.row != NOBODY || site->now < site->script.unbolted ||
-        last_word[BENCH_5] < last_word[MIDDLE_RELAY]) {
+    if (site->silence.begun || site->now < site->script.unbolted || last_word[BENCH_5] < last_word[MIDDLE_RELAY]) {
         return;
     }
     char slots[80];
     number_words(site->held[MIDDLE_RELAY], slots);
     site->script.unbolted = site->now;
     uint64_t update_age = unit_wide_time(site, OFFICE) - site->units[OFFICE].update_taken[MIDDLE_RELAY];
-    site->silence = (struct silence){.row = site->row[MIDDLE_RELAY],
-                                     .held = site->held[MIDDLE_RELAY],
-                                     .last_word = last_word[MIDDLE_RELAY],
-                                     .last_update = site->now - update_age};
+    site->silence = (struct silence){.begun = true, .last_update = site->now - update_age};
     unit_power_off(site, MIDDLE_RELAY);
     scene(site, "A relay is gone");
-    say(site, "SOMEBODY UNBOLTS THE MIDDLE RELAY, which holds row %d and data slots %s", site->silence.row, slots);
+    say(site, "SOMEBODY UNBOLTS THE MIDDLE RELAY, which holds row %d and data slots %s", site->row[MIDDLE_RELAY],
+        slots);
     say(site, "nobody knows yet: orders by it are lost until its routes are %d s old, but not longer",
         BRAIDLARK_USABLE_MS / 1000);
     say(site, "benches 1 to 4 can also be reached by the north relay; bench 5 is cut off");
+}
+
+/* The grower gives an order just when the routes by the relay are about to end. */
+static void order_late(struct site *site)
+{
+    struct route route;
+    bool awaited = site->silence.begun && !site->silence.late_order && site->manager.running;
+    if (awaited && routes_find(site, OFFICE, site->units[BENCH_4].address, &route) &&
+        route.next_hop == site->units[MIDDLE_RELAY].address && route.left < LEAST_LEFT_MS) {
+        site->silence.late_order = true;
+        orders_give(site, BENCH_4, 35);
+        orders_repeat(site);
+    }
 }
 
 static void bring_back(struct site *site)
@@ -87,6 +98,7 @@ void story_slot(struct site *site)
 {
     switch_on(site);
     unbolt(site);
+    order_late(site);
     cut_power(site);
     bring_back(site);
 }

@@ -93,17 +93,27 @@ void check_full(struct site *site);
 void check_holdings(struct site *site);
 
 /* orders.c: the orders for the valves */
+struct order *orders_find(struct site *site, const struct packet *packet, int *number);
 void orders_give(struct site *site, int head, uint8_t setting);
 void orders_withdraw(struct site *site, int head);
 void orders_repeat(struct site *site);
-void orders_meet_lost_book(struct site *site);
 void orders_arrive(struct site *site, int unit, const uint8_t *words);
 void orders_confirm(struct site *site, int unit, const uint8_t *words);
 void orders_carried(struct site *site, int carrier, const struct packet *packet);
 
+/* lasting.c: how long the routes of orders last, and orders that are held back for that */
+void lasting_set_out(struct site *site, const struct packet *packet, uint32_t left);
+void lasting_refused(struct site *site, int unit, const struct packet *packet);
+
 /* routes.c: the ways that units know, and the office's over the night */
-bool routes_find(struct site *site, int unit, uint16_t destination, uint16_t *next_hop, uint8_t *hops);
+bool routes_find_at(struct site *site, const uint8_t table[BRAIDLARK_TABLE_SIZE], uint16_t destination, uint32_t time,
+                    struct route *route);
+bool routes_find(struct site *site, int unit, uint16_t destination, struct route *route);
 void routes_watch(struct site *site);
+
+/* ways.c: the ways that there are, known or not */
+void ways_watch(struct site *site);
+bool ways_settled(const struct site *site, int unit);
 
 /* story.c: what happens when */
 void story_slot(struct site *site);
@@ -123,6 +133,7 @@ void check_clocks(struct site *site);
 void check_silence(struct site *site, int unit, uint8_t before);
 void check_turn(struct site *site, int unit);
 void check_gone(struct site *site, int unit);
+void check_lasts(struct site *site, int number, const struct order *order);
 void check_end(struct site *site);
 
 /* timeline.c: the lines for the grower */

@@ -11,6 +11,8 @@ struct outcome {
     int waited; /* of those that arrived */
     int slowest;
     uint64_t slowest_ms;
+    int held_back;
+    uint64_t longest_held_ms;
     int lost_tries;
     int late; /* of those that arrived, for a lost try */
     uint64_t latest_ms;
@@ -29,6 +31,8 @@ static struct outcome count_orders(const struct site *site)
         outcome.arrived += order->arrived;
         outcome.replaced += !order->arrived && order->replaced;
         outcome.withdrawn += order->withdrawn;
+        outcome.held_back += order->held_since > 0;
+        outcome.longest_held_ms = greater(order->held_ms, outcome.longest_held_ms);
         outcome.lost_tries += order->lost_at_silent;
         if (!order->arrived) {
             continue;
@@ -48,7 +52,6 @@ static struct outcome count_orders(const struct site *site)
 static void print_orders(const struct site *site)
 {
     struct outcome outcome = count_orders(site);
-    char slots[80];
     int given = site->manager.order_count;
     printf("  orders     %d given; arrived: %d, replaced by a later one for the same bench: %d, withdrawn: %d, still on "
            "their way: %d\n",
@@ -58,12 +61,13 @@ static void print_orders(const struct site *site)
     printf(
         "             the slowest was order %d, which %s followed after %u s; %d that arrived had waited for a way\n",
         outcome.slowest + 1, site->units[slowest->head].name, (unsigned)(outcome.slowest_ms / 1000), outcome.waited);
+    printf("             held back, as the office's route had less than %d s left: %d, for %u s at most\n",
+           LEAST_LEFT_MS / 1000, outcome.held_back, (unsigned)(outcome.longest_held_ms / 1000));
+    printf("             for none that set out did the office's route grow too old before its time\n");
     printf("  the relay  %d tries were lost at it; orders late for that: %d, the slowest of them after %u s\n",
            outcome.lost_tries, outcome.late, (unsigned)(outcome.latest_ms / 1000));
     printf("             no frame went to a unit gone for more than %d s; the last to one that was gone, after %u s\n",
            BRAIDLARK_USABLE_MS / 1000, (unsigned)(site->tally.latest_loss_ms / 1000));
-    number_words(site->silence.inherited, slots);
-    printf("             its row and its data slots %s went to bench 9, which was refused before\n", slots);
 }
 
 static void print_power(const struct site *site)
@@ -79,6 +83,18 @@ static void print_power(const struct site *site)
                cut->members, took_s);
         printf("             the flash was written %u times in the night\n", (unsigned)site->flash.writes);
     }
+}
+
+static void print_joining(const struct site *site)
+{
+    const struct inheritance *inheritance = &site->inheritance;
+    char slots[80];
+    number_words(inheritance->held, slots);
+    printf("  joining    %u requests refused, with every row live; places lost and asked for anew: %u\n",
+           (unsigned)site->tally.refused_joins, (unsigned)site->tally.started_over);
+    printf("             bench 9%s got row %d, which had been that of %s, and data slots %s\n",
+           inheritance->after_refusal ? ", refused before," : "", inheritance->row, site->units[inheritance->from].name,
+           slots);
 }
 
 static void print_clocks(const struct site *site)
@@ -112,12 +128,12 @@ void summary_print(struct site *site)
     print_power(site);
     printf("  routes     %u looked at: none outlives the last update of its next hop by more than %d ms\n",
            (unsigned)tally->routes, BRAIDLARK_USABLE_MS);
-    printf("             %u frames handed to a next hop, whose last update was at most %u ms old; %u had no way\n",
+    printf("             %u frames handed to a next hop, whose last update was at most %u ms old; %u had no way that "
+           "would do\n",
            (unsigned)tally->handed_over, (unsigned)tally->oldest_word_ms, (unsigned)tally->without_route);
     printf("  slots      %u schedules, and all that was in the air: no control or data slot has two senders\n",
            (unsigned)tally->schedules);
-    printf("  joining    %u requests refused, with every row live; places lost and asked for anew: %u\n",
-           (unsigned)tally->refused_joins, (unsigned)tally->started_over);
+    print_joining(site);
     print_clocks(site);
     print_beacons(site);
     printf("  the air    %u packets sent, %u losses on links\n", (unsigned)tally->packets,

@@ -21,6 +21,7 @@ static void begin_superframe(struct site *site)
             unit_begin(site, unit);
         }
     }
+    ways_watch(site);
     routes_watch(site);
     if (site->manager.running) {
         begin_managing(site);

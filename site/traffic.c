@@ -8,18 +8,21 @@
 
 enum { TIME_TO_LIVE = 8 };
 
-/* Puts a frame of the unit's own in the queue: what its payload is, and the rest of it. */
+/* Puts a frame in the queue: what its payload is, and the rest of it. It is the unit's own, but for an order: that
+ * comes from the desk, and the office has it to relay as if it had heard it. */
 void traffic_send(struct site *site, int unit, uint16_t destination, uint8_t kind, const uint8_t *rest, size_t length)
 {
     struct unit *self = &site->units[unit];
+    bool is_own = kind != ORDER;
+    uint16_t source = is_own ? self->address : DESK_ADDRESS;
     uint8_t payload[MOST_PAYLOAD] = {kind};
     memcpy(payload + 1, rest, length);
     uint32_t fields[BRAIDLARK_FIELDS_DATA] = {
-        [BRAIDLARK_FIELD_TYPE] = BRAIDLARK_TYPE_DATA,     [BRAIDLARK_FIELD_DATA_SOURCE] = self->address,
+        [BRAIDLARK_FIELD_TYPE] = BRAIDLARK_TYPE_DATA,     [BRAIDLARK_FIELD_DATA_SOURCE] = source,
         [BRAIDLARK_FIELD_DATA_DESTINATION] = destination, [BRAIDLARK_FIELD_DATA_TTL] = TIME_TO_LIVE,
         [BRAIDLARK_FIELD_DATA_SEQUENCE] = self->sequence, [BRAIDLARK_FIELD_DATA_COUNT] = (uint32_t)length + 1};
     struct packet packet;
-    packet_write(site, &packet, 0, fields, BRAIDLARK_FIELDS_DATA, payload, length + 1);
+    packet_write(site, &packet, is_own ? 0 : self->address, fields, BRAIDLARK_FIELDS_DATA, payload, length + 1);
     self->sequence++;
     queue_put(&self->data, &packet);
 }
@@ -37,25 +40,35 @@ static bool route_own(struct site *site, int unit, const struct packet *waiting,
 {
     struct frame frame;
     frame_read(site, waiting->bytes, waiting->length, &frame);
-    uint8_t hops = 0;
+    struct route route = {0};
+    bool known = routes_find(site, unit, (uint16_t)frame.fields[BRAIDLARK_FIELD_DATA_DESTINATION], &route);
     *packet = *waiting;
-    return routes_find(site, unit, (uint16_t)frame.fields[BRAIDLARK_FIELD_DATA_DESTINATION], &packet->to, &hops);
+    packet->to = route.next_hop;
+    return known;
 }
 
-/* Chooses the way of another unit's frame, with its time to live one less, if there is one. */
+/* Chooses the way of a frame from elsewhere, with its time to live one less, if there is one. The office, which has
+ * only orders to relay, names the time that a route must last; relays name none, as what is under way is better carried
+ * on than dropped. */
 static bool route_other(struct site *site, int unit, const struct packet *waiting, struct packet *packet)
 {
     const struct unit *self = &site->units[unit];
     uint16_t next_hop = 0;
-    uint32_t place = 0, length = 0;
+    uint32_t place = 0, length = 0, left = 0;
     uint8_t status =
         braidlark_relay(self->table, sizeof self->table, waiting->bytes, waiting->length, unit_time(site, unit),
-                        packet->bytes, sizeof packet->bytes, &next_hop, &place, &length);
+                        unit == OFFICE ? LEAST_LEFT_MS : 0, packet->bytes, sizeof packet->bytes, &next_hop, &place,
+                        &length, &left);
     check_status(site, "braidlark_relay", status,
                  REFUSAL(BRAIDLARK_OWN_UNIT) | REFUSAL(BRAIDLARK_TTL_OVER) | REFUSAL(BRAIDLARK_NO_ROUTE));
     if (status == BRAIDLARK_ACCEPTED) {
         packet->to = next_hop;
         packet->length = packet->frame_length = (uint8_t)length;
+    }
+    if (status == BRAIDLARK_NO_ROUTE) {
+        lasting_refused(site, unit, waiting);
+    } else if (status == BRAIDLARK_ACCEPTED && unit == OFFICE) {
+        lasting_set_out(site, packet, left);
     }
     return status == BRAIDLARK_ACCEPTED;
 }
@@ -107,9 +120,9 @@ void traffic_hear(struct site *site, int unit, const struct packet *packet, cons
         return;
     }
     uint16_t next_hop = 1;
-    uint32_t place = 0, length = 0;
+    uint32_t place = 0, length = 0, left = 0;
     uint8_t status = braidlark_relay(self->table, sizeof self->table, packet->bytes, packet->length,
-                                     unit_time(site, unit), NULL, 0, &next_hop, &place, &length);
+                                     unit_time(site, unit), 0, NULL, 0, &next_hop, &place, &length, &left);
     check_status(site, "braidlark_relay", status, 0);
     uint16_t source = (uint16_t)frame->fields[BRAIDLARK_FIELD_DATA_SOURCE];
     if (unit == OFFICE) {

@@ -20,7 +20,7 @@ const DELAY: u32 = 5;
 const HOP: u32 = 1;
 
 /// What one call is given and what it leaves; each call uses its part of it.
-#[derive(Clone, Debug, PartialEq, Eq)]
+#[derive(Clone, Debug, Default, PartialEq, Eq)]
 pub struct Buffers {
     /// The bytes of a table or of a book.
     pub kept: Vec<u8>,
@@ -32,6 +32,8 @@ pub struct Buffers {
     pub second: Vec<u8>,
     /// Whom a lookup or a schedule is for, who is forgotten, or the manager that a beacon is forwarded with.
     pub unit: u16,
+    /// The smallest time that a relay is given.
+    pub least_left: u32,
     pub out: Vec<u8>,
     pub next_hop: u16,
     pub hops: u8,
@@ -39,13 +41,12 @@ pub struct Buffers {
     pub which: u8,
     pub place: u32,
     pub length: u32,
+    pub left: u32,
 }
 
 impl Buffers {
     pub fn new(kept: Vec<u8>, input: Vec<u8>, unit: u16) -> Buffers {
-        let (second, out) = (Vec::new(), vec![0; 255]);
-        let (next_hop, hops, skipped, which, place, length) = (0, 0, 0, 0, 0, 0);
-        Buffers { kept, before: None, input, second, unit, out, next_hop, hops, skipped, which, place, length }
+        Buffers { kept, input, unit, out: vec![0; 255], ..Buffers::default() }
     }
 
     /// These buffers, of which `kept` is to be as it is now before each call.
@@ -66,18 +67,18 @@ pub mod library {
     };
 
     pub fn relay(buffers: &mut Buffers) -> u8 {
-        let Buffers { kept, input, out, next_hop, place, length, .. } = buffers;
+        let Buffers { kept, input, least_left, out, next_hop, place, length, left, .. } = buffers;
         // SAFETY: as above.
         unsafe {
-            braidlark_relay(kept.as_ptr(), kept.len(), input.as_ptr(), input.len(), NOW, out.as_mut_ptr(), out.len(),
-                            next_hop, place, length)
+            braidlark_relay(kept.as_ptr(), kept.len(), input.as_ptr(), input.len(), NOW, *least_left, out.as_mut_ptr(),
+                            out.len(), next_hop, place, length, left)
         }
     }
 
     pub fn lookup(buffers: &mut Buffers) -> u8 {
-        let Buffers { kept, unit, next_hop, hops, .. } = buffers;
+        let Buffers { kept, unit, next_hop, hops, left, .. } = buffers;
         // SAFETY: as above.
-        unsafe { braidlark_lookup(kept.as_ptr(), kept.len(), *unit, NOW, next_hop, hops) }
+        unsafe { braidlark_lookup(kept.as_ptr(), kept.len(), *unit, NOW, next_hop, hops, left) }
     }
 
     pub fn merge(buffers: &mut Buffers) -> u8 {
@@ -152,8 +153,8 @@ pub mod independent {
 
     pub fn relay(buffers: &mut Buffers) -> Result<(), Refusal> {
         let table = Table::from_bytes(&buffers.kept)?;
-        let relayed = table.relay(&buffers.input, NOW, &mut buffers.out)?;
-        (buffers.next_hop, buffers.place, buffers.length) = relayed.numbers();
+        let relayed = table.relay(&buffers.input, NOW, buffers.least_left, &mut buffers.out)?;
+        (buffers.next_hop, buffers.place, buffers.length, buffers.left) = relayed.numbers();
         Ok(())
     }
 
@@ -161,6 +162,7 @@ pub mod independent {
         let route = Table::from_bytes(&buffers.kept)?.lookup(buffers.unit, NOW)?;
         buffers.next_hop = route.next_hop;
         buffers.hops = route.hops;
+        buffers.left = route.left;
         Ok(())
     }
 

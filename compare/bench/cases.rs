@@ -40,10 +40,11 @@ const IMAGE: Call = Call { library: library::image, independent: independent::im
 const RESTORE: Call = Call { library: library::restore, independent: independent::restore };
 
 /// Tables are full where the name does not end in their rows.
-pub const CASES: [Case; 24] = [
+pub const CASES: [Case; 25] = [
     Case { name: "relay-10", call: RELAY, buffers: || relaying(10, MOST_ROWS), answer: ACCEPTED },
     Case { name: "relay-100", call: RELAY, buffers: || relaying(100, MOST_ROWS), answer: ACCEPTED },
     Case { name: "relay-255", call: RELAY, buffers: || relaying(255, MOST_ROWS), answer: ACCEPTED },
+    Case { name: "relay-100-least", call: RELAY, buffers: relaying_with_least, answer: ACCEPTED },
     Case { name: "lookup", call: LOOKUP, buffers: || looking_up(MOST_ROWS), answer: ACCEPTED },
     Case { name: "merge", call: MERGE, buffers: || merging(MOST_ROWS), answer: ACCEPTED },
     Case { name: "page", call: PAGE, buffers: || Buffers::new(table(MOST_ROWS), Vec::new(), OWN), answer: ACCEPTED },
@@ -111,6 +112,11 @@ fn relaying(length: usize, rows: usize) -> Buffers {
     let payload: Vec<u8> = (0..(length - shortest) as u8).collect();
     let unit = last_of(rows);
     Buffers::new(table(rows), data(NEIGHBOUR, unit, 10, 7, &payload), unit)
+}
+
+/// A frame of 100 bytes, given a smallest time of a second: its route was heard of a second ago, and has far more left.
+fn relaying_with_least() -> Buffers {
+    Buffers { least_left: 1_000, ..relaying(100, MOST_ROWS) }
 }
 
 fn looking_up(rows: usize) -> Buffers {

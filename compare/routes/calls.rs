@@ -24,6 +24,7 @@ extern "C" {
         time: Moment,
         next_hop: *mut u16,
         hops: *mut u8,
+        left: *mut u32,
     ) -> u8;
 
     pub fn braidlark_forget(table: *mut u8, table_length: usize, unit: u16, time: Moment) -> u8;
@@ -54,11 +55,13 @@ extern "C" {
         frame: *const u8,
         frame_length: usize,
         time: Moment,
+        least_left: u32,
         out: *mut u8,
         out_length: usize,
         next_hop: *mut u16,
         place: *mut u32,
         length: *mut u32,
+        left: *mut u32,
     ) -> u8;
 
     pub fn braidlark_forward(
@@ -76,16 +79,27 @@ extern "C" {
     ) -> u8;
 }
 
-/// What is asked of a table; `room` is the length of the output buffer.
+/// What is asked of a table; `room` is the length of the output buffer, and `left` what the place for the time left
+/// holds before the call.
 #[derive(Clone, Debug)]
 pub enum Ask {
     Fresh { own: u16, time: Moment },
-    Lookup { destination: u16, time: Moment },
+    Lookup { destination: u16, time: Moment, left: u32 },
     Forget { unit: u16, time: Moment },
     Merge { frame: Vec<u8>, quality: u8, time: Moment },
     Page { page: u32, time: Moment, room: usize },
-    Relay { frame: Vec<u8>, time: Moment, room: usize },
+    Relay(Relay),
     Forward(Forward),
+}
+
+/// What a data frame is to be relayed with.
+#[derive(Clone, Debug)]
+pub struct Relay {
+    pub frame: Vec<u8>,
+    pub time: Moment,
+    pub least_left: u32,
+    pub room: usize,
+    pub left: u32,
 }
 
 /// What a beacon is to be forwarded with.
@@ -121,15 +135,24 @@ pub const CALLS: [(&str, &[u8]); 8] = [
 impl Ask {
     fn frame(&self) -> &[u8] {
         match self {
-            Ask::Merge { frame, .. } | Ask::Relay { frame, .. } | Ask::Forward(Forward { frame, .. }) => frame,
+            Ask::Merge { frame, .. } => frame,
+            Ask::Relay(Relay { frame, .. }) | Ask::Forward(Forward { frame, .. }) => frame,
             _ => &[],
         }
     }
 
     fn room(&self) -> usize {
         match *self {
-            Ask::Page { room, .. } | Ask::Relay { room, .. } | Ask::Forward(Forward { room, .. }) => room,
+            Ask::Page { room, .. } => room,
+            Ask::Relay(Relay { room, .. }) | Ask::Forward(Forward { room, .. }) => room,
             _ => 0,
+        }
+    }
+
+    fn left(&self) -> u32 {
+        match *self {
+            Ask::Lookup { left, .. } | Ask::Relay(Relay { left, .. }) => left,
+            _ => u32::FILLER[0],
         }
     }
 }
@@ -139,7 +162,8 @@ impl kept::Ask for Ask {
         match self {
             Ask::Merge { frame, .. } => (Some(frame), None),
             Ask::Page { room, .. } => (None, Some(room)),
-            Ask::Relay { frame, room, .. } | Ask::Forward(Forward { frame, room, .. }) => (Some(frame), Some(room)),
+            Ask::Relay(Relay { frame, room, .. }) => (Some(frame), Some(room)),
+            Ask::Forward(Forward { frame, room, .. }) => (Some(frame), Some(room)),
             Ask::Fresh { .. } | Ask::Lookup { .. } | Ask::Forget { .. } => (None, None),
         }
     }
@@ -159,6 +183,7 @@ pub struct TableLeft {
     pub place: u32,
     /// What is called `written` where there is no `place`.
     pub length: u32,
+    pub left: u32,
 }
 
 /// The buffers of one call, each lent with filler around it.
@@ -171,6 +196,7 @@ struct Lending {
     skipped: Lent<u8>,
     place: Lent<u32>,
     length: Lent<u32>,
+    left: Lent<u32>,
 }
 
 impl Lending {
@@ -184,6 +210,7 @@ impl Lending {
             skipped: Lent::output(1),
             place: Lent::output(1),
             length: Lent::output(1),
+            left: Lent::input(&[call.ask.left()]),
         }
     }
 
@@ -194,20 +221,21 @@ impl Lending {
         let (out, out_length) = (self.out.address(empty), call.ask.room());
         let (next_hop, hops) = (self.next_hop.address(empty), self.hops.address(empty));
         let (place, length) = (self.place.address(empty), self.length.address(empty));
-        let skipped = self.skipped.address(empty);
+        let (skipped, left) = (self.skipped.address(empty), self.left.address(empty));
         // SAFETY: each address is that of a live buffer of the length given with it, or NULL with length 0.
         unsafe {
             match *call.ask {
                 Ask::Fresh { own, time } => braidlark_table_fresh(table, table_length, own, time),
-                Ask::Lookup { destination, time } =>
-                    braidlark_lookup(table, table_length, destination, time, next_hop, hops),
+                Ask::Lookup { destination, time, .. } =>
+                    braidlark_lookup(table, table_length, destination, time, next_hop, hops, left),
                 Ask::Forget { unit, time } => braidlark_forget(table, table_length, unit, time),
                 Ask::Merge { quality, time, .. } =>
                     braidlark_merge(table, table_length, frame, frame_length, quality, time, skipped),
                 Ask::Page { page, time, .. } =>
                     braidlark_page(table, table_length, page, time, out, out_length, length),
-                Ask::Relay { time, .. } => braidlark_relay(
-                    table, table_length, frame, frame_length, time, out, out_length, next_hop, place, length,
+                Ask::Relay(Relay { time, least_left, .. }) => braidlark_relay(
+                    table, table_length, frame, frame_length, time, least_left, out, out_length,
+                    next_hop, place, length, left,
                 ),
                 Ask::Forward(Forward { network, manager, delay, time, .. }) => braidlark_forward(
                     table, table_length, network, manager, frame, frame_length, delay, time, out, out_length, length,
@@ -226,6 +254,7 @@ impl Lending {
             ("around skipped", self.skipped.is_overrun()),
             ("around place", self.place.is_overrun()),
             ("around length", self.length.is_overrun()),
+            ("around left", self.left.is_overrun()),
         ])
     }
 }
@@ -244,7 +273,7 @@ impl Call for TableCall<'_> {
             Ask::Forget { .. } => 2,
             Ask::Merge { .. } => 3,
             Ask::Page { .. } => 4,
-            Ask::Relay { .. } => 5,
+            Ask::Relay(_) => 5,
             Ask::Forward(forward) => 6 + usize::from(forward.is_of_a_short_beacon()),
         }
     }
@@ -258,6 +287,7 @@ impl Call for TableCall<'_> {
             skipped: u8::FILLER[0],
             place: u32::FILLER[0],
             length: u32::FILLER[0],
+            left: self.ask.left(),
         }
     }
 
@@ -269,16 +299,16 @@ impl Call for TableCall<'_> {
         };
         match self.ask {
             Ask::Fresh { .. } => {}
-            Ask::Lookup { destination, time } => {
+            Ask::Lookup { destination, time, .. } => {
                 let route = table.lookup(*destination, *time)?;
-                left.next_hop = route.next_hop;
-                left.hops = route.hops;
+                (left.next_hop, left.hops, left.left) = (route.next_hop, route.hops, route.left);
             }
             Ask::Forget { unit, time } => table.forget(*unit, *time)?,
             Ask::Merge { frame, quality, time } => left.skipped = table.merge(frame, *quality, *time)?,
             Ask::Page { page, time, .. } => left.length = table.page(*page, *time, &mut left.out)? as u32,
-            Ask::Relay { frame, time, .. } => {
-                (left.next_hop, left.place, left.length) = table.relay(frame, *time, &mut left.out)?.numbers();
+            Ask::Relay(Relay { frame, time, least_left, .. }) => {
+                let relayed = table.relay(frame, *time, *least_left, &mut left.out)?;
+                (left.next_hop, left.place, left.length, left.left) = relayed.numbers();
             }
             Ask::Forward(Forward { network, manager, frame, delay, time, .. }) => {
                 left.length = table.forward(*network, *manager, frame, *delay, *time, &mut left.out)? as u32;
@@ -299,6 +329,7 @@ impl Call for TableCall<'_> {
             skipped: lending.skipped.contents()[0],
             place: lending.place.contents()[0],
             length: lending.length.contents()[0],
+            left: lending.left.contents()[0],
         };
         Answer { status, left, disturbed: lending.disturbed(self) }
     }
@@ -309,14 +340,17 @@ impl fmt::Display for TableCall<'_> {
         write!(text, "table: {}; ", input_shown(self.kept))?;
         match self.ask {
             Ask::Fresh { own, time } => write!(text, "own: {:#06x}; time: {}", own, time),
-            Ask::Lookup { destination, time } => write!(text, "destination: {:#06x}; time: {}", destination, time),
+            Ask::Lookup { destination, time, left } => {
+                write!(text, "destination: {:#06x}; time: {}; left: {}", destination, time, left)
+            }
             Ask::Forget { unit, time } => write!(text, "unit: {:#06x}; time: {}", unit, time),
             Ask::Merge { frame, quality, time } => {
                 write!(text, "frame: {}; quality: {}; time: {}", input_shown(frame), quality, time)
             }
             Ask::Page { page, time, room } => write!(text, "page: {}; time: {}; out: {} bytes", page, time, room),
-            Ask::Relay { frame, time, room } => {
-                write!(text, "frame: {}; time: {}; out: {} bytes", input_shown(frame), time, room)
+            Ask::Relay(Relay { frame, time, least_left, room, left }) => {
+                write!(text, "frame: {}; time: {}; least_left: {}; ", input_shown(frame), time, least_left)?;
+                write!(text, "out: {} bytes; left: {}", room, left)
             }
             Ask::Forward(Forward { network, manager, frame, delay, time, room }) => {
                 write!(text, "network: {:#06x}; manager: {:#06x}; frame: {}; ", network, manager, input_shown(frame))?;
@@ -331,6 +365,6 @@ impl fmt::Display for TableLeft {
         write!(text, "table: {}; out: {}", input_shown(&self.table), buffer_shown(&self.out))?;
         write!(text, "; next_hop: {}; hops: {}", number_shown(self.next_hop), number_shown(self.hops))?;
         write!(text, "; skipped: {}; place: {}", number_shown(self.skipped), number_shown(self.place))?;
-        write!(text, "; length: {}", number_shown(self.length))
+        write!(text, "; length: {}; left: {}", number_shown(self.length), self.left)
     }
 }

@@ -8,6 +8,7 @@ use crate::routes::forwards;
 use crate::routes::refusals::every_refusal;
 use crate::routes::story::*;
 use crate::routes::table::*;
+use crate::routes::time_left;
 use crate::shared::check::{Agreement, Check};
 use crate::shared::moment_drafts::{FORWARD, NOT_FORWARD, STARTS};
 use crate::shared::moments::{Moment, LONGEST_STEP};
@@ -15,6 +16,7 @@ use crate::shared::moments::{Moment, LONGEST_STEP};
 pub fn check(check: &mut Check) -> Agreement {
     for start in STARTS {
         usable_up_to_its_age(check, start)?;
+        time_left::check(check, start)?;
         withdrawn_rows_go_sooner(check, start)?;
         hops_15_is_learned_and_16_is_bad(check, start)?;
         worse_offer_of_the_same_neighbour_is_believed(check, start)?;
@@ -33,7 +35,7 @@ pub fn check(check: &mut Check) -> Agreement {
 fn usable_up_to_its_age(check: &mut Check, start: Moment) -> Agreement {
     let mut story = Story::begin(check, start)?;
     story.hear(NEAR, 200, &[], start)?;
-    story.finds(NEAR, start + 300_000, Some((NEAR, 1)))?;
+    story.finds(NEAR, start + 300_000, Some((NEAR, 1, 0)))?;
     story.finds(NEAR, start + 300_001, None)?;
     story.shows(start + 360_000, &[(NEAR, UNREACHABLE, 0, NEAR, start)])?;
     story.shows(start + 360_001, &[])
@@ -53,7 +55,7 @@ fn withdrawn_rows_go_sooner(check: &mut Check, start: Moment) -> Agreement {
 fn hops_15_is_learned_and_16_is_bad(check: &mut Check, start: Moment) -> Agreement {
     let mut story = Story::begin(check, start)?;
     story.hear(NEAR, 200, &[(FAR, 15, 200, OTHER, SENT), (OTHER, 16, 200, FAR, SENT)], start)?;
-    story.finds(FAR, start, Some((NEAR, 16)))?;
+    story.finds(FAR, start, Some((NEAR, 16, 300_000)))?;
     story.finds(OTHER, start, None)?;
     story.hear(NEAR, 200, &[(FAR, 16, 200, OTHER, SENT)], start + 1)?;
     story.finds(FAR, start + 1, None)?;
@@ -66,7 +68,7 @@ fn worse_offer_of_the_same_neighbour_is_believed(check: &mut Check, start: Momen
     let mut story = Story::begin(check, start)?;
     story.hear(NEAR, 200, &[(FAR, 2, 200, OTHER, SENT)], start)?;
     story.hear(NEAR, 100, &[(FAR, 9, 60, OTHER, SENT)], start + 1)?;
-    story.finds(FAR, start + 1, Some((NEAR, 10)))?;
+    story.finds(FAR, start + 1, Some((NEAR, 10, 300_000)))?;
     story.shows(start + 1, &[(NEAR, 1, 100, NEAR, start + 1), (FAR, 10, 80, NEAR, start + 1)])
 }
 
@@ -78,7 +80,8 @@ fn equal_route_of_another_neighbour_refreshes_nothing(check: &mut Check, start: 
     story.hear(OTHER, 200, &[(FAR, 2, 200, NEAR, SENT)], later)?;
     let neighbour = (OTHER, 1, 200, OTHER, later);
     story.shows(later, &[(NEAR, 1, 200, NEAR, start), neighbour, (FAR, 3, 200, NEAR, start)])?;
-    story.finds(FAR, start + 300_000, Some((NEAR, 3)))?;
+    story.finds(FAR, later, Some((NEAR, 3, 299_000)))?;
+    story.finds(FAR, start + 300_000, Some((NEAR, 3, 0)))?;
     story.finds(FAR, start + 300_001, None)
 }
 
@@ -96,7 +99,7 @@ fn gone_rows_use_no_room(check: &mut Check, start: Moment) -> Agreement {
     let newcomer = [entry(last)];
     assert_eq!(story.hear(OTHER, 200, &newcomer, start + 360_000)?.skipped, 1, "the first row is dead and stands");
     assert_eq!(story.hear(OTHER, 200, &newcomer, start + 360_001)?.skipped, 0, "the first row is gone");
-    story.finds(last, start + 360_001, Some((OTHER, 2)))
+    story.finds(last, start + 360_001, Some((OTHER, 2, 300_000)))
 }
 
 /// "The step from the last accepted time to the call's time is their wrapped difference; below 2^31 it is forward,
@@ -148,8 +151,8 @@ fn round_and_round(check: &mut Check, start: Moment) -> Agreement {
         time = time + step;
         story.hear(NEAR, 200, &[], time)?;
         story.shows(time, &[(NEAR, 1, 200, NEAR, time)])?;
-        story.is_answered(8, Ask::Lookup { destination: NEAR, time: time - 1 })?;
-        story.finds(NEAR, time + 300_000, Some((NEAR, 1)))?;
+        story.is_answered(8, lookup(NEAR, time - 1))?;
+        story.finds(NEAR, time + 300_000, Some((NEAR, 1, 0)))?;
         story.finds(NEAR, time + 300_001, None)?;
     }
     Ok(())

@@ -5,7 +5,7 @@ use crate::frames::drafts::{damaged, Draft};
 use crate::frames::kinds::{
     checksum, kind_of_type, BEACON, BEACONS, DATA, ENTRY_LENGTH, MOST_SLOTS, ROUTING_UPDATE, SHORT_BEACON,
 };
-use crate::routes::calls::{Ask, Forward};
+use crate::routes::calls::{Ask, Forward, Relay};
 use crate::routes::table::*;
 use crate::shared::moment_drafts::{anywhere, earlier, long_ago, start, stored_late, Pace};
 use crate::shared::moments::Moment;
@@ -56,6 +56,15 @@ pub fn longest_delay(code: u8) -> u32 {
         SHORT_BEACON => 0xFFFF,
         _ => 0xFFFF_FFFF,
     }
+}
+
+/// What the place for the time left holds before a call: also what calls at the limits of an age leave there.
+pub const LEFT_BEFORE: [u32; 7] = [0, 1, USABLE_AGE - 1, USABLE_AGE, USABLE_AGE + 1, 0xA5C3_96E1, u32::MAX];
+
+/// The smallest times that a relay is given when its route has so many ms left: none, the least, those at and next to
+/// what is left and to the most that can be, and the largest number.
+pub fn smallest_times(left: u32) -> [u32; 9] {
+    [0, 1, left.saturating_sub(1), left, left + 1, USABLE_AGE - 1, USABLE_AGE, USABLE_AGE + 1, u32::MAX]
 }
 
 /// Who takes part in a history, and how fast its time goes.
@@ -131,13 +140,19 @@ impl Drawing<'_> {
     pub fn ask(&mut self) -> Ask {
         match self.random.below(32) {
             0 => Ask::Fresh { own: self.unit(), time: start(self.random) },
-            1..=5 => Ask::Lookup { destination: self.unit(), time: self.reading_time() },
+            1..=5 => self.lookup(),
             6 | 7 => Ask::Forget { unit: self.unit(), time: self.changing_time() },
             8..=17 => self.merge(),
             18..=21 => self.page(),
             22..=26 => self.relay(),
             _ => self.forward(),
         }
+    }
+
+    fn lookup(&mut self) -> Ask {
+        let usual = (self.unit(), self.reading_time());
+        let (destination, time) = self.perhaps_at_a_limit(usual);
+        Ask::Lookup { destination, time, left: self.random.one_of(&LEFT_BEFORE) }
     }
 
     fn merge(&mut self) -> Ask {
@@ -182,12 +197,22 @@ impl Drawing<'_> {
         let own = self.scene.own;
         let source = if self.slip() { own } else { self.random.one_of(&self.scene.units[1..]) };
         let anyone = self.random.one_of(&self.scene.units);
-        let destination = self.random.one_of(&[anyone, anyone, anyone, own]);
+        let usual = (self.random.one_of(&[anyone, anyone, anyone, own]), self.reading_time());
+        let (destination, time) = self.perhaps_at_a_limit(usual);
         let length = self.random.one_of(&[0, 1, 2, 20, 20, 244, 245]);
         let ttl = if self.slip() { self.random.below(2) } else { self.random.one_of(&[1, 2, 2, 3, 255]) };
         let frame = data(source, destination, ttl as u8, self.random.draw() as u16, &self.random.bytes(length));
         let room = self.room(frame.len());
-        Ask::Relay { frame: self.perhaps_damaged(frame), time: self.reading_time(), room }
+        let least_left = self.least_left(destination, time);
+        let left = self.random.one_of(&LEFT_BEFORE);
+        Ask::Relay(Relay { frame: self.perhaps_damaged(frame), time, least_left, room, left })
+    }
+
+    /// Half of all relays name no time.
+    fn least_left(&mut self, destination: u16, time: Moment) -> u32 {
+        let left = self.table.lookup(destination, time).map_or(0, |route| route.left);
+        let named = self.random.one_of(&smallest_times(left));
+        self.random.one_of(&[0, named])
     }
 
     fn forward(&mut self) -> Ask {
@@ -292,6 +317,25 @@ impl Drawing<'_> {
         pace.next(last, limit, self.random)
     }
 
+    /// Half the time the destination of a row, when that is new or at the limit of being usable, if this is to come;
+    /// else the usual.
+    fn perhaps_at_a_limit(&mut self, usual: (u16, Moment)) -> (u16, Moment) {
+        let used = self.used_rows();
+        if used == 0 || self.random.below(2) == 0 {
+            return usual;
+        }
+        let row = self.table.rows[self.random.below(used)];
+        let time = row.time + self.random.one_of(&[0, 1, USABLE_AGE - 1, USABLE_AGE, USABLE_AGE + 1]);
+        match time.follows(self.table.time) {
+            true => (row.destination, time),
+            false => usual,
+        }
+    }
+
+    fn used_rows(&self) -> usize {
+        self.table.rows.iter().take_while(|row| **row != Row::UNUSED).count()
+    }
+
     /// The length of an output buffer: what is needed or more, unless by a slip.
     fn room(&mut self, needed: usize) -> usize {
         let less = self.random.below(needed);
@@ -320,9 +364,9 @@ impl Drawing<'_> {
     }
 
     fn damaged_table(&mut self, mut bytes: Vec<u8>) -> Vec<u8> {
-        let rows = self.table.rows.iter().take_while(|row| **row != Row::UNUSED).count();
         // One of the used rows, or the first that is not used.
-        let row = Table::HEAD_LENGTH + Table::ROW_LENGTH * self.random.below((rows + 1).min(MOST_ROWS));
+        let place = self.random.below((self.used_rows() + 1).min(MOST_ROWS));
+        let row = Table::HEAD_LENGTH + Table::ROW_LENGTH * place;
         let limit = self.random.one_of(&[0, 1, 2, 16, 17, 39, 40, 254, 255]);
         match self.random.below(8) {
             0 => bytes.resize(self.random.one_of(&[0, 1, 538, 540, 600]), 0),

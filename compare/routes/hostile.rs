@@ -1,11 +1,11 @@
 //! Hostile buffers for the calls on a table.
 
 use crate::frames::kinds::BEACONS;
-use crate::routes::calls::{Ask, Forward};
-use crate::routes::drafts::{beacon, data, update, Entry};
+use crate::routes::calls::{Ask, Forward, Relay};
+use crate::routes::drafts::{beacon, data, update, Entry, LEFT_BEFORE};
 use crate::routes::table::Table;
 use crate::shared::check::{Agreement, Check};
-use crate::shared::hostile::every_buffer;
+use crate::shared::hostile::{every_buffer, every_length_of_each};
 use crate::shared::moments::Moment;
 
 const OWN: u16 = 0x0100;
@@ -31,13 +31,32 @@ pub fn check(check: &mut Check) -> Agreement {
     }
     for ask in [
         Ask::Fresh { own: OWN, time: NOW },
-        Ask::Lookup { destination: FAR, time: NOW },
         Ask::Forget { unit: NEAR, time: NOW },
         Ask::Merge { frame: news, quality: 200, time: NOW },
         Ask::Page { page: 0, time: NOW, room: 250 },
-        Ask::Relay { frame: data(NEAR, FAR, 9, 7, &[5; 245]), time: NOW, room: 256 },
     ] {
         every_buffer(check, &kept, &ask)?;
     }
+    for left in LEFT_BEFORE {
+        time_left(check, &kept, left)?;
+    }
     Ok(())
+}
+
+/// The calls that answer how long a route has left, with this where they write it: on rows that are new, that are as
+/// old as is usable, and older.
+fn time_left(check: &mut Check, kept: &[u8], left: u32) -> Agreement {
+    for (age, most) in [(0, 300_000), (299_999, 1), (300_000, 0)] {
+        let time = NOW + age;
+        every_buffer(check, kept, &Ask::Lookup { destination: FAR, time, left })?;
+        let frame = data(NEAR, FAR, 9, 7, &[5; 245]);
+        let onward = Relay { frame, time, least_left: most, room: 256, left };
+        every_buffer(check, kept, &Ask::Relay(onward.clone()))?;
+        every_length_of_each(check, kept, &Ask::Relay(Relay { least_left: most + 1, ..onward.clone() }))?;
+        let frame = data(NEAR, OWN, 9, 7, &[5; 245]);
+        every_buffer(check, kept, &Ask::Relay(Relay { frame, least_left: u32::MAX, ..onward }))?;
+    }
+    let (frame, time) = (data(NEAR, FAR, 9, 7, &[5; 245]), NOW + 300_001);
+    every_length_of_each(check, kept, &Ask::Lookup { destination: FAR, time, left })?;
+    every_length_of_each(check, kept, &Ask::Relay(Relay { frame, time, least_left: 0, room: 256, left }))
 }

@@ -12,3 +12,4 @@ mod refusals;
 mod relays;
 mod story;
 pub mod table;
+mod time_left;

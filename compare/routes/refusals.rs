@@ -2,8 +2,8 @@
 
 use crate::frames::bodies::seal;
 use crate::frames::kinds::BEACONS;
-use crate::routes::calls::Ask;
-use crate::routes::drafts::{beacon, data, update};
+use crate::routes::calls::{Ask, Relay};
+use crate::routes::drafts::{beacon, update};
 use crate::routes::story::*;
 use crate::routes::table::SHORTEST_UPDATE;
 use crate::shared::check::{Agreement, Check};
@@ -21,11 +21,11 @@ fn table_refusals(story: &mut Story) -> Agreement {
     let time = story.start;
     story.needs_a_table(Ask::Fresh { own: OWN, time })?;
     story.is_answered(4, Ask::Fresh { own: 0xFFFF, time })?;
-    story.needs_a_table(Ask::Lookup { destination: FAR, time })?;
-    story.is_answered(4, Ask::Lookup { destination: 0, time })?;
-    story.is_answered(8, Ask::Lookup { destination: FAR, time: time - 1 })?;
-    story.is_answered(11, Ask::Lookup { destination: OTHER, time })?;
-    story.is_answered(11, Ask::Lookup { destination: OWN, time })?;
+    story.needs_a_table(lookup(FAR, time))?;
+    story.is_answered(4, lookup(0, time))?;
+    story.is_answered(8, lookup(FAR, time - 1))?;
+    story.is_answered(11, lookup(OTHER, time))?;
+    story.is_answered(11, lookup(OWN, time))?;
     story.needs_a_table(Ask::Forget { unit: OTHER, time })?;
     story.is_answered(4, Ask::Forget { unit: 0, time })?;
     story.is_answered(6, Ask::Forget { unit: OWN, time })?;
@@ -75,17 +75,23 @@ fn merge_refusals(story: &mut Story) -> Agreement {
 }
 
 fn relay_refusals(story: &mut Story) -> Agreement {
-    let time = story.start;
-    let frame = |source, destination, ttl| data(source, destination, ttl, 7, &[1, 2, 3]);
-    let good = frame(OTHER, FAR, 2);
-    let room = good.len();
-    frame_refusals(story, &good, |frame| Ask::Relay { frame, time, room })?;
-    beacon_refusals(story, |frame| Ask::Relay { frame, time, room })?;
-    story.needs_a_table(Ask::Relay { frame: frame(OTHER, OWN, 0), time, room: 0 })?;
-    story.is_answered(6, Ask::Relay { frame: frame(OWN, FAR, 2), time: time - 1, room })?;
-    story.is_answered(8, Ask::Relay { frame: frame(OTHER, FAR, 1), time: time - 1, room })?;
-    story.is_answered(10, Ask::Relay { frame: frame(NEAR, OTHER, 1), time, room: 0 })?;
-    story.is_answered(10, Ask::Relay { frame: frame(NEAR, FAR, 0), time, room })?;
-    story.is_answered(11, Ask::Relay { frame: frame(NEAR, OTHER, 2), time, room: 0 })?;
-    story.is_answered(5, Ask::Relay { frame: good, time, room: room - 1 })
+    let (time, early) = (story.start, story.start - 1);
+    let good = relay(OTHER, FAR, 2, time);
+    frame_refusals(story, &good.frame, |frame| Ask::Relay(Relay { frame, ..good.clone() }))?;
+    beacon_refusals(story, |frame| Ask::Relay(Relay { frame, ..good.clone() }))?;
+    story.needs_a_table(Ask::Relay(Relay { room: 0, ..relay(OTHER, OWN, 0, time) }))?;
+    // Every route has less left than the largest number: that is 11 as well, and comes where 11 does.
+    for least_left in [0, u32::MAX] {
+        let named = |relay| Ask::Relay(Relay { least_left, ..relay });
+        story.is_answered(6, named(relay(OWN, FAR, 2, early)))?;
+        story.is_answered(8, named(relay(OTHER, FAR, 1, early)))?;
+        story.is_answered(10, named(Relay { room: 0, ..relay(NEAR, OTHER, 1, time) }))?;
+        story.is_answered(10, named(relay(NEAR, FAR, 1, time)))?;
+        story.is_answered(10, named(relay(NEAR, FAR, 0, time)))?;
+        story.is_answered(11, named(Relay { room: 0, ..relay(NEAR, OTHER, 2, time) }))?;
+    }
+    let short = Relay { room: good.room - 1, ..good };
+    story.is_answered(11, Ask::Relay(Relay { least_left: 300_001, ..short.clone() }))?;
+    story.is_answered(5, Ask::Relay(Relay { least_left: 300_000, ..short.clone() }))?;
+    story.is_answered(5, Ask::Relay(short))
 }

@@ -22,24 +22,26 @@ const SHORTEST_DATA: usize = PAYLOAD + 1;
 pub enum Relayed {
     /// It is for this unit: its payload is this part of the frame.
     ForUs(Range<usize>),
-    /// It goes on: so many bytes were written for this unit.
-    Onward { next_hop: u16, length: usize },
+    /// It goes on: so many bytes were written for this unit, on a route with so many ms left.
+    Onward { next_hop: u16, length: usize, left: u32 },
 }
 
 impl Relayed {
-    /// The next hop, and the place and length of what is handed on. Next hop 0 says that the frame is for this unit.
-    pub fn numbers(self) -> (u16, u32, u32) {
+    /// The next hop, the place and length of what is handed on, and the time left. Next hop 0 says that the frame is
+    /// for this unit: it takes no route, and 0 is left.
+    pub fn numbers(self) -> (u16, u32, u32, u32) {
         match self {
-            Relayed::ForUs(payload) => (0, payload.start as u32, payload.len() as u32),
-            Relayed::Onward { next_hop, length } => (next_hop, 0, length as u32),
+            Relayed::ForUs(payload) => (0, payload.start as u32, payload.len() as u32, 0),
+            Relayed::Onward { next_hop, length, left } => (next_hop, 0, length as u32, left),
         }
     }
 }
 
 impl Table {
-    /// Hands a data frame for this unit back, and writes any other for its next hop.
+    /// Hands a data frame for this unit back, and writes any other for its next hop, if the route has at least
+    /// `least_left` ms left.
     #[inline(never)]
-    pub fn relay(&self, frame: &[u8], time: Moment, out: &mut [u8]) -> Result<Relayed, Refusal> {
+    pub fn relay(&self, frame: &[u8], time: Moment, least_left: u32, out: &mut [u8]) -> Result<Relayed, Refusal> {
         let used = self.used_rows()?;
         let data = Data::read(frame)?;
         if data.source == self.own {
@@ -53,11 +55,14 @@ impl Table {
             return Err(Refusal::Ttl);
         }
         let route = self.route(used, data.destination, time)?;
+        if route.left < least_left {
+            return Err(Refusal::NoRoute);
+        }
         let out = out.get_mut(..frame.len()).ok_or(Refusal::Room)?;
         out.copy_from_slice(frame);
         out[TTL] = data.ttl - 1;
         seal(out);
-        Ok(Relayed::Onward { next_hop: route.next_hop, length: frame.len() })
+        Ok(Relayed::Onward { next_hop: route.next_hop, length: frame.len(), left: route.left })
     }
 }
 

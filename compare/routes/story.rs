@@ -1,10 +1,11 @@
 //! A table and what is told of it, call by call, by the cases that have a name.
 
 use crate::frames::kinds::BEACONS;
-use crate::routes::calls::{Ask, Forward, TableLeft};
+use crate::routes::calls::{Ask, Forward, Relay, TableLeft};
 use crate::routes::drafts::{beacon, data, update, Entry};
 use crate::routes::table::Table;
 use crate::shared::check::{Agreement, Check, Difference};
+use crate::shared::lending::Filler;
 use crate::shared::moments::Moment;
 use crate::shared::refusal::ACCEPTED;
 
@@ -15,6 +16,16 @@ pub const FAR: u16 = 0x0301;
 pub const NETWORK: u16 = 7;
 /// The times in an update are its sender's, and are not judged.
 pub const SENT: Moment = Moment(0);
+
+pub fn lookup(destination: u16, time: Moment) -> Ask {
+    Ask::Lookup { destination, time, left: u32::FILLER[0] }
+}
+
+/// The relay of a data frame with a payload of three bytes. It names no smallest time.
+pub fn relay(source: u16, destination: u16, ttl: u8, time: Moment) -> Relay {
+    let frame = data(source, destination, ttl, 7, &[1, 2, 3]);
+    Relay { room: frame.len(), frame, time, least_left: 0, left: u32::FILLER[0] }
+}
 
 /// A table and what is told of it.
 pub struct Story<'a> {
@@ -56,8 +67,8 @@ impl Story<'_> {
             Ask::Forget { unit: NEAR, time },
             Ask::Merge { frame: update(NEAR, SENT, &[]), quality: 40, time },
             Ask::Page { page: 0, time, room: 100 },
-            Ask::Lookup { destination: FAR, time },
-            Ask::Relay { frame: data(OTHER, FAR, 2, 7, &[1, 2, 3]), time, room: 100 },
+            lookup(FAR, time),
+            Ask::Relay(relay(OTHER, FAR, 2, time)),
             forward,
             forward_short,
         ]
@@ -83,12 +94,12 @@ impl Story<'_> {
         self.change(Ask::Merge { frame: update(origin, time, entries), quality, time })
     }
 
-    /// A lookup answers this next hop with these hops, or 11.
-    pub fn finds(&mut self, destination: u16, time: Moment, route: Option<(u16, u8)>) -> Agreement {
+    /// A lookup answers this next hop with these hops and so many ms left, or 11.
+    pub fn finds(&mut self, destination: u16, time: Moment, route: Option<(u16, u8, u32)>) -> Agreement {
         let status = if route.is_some() { ACCEPTED } else { 11 };
-        let left = self.check.is_answered(status, &self.table, &Ask::Lookup { destination, time })?.left;
+        let left = self.check.is_answered(status, &self.table, &lookup(destination, time))?.left;
         if let Some(route) = route {
-            assert_eq!((left.next_hop, left.hops), route);
+            assert_eq!((left.next_hop, left.hops, left.left), route);
         }
         Ok(())
     }

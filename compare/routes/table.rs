@@ -1,5 +1,5 @@
-//! The independent table of routes, from the paper's section on routes alone: its rows and their ages, looking up,
-//! forgetting and merging. It works in place, and is also what the library's merge is measured against.
+//! The independent table of routes, from the paper's section on routes and request 102 alone: its rows and their ages,
+//! looking up, forgetting and merging. It works in place, and is also what the library's merge is measured against.
 
 use crate::frames::bodies::body_of;
 use crate::frames::kinds::{ENTRY_LENGTH, ROUTING_UPDATE};
@@ -39,6 +39,11 @@ impl Row {
 
     pub fn is_usable(&self, time: Moment) -> bool {
         !self.withdrawn && time.since(self.time) <= USABLE_AGE
+    }
+
+    /// For how many more ms a usable row stays so.
+    fn left(&self, time: Moment) -> u32 {
+        USABLE_AGE - time.since(self.time)
     }
 
     pub fn is_gone(&self, time: Moment) -> bool {
@@ -81,6 +86,8 @@ pub struct Table {
 pub struct Route {
     pub next_hop: u16,
     pub hops: u8,
+    /// For how many more ms it stays usable.
+    pub left: u32,
 }
 
 /// The calls.
@@ -197,7 +204,7 @@ impl Table {
     pub(crate) fn route(&self, used: usize, destination: u16, time: Moment) -> Result<Route, Refusal> {
         match self.rows[..used].get(self.place(used, destination)) {
             Some(row) if row.destination == destination && row.is_usable(time) => {
-                Ok(Route { next_hop: row.next_hop, hops: row.hops })
+                Ok(Route { next_hop: row.next_hop, hops: row.hops, left: row.left(time) })
             }
             _ => Err(Refusal::NoRoute),
         }

@@ -26,7 +26,7 @@ pub enum Refusal {
     Quality = 9,
     /// The ttl is used up, and the frame is not for this unit.
     Ttl = 10,
-    /// There is no usable route.
+    /// There is no usable route, or it has less time left than the caller names.
     NoRoute = 11,
     /// Every member row is live.
     Full = 12,

@@ -133,12 +133,12 @@ static void take_payload(struct node *self, uint32_t source, const uint8_t *payl
 /* A frame for this node is taken, any other waits for a slot, with its next hop. */
 static void hear_data(struct node *self, const uint8_t *bytes, size_t length)
 {
-    uint32_t place, now = clock_ms(self->address);
+    uint32_t place, left, now = clock_ms(self->address);
     struct packet copy;
     struct frame frame;
     if (!read_frame(bytes, length, &frame) ||
-        braidlark_relay(self->table, sizeof self->table, bytes, length, now, copy.bytes, sizeof copy.bytes, &copy.to,
-                        &place, &copy.length) != BRAIDLARK_ACCEPTED)
+        braidlark_relay(self->table, sizeof self->table, bytes, length, now, LEAST_LEFT_MS, copy.bytes,
+                        sizeof copy.bytes, &copy.to, &place, &copy.length, &left) != BRAIDLARK_ACCEPTED)
         return; /* no way on, or its time to live is over: nothing was written, and nothing is sent */
     note_sender(self, frame.fields[BRAIDLARK_FIELD_DATA_SOURCE]);
     if (copy.to == 0)

@@ -61,8 +61,9 @@ bool node_send(struct node *self, uint16_t destination, const uint8_t *payload, 
         [BRAIDLARK_FIELD_DATA_SEQUENCE] = self->sequence, [BRAIDLARK_FIELD_DATA_COUNT] = length};
     struct packet packet;
     uint8_t hops;
-    if (braidlark_lookup(self->table, sizeof self->table, destination, clock_ms(self->address), &packet.to, &hops) !=
-            BRAIDLARK_ACCEPTED ||
+    uint32_t left;
+    if (braidlark_lookup(self->table, sizeof self->table, destination, clock_ms(self->address), &packet.to, &hops,
+                         &left) != BRAIDLARK_ACCEPTED ||
         !packet_write(&packet, fields, BRAIDLARK_FIELDS_DATA, payload, length))
         return false;
     self->sequence++;

@@ -19,6 +19,7 @@ enum {
     UPDATE_EVERY_MS = 60000, /* well below BRAIDLARK_USABLE_MS, so that a lost page loses no route */
     RENEW_EVERY_MS = 90000,  /* well below BRAIDLARK_LIVE_MS, for the same reason */
     LET_GO_MS = BRAIDLARK_LIVE_MS - 1000, /* a unit stops counting on its slots before the manager may give them away */
+    LEAST_LEFT_MS = 0,                    /* that a route needs for a frame to be relayed by it: 0 names no time */
     TIME_TO_LIVE = 8,
     MOST_WAITING = 8,
     ORDER = 1 /* the first byte of a payload that is no frame: the valve's setting follows */

@@ -56,7 +56,8 @@ static bool knows_head(int relay, uint32_t now)
 {
     uint16_t next_hop;
     uint8_t hops;
-    return braidlark_lookup(tables[relay], sizeof tables[relay], address_of(HEAD), now, &next_hop, &hops) ==
+    uint32_t left;
+    return braidlark_lookup(tables[relay], sizeof tables[relay], address_of(HEAD), now, &next_hop, &hops, &left) ==
            BRAIDLARK_ACCEPTED;
 }
 

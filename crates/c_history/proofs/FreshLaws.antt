@@ -22,26 +22,29 @@ use Rattle.c_history.proofs.StoredLaws.{status-same, sized-after, fresh
 
 -- what the bytes of a table answer is what it answers as a value
 module _ (t : Table) (z : Sized t) (k : Clock) (times : Times) (answers : AnswersHeard t k times) where
-  by-lookup : (d time nextHop hops : ℕ)
-      → let call = lookupCall (tableBytes t) d time nextHop hops in call .status ≡ 0 → Heard (times (call .nextHop)) (nowAt k time)
+  by-lookup : (d time nextHop hops left : ℕ)
+      → let call = lookupCall (tableBytes t) d time nextHop hops left in call .status ≡ 0 → Heard (times (call .nextHop)) (nowAt k time) (call .left)
   unfolding lookupCall
-  by-lookup d time nextHop hops q =
-      let n = sym (status-same t z (lookup d time) (λ i. getD (nextHop ∷ hops ∷ []) i 0)) ∙ q in
+  by-lookup d time nextHop hops left q =
+      let n = sym (status-same t z (lookup d time) (λ i. getD (nextHop ∷ hops ∷ left ∷ []) i 0)) ∙ q in
       rw (reads-back t z, writes-tables t z, n) (answers time .0 d n)
 
-  by-relay : (frame : List ℕ) (time : ℕ) (out : List ℕ) (nextHop place extent : ℕ)
-      → let call = relayCall (tableBytes t) frame time out nextHop place extent in
-      call .status ≡ 0 → (call .nextHop ≡ 0 → ⊥) → Heard (times (call .nextHop)) (nowAt k time)
+  by-relay : (frame : List ℕ) (time least : ℕ) (out : List ℕ) (nextHop place extent left : ℕ)
+      → let call = relayCall (tableBytes t) frame time least out nextHop place extent left in
+      call .status ≡ 0 → (call .nextHop ≡ 0 → ⊥) → Heard (times (call .nextHop)) (nowAt k time) (call .left)
   unfolding relayCall
-  by-relay frame time out nextHop place extent q some =
-      let n = sym (status-same t z (relay frame time out) (λ i. getD (nextHop ∷ place ∷ extent ∷ []) i 0)) ∙ q in
-      let hop : relayCall (tableBytes t) frame time out nextHop place extent .nextHop ≡ relayOf t frame time out .answer .«next_hop» = rw (reads-back t z, writes-tables t z, n) in
-      subst (λ (x : ℕ). Heard (times x) (nowAt k time)) (sym hop) (go (relayOf t frame time out .answer .ours) refl n (λ y. some (hop ∙ y)))
+  by-relay frame time least out nextHop place extent left q some =
+      let n = sym (status-same t z (relay frame time least out) (λ i. getD (nextHop ∷ place ∷ extent ∷ left ∷ []) i 0)) ∙ q in
+      let call = relayCall (tableBytes t) frame time least out nextHop place extent left in
+      let hop : call .nextHop ≡ relayOf t frame time least out .answer .«next_hop» = rw (reads-back t z, writes-tables t z, n) in
+      let lasts : call .left ≡ relayOf t frame time least out .answer .left = rw (reads-back t z, writes-tables t z, n) in
+      rw (hop, lasts) (go (relayOf t frame time least out .answer .ours) refl n (λ y. some (hop ∙ y)))
     where
-      go : (ours : Bool) → relayOf t frame time out .answer .ours ≡ ours → relayOf t frame time out .answer .refused ≡ 0
-          → (relayOf t frame time out .answer .«next_hop» ≡ 0 → ⊥) → Heard (times (relayOf t frame time out .answer .«next_hop»)) (nowAt k time)
-      go true o n h = absurd (h (relay-no-hop t frame time out o))
-      go false o n h = answers time .1 frame out n o
+      go : (ours : Bool) → relayOf t frame time least out .answer .ours ≡ ours → relayOf t frame time least out .answer .refused ≡ 0
+          → (relayOf t frame time least out .answer .«next_hop» ≡ 0 → ⊥)
+          → Heard (times (relayOf t frame time least out .answer .«next_hop»)) (nowAt k time) (relayOf t frame time least out .answer .left)
+      go true o n h = absurd (h (relay-no-hop t frame time least out o))
+      go false o n h = answers time .1 frame least out n o
 
   answers-in-c : AnswersHeardInC (tableBytes t) k times
   answers-in-c = (by-lookup, by-relay)

@@ -98,7 +98,7 @@ sized-next t (forget unit time) (u, h) z = by-call Sized (forgetOf t unit time .
 sized-next t (forward network manager s delay time out) (n, m, b, d, h, o) z =
     by-call Sized (forwardOf t network manager s delay time out .answer .refused) t _ (forward-kept t network manager s delay time out) z (forwarded-sized t z network manager s delay time out m b h)
 sized-next t (lookup d time) m z = z
-sized-next t (relay s time out) m z = z
+sized-next t (relay s time least out) m z = z
 sized-next t (page p time out) m z = z
 
 pub sized-kept : SizedKept

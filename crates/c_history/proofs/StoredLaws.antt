@@ -41,7 +41,7 @@ module _ (t : Table) (z : Sized t) where
       let passed = forwardOf t network manager s delay time out .answer in
       rw (reads-back t z) (changed (passed .refused) (passed .table) (forward-kept t network manager s delay time out))
   table-same (lookup d time) filled = refl
-  table-same (relay s time out) filled = refl
+  table-same (relay s time least out) filled = refl
   table-same (page p time out) filled = refl
 
   -- and its status is what the call on the table says
@@ -51,7 +51,7 @@ module _ (t : Table) (z : Sized t) where
   status-same (forget unit time) filled = rw (reads-back t z, writes-tables t z)
   status-same (forward network manager s delay time out) filled = rw (reads-back t z, writes-tables t z)
   status-same (lookup d time) filled = rw (reads-back t z, writes-tables t z)
-  status-same (relay s time out) filled = rw (reads-back t z, writes-tables t z)
+  status-same (relay s time least out) filled = rw (reads-back t z, writes-tables t z)
   status-same (page p time out) filled = rw (reads-back t z, writes-tables t z)
 
 -- ---- calls one after the other
@@ -101,7 +101,7 @@ refused-leaves s (merge frame quality time) filled z = rw (ne-eqb _ 0 z)
 refused-leaves s (forget unit time) filled z = rw (ne-eqb _ 0 z)
 refused-leaves s (forward network manager frame delay time out) filled z = rw (ne-eqb _ 0 z)
 refused-leaves s (lookup d time) filled z = rw (ne-eqb _ 0 z)
-refused-leaves s (relay frame time out) filled z = rw (ne-eqb _ 0 z)
+refused-leaves s (relay frame time least out) filled z = rw (ne-eqb _ 0 z)
 refused-leaves s (page p time out) filled z = rw (ne-eqb _ 0 z)
 
 pub only-for-pages-in-c : OnlyForPagesInC

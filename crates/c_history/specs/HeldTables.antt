@@ -12,8 +12,8 @@ use Rattle.route_forwards.specs.Forwards.{forwardCall}
 use Rattle.c_routes.specs.RelayCalls.{relayCall}
 
 -- ---- one call
--- a call from C: its arguments, and what the numbers that it fills held before, by their place among them: of a lookup the next hop is number 0 and the
--- hops are 1, of a relay the next hop is 0, the place 1 and the extent 2; a merge, a forward and a page fill one number
+-- a call from C: its arguments, and what the numbers that it fills held before, by their place among them: of a lookup the next hop is number 0, the hops are
+-- 1 and what is left is 2, of a relay the next hop is 0, the place 1, the extent 2 and what is left 3; a merge, a forward and a page fill one number
 pub record InC : Type 0 where
   pub call : Call
   pub filled : ℕ → ℕ
@@ -24,7 +24,7 @@ Machine (merge frame quality time) = Bytes frame × (quality < 0x100) × (time <
 Machine (forget unit time) = (unit < 0x10000) × (time < 0x100000000)
 Machine (forward network manager frame delay time out) = (network < 0x10000) × (manager < 0x10000) × Bytes frame × (delay < 0x100000000) × (time < 0x100000000) × Bytes out
 Machine (lookup d time) = (d < 0x10000) × (time < 0x100000000)
-Machine (relay frame time out) = Bytes frame × (time < 0x100000000) × Bytes out
+Machine (relay frame time least out) = Bytes frame × (time < 0x100000000) × (least < 0x100000000) × Bytes out
 Machine (page p time out) = (p < 0x100000000) × (time < 0x100000000) × Bytes out
 
 -- the caller's memory that a call may write: the table's buffer, the buffer for a frame, empty where it takes none, and the numbers that it fills
@@ -41,8 +41,8 @@ abbrev pub handedIn : List ℕ → Call → (ℕ → ℕ) → Memory
 handedIn s (merge frame quality time) filled = holds s [] (filled 0 ∷ [])
 handedIn s (forget unit time) filled = holds s [] []
 handedIn s (forward network manager frame delay time out) filled = holds s out (filled 0 ∷ [])
-handedIn s (lookup d time) filled = holds s [] (filled 0 ∷ filled 1 ∷ [])
-handedIn s (relay frame time out) filled = holds s out (filled 0 ∷ filled 1 ∷ filled 2 ∷ [])
+handedIn s (lookup d time) filled = holds s [] (filled 0 ∷ filled 1 ∷ filled 2 ∷ [])
+handedIn s (relay frame time least out) filled = holds s out (filled 0 ∷ filled 1 ∷ filled 2 ∷ filled 3 ∷ [])
 handedIn s (page p time out) filled = holds s out (filled 0 ∷ [])
 
 -- the status of the call, and what that memory holds when it returns. Merge, forget and forward may write the table's buffer; the others only read it
@@ -61,11 +61,11 @@ returned s (forward network manager frame delay time out) filled =
     let call = forwardCall s network manager frame delay time out (filled 0) in
     record { status = call .status; memory = holds (call .table) (call .out) (call .written ∷ []) }
 returned s (lookup d time) filled =
-    let call = lookupCall s d time (filled 0) (filled 1) in
-    record { status = call .status; memory = holds s [] (call .nextHop ∷ call .hops ∷ []) }
-returned s (relay frame time out) filled =
-    let call = relayCall s frame time out (filled 0) (filled 1) (filled 2) in
-    record { status = call .status; memory = holds s (call .out) (call .nextHop ∷ call .place ∷ call .extent ∷ []) }
+    let call = lookupCall s d time (filled 0) (filled 1) (filled 2) in
+    record { status = call .status; memory = holds s [] (call .nextHop ∷ call .hops ∷ call .left ∷ []) }
+returned s (relay frame time least out) filled =
+    let call = relayCall s frame time least out (filled 0) (filled 1) (filled 2) (filled 3) in
+    record { status = call .status; memory = holds s (call .out) (call .nextHop ∷ call .place ∷ call .extent ∷ call .left ∷ []) }
 returned s (page p time out) filled =
     let call = pageCall s p time out (filled 0) in
     record { status = call .status; memory = holds s (call .out) (call .written ∷ []) }

@@ -3,8 +3,9 @@
 use mathlib.Core.Path.{_≡_}
 use mathlib.Core.Bool.{true}
 use mathlib.Core.List.{List, [], map}
-use Prim.Native.Nat.{ℕ, _%_, _^_, _<_}
+use Prim.Native.Nat.{ℕ, suc, _-_, _%_, _^_, _<_, _≤_}
 use Rattle.octets.specs.Layouts.{Bytes}
+use Rattle.moments.specs.Moments.{ageAt}
 use Rattle.moments.specs.Elapsed.{Clock, started, nowAt, lastOf, Timely, IsTrue}
 use Rattle.octets.specs.Addresses.{address}
 use Rattle.route_table.specs.declared.table.Table.{Table}
@@ -15,7 +16,7 @@ use Rattle.route_bytes.specs.TableBytes.{tableIn, tableBytes, isTable}
 use Rattle.route_bytes.specs.TableTrips.{Sized}
 use Rattle.route_history.specs.TableCalls.{Call, merge, next, afterCalls, recorded, stepOf, clockOf, heardFrom}
 use Rattle.route_history.specs.TableLaws.{Times, Heard, Accounts, wrongPage}
-use Rattle.c_routes.specs.TableCalls.{freshCall, lookupCall}
+use Rattle.c_routes.specs.TableCalls.{freshCall, lookupLeft, lookupCall}
 use Rattle.route_merges.specs.StoredMerges.{mergeCall}
 use Rattle.c_routes.specs.RelayCalls.{relayCall}
 use Rattle.c_history.specs.HeldTables.{InC, Machine, handedIn, returned, status, afterCallsInC, recordedInC, AllMachine, callsOf}
@@ -57,14 +58,28 @@ OnlyForPagesInC =
 
 -- ---- freshness
 -- where `braidlark_lookup` answers 0, and where `braidlark_relay` answers 0 and a next hop that is not 0, that next hop was heard: updates from it have
--- been accepted, the last of them at most 300,000 ms before, in elapsed ms
+-- been accepted, the last of them at most 300,000 ms before, less those that the call says are left, in elapsed ms
 abbrev pub AnswersHeardInC : List ℕ → Clock → Times → Type 0
 AnswersHeardInC s k times =
-    ((d time nextHop hops : ℕ)
-    → let call = lookupCall s d time nextHop hops in call .status ≡ 0 → Heard (times (call .nextHop)) (nowAt k time))
-    × ((frame : List ℕ) (time : ℕ) (out : List ℕ) (nextHop place extent : ℕ)
-    → let call = relayCall s frame time out nextHop place extent in
-    call .status ≡ 0 → (call .nextHop ≡ 0 → ⊥) → Heard (times (call .nextHop)) (nowAt k time))
+    ((d time nextHop hops left : ℕ)
+    → let call = lookupCall s d time nextHop hops left in call .status ≡ 0 → Heard (times (call .nextHop)) (nowAt k time) (call .left))
+    × ((frame : List ℕ) (time least : ℕ) (out : List ℕ) (nextHop place extent left : ℕ)
+    → let call = relayCall s frame time least out nextHop place extent left in
+    call .status ≡ 0 → (call .nextHop ≡ 0 → ⊥) → Heard (times (call .nextHop)) (nowAt k time) (call .left))
+
+-- what `braidlark_lookup` says is left of a route can be relied on while no call changes the buffer: asked again within so many ms it answers the same next
+-- hop and hops, and that so many are left as then remain; one ms later it is 11
+pub record LastsAsTold (s : List ℕ) (d time : ℕ) : Type 0 where
+  pub lasts : (again nextHop hops left nextHop′ hops′ left′ : ℕ)
+      → let first = lookupCall s d time nextHop hops left in
+      first .status ≡ 0 → ageAt again time ≤ first .left
+      → lookupCall s d again nextHop′ hops′ left′ ≡ lookupLeft 0 (first .nextHop) (first .hops) (first .left - ageAt again time)
+  pub ends : (again nextHop hops left nextHop′ hops′ left′ : ℕ)
+      → let first = lookupCall s d time nextHop hops left in
+      first .status ≡ 0 → ageAt again time ≡ suc (first .left) → lookupCall s d again nextHop′ hops′ left′ ≡ lookupLeft 11 nextHop′ hops′ left′
+
+abbrev pub LastsInC : Type 0
+LastsInC = (s : List ℕ) (d time : ℕ) → LastsAsTold s d time
 
 -- a statement about a buffer, its clock and when units were heard, said of them after calls, by the record of these
 abbrev pub AfterInC : (List ℕ → Clock → Times → Type 0) → List ℕ → Clock → Times → List InC → Type 0

@@ -26,10 +26,11 @@ freshly = freshCall (replicate 539 7) 1 began .table
 abbrev pub bufferThen : List ℕ
 bufferThen = afterCallsInC freshly heardOnce
 
--- the lookup of unit 2 answers it up to an age of 300,000 ms, and is then refused with 11; by then 300,005 ms have elapsed since the beginning
+-- the lookup of unit 2 answers it up to an age of 300,000 ms, when none are left, and is then refused with 11; by then 300,005 ms have elapsed since the
+-- beginning
 abbrev pub AnswersAtLast : Type 0
 AnswersAtLast =
     (freshCall (replicate 539 7) 1 began .status ≡ 0)
-    × (lookupCall bufferThen 2 299995 0 0 ≡ lookupLeft 0 2 1)
-    × (lookupCall bufferThen 2 299996 0 0 ≡ lookupLeft 11 0 0)
+    × (lookupCall bufferThen 2 299995 0 0 7 ≡ lookupLeft 0 2 1 0)
+    × (lookupCall bufferThen 2 299996 0 0 7 ≡ lookupLeft 11 0 0 7)
     × (nowAt (clockOf (started began) (recordedInC freshly heardOnce)) 299995 ≡ 300005)

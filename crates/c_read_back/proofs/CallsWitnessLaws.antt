@@ -44,7 +44,7 @@ read-once = (refl, refl)
 
 pub relayed-once : RelayedOnce
 unfolding tab every num digits xors ageAt inOrder isSealed readRefusal sealed pad withinRule lookupOf relayRefusal relayOf rowAt tableIn tableBytes isTable relayCall
-relayed-once = refl
+relayed-once = (refl, refl)
 
 pub delivered-once : DeliveredOnce
 unfolding tab every num digits xors ageAt inOrder isSealed readRefusal sealed pad withinRule lookupOf relayRefusal relayOf rowAt tableIn tableBytes isTable relayCall

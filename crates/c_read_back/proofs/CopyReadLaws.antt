@@ -16,9 +16,9 @@ use Rattle.route_relays.proofs.RelayLaws.{Onward, onward, onto, relay-number, r
 use Rattle.c_read_back.specs.FramesRead.{Copied, CopiesRead}
 
 -- ---- a frame that is passed on
-module _ (t : Table) (s : List ℕ) (time : ℕ) (out : List ℕ) (b : Bytes s) (e : relayRefusal t s time (length out) ≡ 0) (o : forUs t s ≡ false) where
-  known : Onward t s time (length out)
-  known = onward t s time (length out) e o
+module _ (t : Table) (s : List ℕ) (time least : ℕ) (out : List ℕ) (b : Bytes s) (e : relayRefusal t s time least (length out) ≡ 0) (o : forUs t s ≡ false) where
+  known : Onward t s time least (length out)
+  known = onward t s time least (length out) e o
 
   abbrev values : List ℕ
   values = dataValues (passedOn (dataIn s))
@@ -39,7 +39,7 @@ module _ (t : Table) (s : List ℕ) (time : ℕ) (out : List ℕ) (b : Bytes s) 
   sent = rw (take-sets out (copyOf s) (length (copyOf s)) refl (known .fits)) copied
 
 pub copies-are-read : CopiesRead
-copies-are-read t s time out b z o =
-    let unrefused = sym (relay-number t s time out) ∙ z in
-    let other = sym (relay-ours t s time out z) ∙ o in
-    subst (λ (w : Relaying). Copied s (take (w .answer .size) (w .held))) (onto t s time out unrefused other) (sent t s time out b unrefused other)
+copies-are-read t s time least out b z o =
+    let unrefused = sym (relay-number t s time least out) ∙ z in
+    let other = sym (relay-ours t s time least out z) ∙ o in
+    subst (λ (w : Relaying). Copied s (take (w .answer .size) (w .held))) (onto t s time least out unrefused other) (sent t s time least out b unrefused other)

@@ -36,8 +36,8 @@ ResponsesReadInC =
 -- a relay that answers a next hop: the copy stands in the buffer, at the place and with the length that it tells
 abbrev pub CopiesReadInC : Type 0
 CopiesReadInC =
-    (s frame : List ℕ) (time : ℕ) (out : List ℕ) (nextHop place extent : ℕ) → Bytes frame
-    → let r = relayCall s frame time out nextHop place extent in
+    (s frame : List ℕ) (time least : ℕ) (out : List ℕ) (nextHop place extent left : ℕ) → Bytes frame
+    → let r = relayCall s frame time least out nextHop place extent left in
     r .status ≡ 0 → (r .nextHop ≡ 0 → ⊥) → Copied frame (take (r .extent) (drop (r .place) (r .out)))
 
 -- a data frame for this unit, and where its payload stands in it: behind the fields, as many bytes as the frame says
@@ -49,12 +49,13 @@ pub record Delivered (own : ℕ) (s : List ℕ) (place extent : ℕ) : Type 0 wh
   pub sized : extent ≡ frame .count
   pub payload : take extent (drop place s) ≡ partIn dataKind s
 
--- a relay that answers no next hop: the frame is for this unit, place and length are those of the payload in the frame, and the buffer is as it was
+-- a relay that answers no next hop: the frame is for this unit, place and length are those of the payload in the frame, the buffer is as it was, and no time is
+-- left, whatever time was named
 abbrev pub PayloadTold : Type 0
 PayloadTold =
-    (s frame : List ℕ) (time : ℕ) (out : List ℕ) (nextHop place extent : ℕ)
-    → let r = relayCall s frame time out nextHop place extent in
-    r .status ≡ 0 → r .nextHop ≡ 0 → Delivered (tableIn s .own) frame (r .place) (r .extent) × (r .out ≡ out)
+    (s frame : List ℕ) (time least : ℕ) (out : List ℕ) (nextHop place extent left : ℕ)
+    → let r = relayCall s frame time least out nextHop place extent left in
+    r .status ≡ 0 → r .nextHop ≡ 0 → Delivered (tableIn s .own) frame (r .place) (r .extent) × (r .out ≡ out) × (r .left ≡ 0)
 
 -- a forward
 abbrev pub ForwardsReadInC : Type 0

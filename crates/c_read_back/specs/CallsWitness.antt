@@ -36,18 +36,20 @@ ReadOnce =
 abbrev pub table : Table
 table = withRows (emptyTable 1 0) 0 (record { destination = 9; «next_hop» = 2; hops = 2; quality = 200; time = 0; withdrawn = false } ∷ [])
 
--- the message goes on to unit 2 with ttl 1
+-- the message goes on to unit 2 with ttl 1, on a route that has 299,995 ms left, as the caller asks; with one ms more it is 11
 abbrev pub RelayedOnce : Type 0
 RelayedOnce =
-    relayCall (tableBytes table) message 5 (replicate 12 0) 0 0 0
-    ≡ relayLeft 0 (0x11 ∷ 5 ∷ 0 ∷ 9 ∷ 0 ∷ 1 ∷ 4 ∷ 0 ∷ 1 ∷ 7 ∷ 0x1E ∷ 0 ∷ []) 2 0 11
+    (relayCall (tableBytes table) message 5 299995 (replicate 12 0) 0 0 0 0
+    ≡ relayLeft 0 (0x11 ∷ 5 ∷ 0 ∷ 9 ∷ 0 ∷ 1 ∷ 4 ∷ 0 ∷ 1 ∷ 7 ∷ 0x1E ∷ 0 ∷ []) 2 0 11 299995)
+    × (relayCall (tableBytes table) message 5 299996 (replicate 12 0) 0 0 0 0 ≡ relayLeft 11 (replicate 12 0) 0 0 0 0)
 
--- a message of two bytes from unit 5 to unit 1 is for this unit: they stand at place 9 of the frame, and nothing is written, whatever room there is
+-- a message of two bytes from unit 5 to unit 1 is for this unit: they stand at place 9 of the frame, and nothing is written, whatever room there is and
+-- whatever time is named
 abbrev pub messageForUs : List ℕ
 messageForUs = 0x11 ∷ 5 ∷ 0 ∷ 1 ∷ 0 ∷ 1 ∷ 4 ∷ 0 ∷ 2 ∷ 7 ∷ 8 ∷ 0x1D ∷ []
 
 abbrev pub DeliveredOnce : Type 0
-DeliveredOnce = relayCall (tableBytes table) messageForUs 5 (77 ∷ []) 77 77 77 ≡ relayLeft 0 (77 ∷ []) 0 9 2
+DeliveredOnce = relayCall (tableBytes table) messageForUs 5 300001 (77 ∷ []) 77 77 77 77 ≡ relayLeft 0 (77 ∷ []) 0 9 2 0
 
 -- a beacon of unit 9 that unit 2 sent at hop 1, with a delay of 10, goes on from unit 1 at hop 2, with a delay of 15
 abbrev pub beaconFrom : ℕ → ℕ → ℕ → List ℕ

@@ -95,8 +95,8 @@ pub record Copied (s copy : List ℕ) : Type 0 where
 -- where relaying passes a frame on, as many bytes as it says at the start of the buffer are the copy
 abbrev pub CopiesRead : Type 0
 CopiesRead =
-    (t : Table) (s : List ℕ) (time : ℕ) (out : List ℕ) → Bytes s
-    → let relayed = relayOf t s time out in
+    (t : Table) (s : List ℕ) (time least : ℕ) (out : List ℕ) → Bytes s
+    → let relayed = relayOf t s time least out in
     let answer = relayed .answer in answer .refused ≡ 0 → answer .ours ≡ false → Copied s (take (answer .size) (relayed .held))
 
 -- ---- beacons

@@ -14,30 +14,30 @@ use Rattle.route_in_place.specs.Lookups.{lookupIn}
 use Rattle.c_routes.specs.TableCalls.{freshCall, LookupLeft, lookupLeft, lookupCall}
 
 -- ---- looking up, in bytes that are a table or in others
-module _ (destination time nextHop hops : ℕ) (s : List ℕ) (found : Found) (e : found ≡ lookupIn s destination time) where
+module _ (destination time nextHop hops left : ℕ) (s : List ℕ) (found : Found) (e : found ≡ lookupIn s destination time) where
   abbrev inside : Found
   inside = lookupOf (tableIn s) destination time
 
-  abbrev left : Bool → LookupLeft
-  left known =
+  abbrev leaves : Bool → LookupLeft
+  leaves known =
       let status = cond known (inside .refused) 14 in
-      lookupLeft status (after status nextHop (inside .«next_hop»)) (after status hops (inside .hops))
+      lookupLeft status (after status nextHop (inside .«next_hop»)) (after status hops (inside .hops)) (after status left (inside .left))
 
-  pub hop-found : found .refused ≡ 0 → lookupLeft 0 (found .«next_hop») (found .hops) ≡ lookupCall s destination time nextHop hops
+  pub hop-found : found .refused ≡ 0 → lookupLeft 0 (found .«next_hop») (found .hops) (found .left) ≡ lookupCall s destination time nextHop hops left
   unfolding lookupCall lookupIn
   hop-found z = go (isTable s) e
     where
-      go : (b : Bool) → found ≡ cond b inside (foundOr 14 none) → lookupLeft 0 (found .«next_hop») (found .hops) ≡ left b
+      go : (b : Bool) → found ≡ cond b inside (foundOr 14 none 0) → lookupLeft 0 (found .«next_hop») (found .hops) (found .left) ≡ leaves b
       go true q = rw (← q, z)
       go false q = absurd (omega (arith, z, ap (λ (f : Found). f .refused) q))
 
-  pub none-found : (found .refused ≡ 0 → ⊥) → lookupLeft (found .refused) nextHop hops ≡ lookupCall s destination time nextHop hops
+  pub none-found : (found .refused ≡ 0 → ⊥) → lookupLeft (found .refused) nextHop hops left ≡ lookupCall s destination time nextHop hops left
   unfolding lookupCall lookupIn
   none-found z = go (isTable s) e
     where
-      go : (b : Bool) → found ≡ cond b inside (foundOr 14 none) → lookupLeft (found .refused) nextHop hops ≡ left b
+      go : (b : Bool) → found ≡ cond b inside (foundOr 14 none 0) → lookupLeft (found .refused) nextHop hops left ≡ leaves b
       go true q = rw (← q, ne-eqb (found .refused) 0 z)
-      go false q = ap (λ (f : Found). lookupLeft (f .refused) nextHop hops) q
+      go false q = ap (λ (f : Found). lookupLeft (f .refused) nextHop hops left) q
 
 -- ---- a fresh table
 module _ (s : List ℕ) (own time : ℕ) (fresh : Changed) (e : fresh ≡ freshOf own time) (n : ℕ) (f : n ≡ cond (not (eqb (length s) 539)) 14 (fresh .refused)) where

@@ -16,17 +16,18 @@ freshCall s own time =
 unfoldable pub forgetCall : List ℕ → ℕ → ℕ → TableLeft
 forgetCall s unit time = changedBy s (λ t. forgetOf t unit time)
 
--- ---- looking up: the status, the next hop and the hops
+-- ---- looking up: the status, the next hop, the hops, and the ms for which the row is usable
 pub record LookupLeft : Type 0 where
   pub status : ℕ
   pub nextHop : ℕ
   pub hops : ℕ
+  pub left : ℕ
 
-abbrev pub lookupLeft : ℕ → ℕ → ℕ → LookupLeft
-lookupLeft status nextHop hops = record { status = status; nextHop = nextHop; hops = hops }
+abbrev pub lookupLeft : ℕ → ℕ → ℕ → ℕ → LookupLeft
+lookupLeft status nextHop hops left = record { status = status; nextHop = nextHop; hops = hops; left = left }
 
-unfoldable pub lookupCall : List ℕ → ℕ → ℕ → ℕ → ℕ → LookupLeft
-lookupCall s destination time nextHop hops =
+unfoldable pub lookupCall : List ℕ → ℕ → ℕ → ℕ → ℕ → ℕ → LookupLeft
+lookupCall s destination time nextHop hops left =
     let found = lookupOf (tableIn s) destination time in
     let status = storedTable s (found .refused) in
-    lookupLeft status (after status nextHop (found .«next_hop»)) (after status hops (found .hops))
+    lookupLeft status (after status nextHop (found .«next_hop»)) (after status hops (found .hops)) (after status left (found .left))

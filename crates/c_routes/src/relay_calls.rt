@@ -15,27 +15,30 @@ fn start(ours: bool) -> u32
     if ours { 9 } else { 0 }
 }
 
-// Relays a data frame. For this unit: next hop 0, and where the payload starts in the frame and how long it is. Else: the next hop, place 0, and
-// how many bytes were written.
+// Relays a data frame, on a route that has at least so many ms left. For this unit: next hop 0, and where the payload starts in the frame and how long it
+// is. Else: the next hop, place 0, how many bytes were written, and for how many ms more the route is usable.
 #[no_mangle]
 pub extern "C" fn braidlark_relay(
     table: &[u8],
     frame: &[u8],
     time: u32,
+    least_left: u32,
     out: &mut [u8],
     next_hop: &mut u16,
     place: &mut u32,
     length: &mut u32,
+    left: &mut u32,
 ) -> u8
-    ensures { λ r. ⌜ relayLeft r (now (out .exit)) (now («next_hop» .exit)) (now (place .exit)) (now (length .exit)) ≡ relayCall (now (table .entry)) (now (frame .entry)) time (now (out .entry)) (now («next_hop» .entry)) (now (place .entry)) (now (length .entry)) ⌝ }
+    ensures { λ r. ⌜ relayLeft r (now (out .exit)) (now («next_hop» .exit)) (now (place .exit)) (now (length .exit)) (now (left .exit)) ≡ relayCall (now (table .entry)) (now (frame .entry)) time «least_left» (now (out .entry)) (now («next_hop» .entry)) (now (place .entry)) (now (length .entry)) (now (left .entry)) ⌝ }
 {
-    let relayed = relay_in(table, frame, time, out);
+    let relayed = relay_in(table, frame, time, least_left, out);
     if relayed.refused != 0 {
         return relayed.refused;
     }
     *next_hop = relayed.next_hop;
     *place = start(relayed.ours);
     *length = relayed.size as u32;
+    *left = relayed.left;
     0
 }
 

@@ -24,7 +24,7 @@ pub extern "C" fn braidlark_table_fresh(table: &mut [u8], own: u16, time: u32) -
     0
 }
 
-// Answers the next hop to a destination, and how many hops it is away.
+// Answers the next hop to a destination, how many hops it is away, and for how many ms more the route is usable.
 #[no_mangle]
 pub extern "C" fn braidlark_lookup(
     table: &[u8],
@@ -32,8 +32,9 @@ pub extern "C" fn braidlark_lookup(
     time: u32,
     next_hop: &mut u16,
     hops: &mut u8,
+    left: &mut u32,
 ) -> u8
-    ensures { λ r. ⌜ lookupLeft r (now («next_hop» .exit)) (now (hops .exit)) ≡ lookupCall (now (table .entry)) destination time (now («next_hop» .entry)) (now (hops .entry)) ⌝ }
+    ensures { λ r. ⌜ lookupLeft r (now («next_hop» .exit)) (now (hops .exit)) (now (left .exit)) ≡ lookupCall (now (table .entry)) destination time (now («next_hop» .entry)) (now (hops .entry)) (now (left .entry)) ⌝ }
 {
     let found = lookup(table, destination, time);
     if found.refused != 0 {
@@ -41,6 +42,7 @@ pub extern "C" fn braidlark_lookup(
     }
     *next_hop = found.next_hop;
     *hops = found.hops;
+    *left = found.left;
     0
 }
 

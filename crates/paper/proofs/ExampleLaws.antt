@@ -6,6 +6,9 @@ use Rattle.octets.specs.Sums.{xors}
 use Rattle.frame_kinds.specs.Reading.{isSealed, readRefusal}
 use Rattle.frame_kinds.specs.Shape.{sealed}
 use Rattle.frames.specs.Frames.{readFrame}
+use Rattle.octets.specs.Lists.{every}
+use Rattle.route_table.specs.Rows.{pad}
+use Rattle.route_table.specs.Tables.{withinRule, lookupOf}
 use Rattle.site_plan.specs.Plans.{slotsIn, planOf}
 use Rattle.moments.specs.Moments.{ageAt, inOrder}
 use Rattle.frame_beacons.specs.EitherBeacons.{eitherRefusal, eitherIn, refusalFor}
@@ -15,5 +18,5 @@ use Rattle.paper.specs.Examples.{examplesWith, allSame, AsInThePaper}
 use Rattle.paper.proofs.StoryLaws.{story-told}
 
 pub as-in-the-paper : AsInThePaper
-unfolding readFrame readRefusal isSealed sealed num digits xors planOf slotsIn ageAt inOrder signed wrapped drift halved correction corrected eitherRefusal eitherIn refusalFor rankOf chosenOf
+unfolding readFrame readRefusal isSealed sealed num digits xors planOf slotsIn ageAt inOrder signed wrapped drift halved correction corrected eitherRefusal eitherIn refusalFor rankOf chosenOf every pad withinRule lookupOf
 as-in-the-paper = ap (λ (told : List (List ℕ)). allSame (examplesWith told)) story-told ∙ refl

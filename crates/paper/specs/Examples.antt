@@ -14,6 +14,8 @@ use Rattle.frame_requests.specs.Requests.{joinRequest, joinRequestValues}
 use Rattle.frames.specs.Frames.{readFrame}
 use Rattle.frame_kinds.specs.Shape.{frameOf}
 use Rattle.book_image.specs.Forms.{same}
+use Rattle.route_table.specs.declared.table.Table.{Table}
+use Rattle.route_table.specs.Tables.{withRows, emptyTable, lookupOf}
 use Rattle.site_plan.specs.declared.plan.Plan.{Plan}
 use Rattle.site_plan.specs.Plans.{active, slots, superframeMs, planOf, longBeacons, shortBeacons}
 use Rattle.paper.specs.Story.{story}
@@ -63,6 +65,15 @@ shortAt hop = frameOf shortBeacon (0x0201 ∷ 1 ∷ 70 ∷ 1000 ∷ hop ∷ 5000
 -- what choosing between two frames says to a unit of a network: the number, and which of the two
 abbrev pub chosen : ℕ → Heard → Heard → List ℕ
 chosen network a b = let c = chosenOf network a b in c .refused ∷ c .which ∷ []
+
+-- ---- document 02's route that has so long left
+-- unit 1 heard at 0 of unit 9, two hops away by unit 2
+abbrev pub routes : Table
+routes = withRows (emptyTable 1 0) 0 (record { destination = 9; «next_hop» = 2; hops = 2; quality = 200; time = 0; withdrawn = false } ∷ [])
+
+-- what its lookup says at a time: the number, the next hop, the hops, and what is left
+abbrev pub looked : ℕ → List ℕ
+looked time = let f = lookupOf routes 9 time in f .refused ∷ f .«next_hop» ∷ f .hops ∷ f .left ∷ []
 
 -- ---- what a drift leaves
 -- a number with its sign as a list: 1 below zero and else 0, then the magnitude
@@ -124,6 +135,11 @@ examplesWith told =
     -- where neither will do, the first's own number
     record { computed = chosen 2 (heard (shortAt 1) 60) (heard joinBytes 60); paper = 15 ∷ 0 ∷ [] } ∷
     record { computed = chosen 2 (heard joinBytes 60) (heard (shortAt 1) 60); paper = 2 ∷ 0 ∷ [] } ∷
+    -- at age 0 a route has 300,000 ms left, at 299,999 one, at 300,000 none and is still answered; then it is 11
+    record { computed = looked 0; paper = 0 ∷ 2 ∷ 2 ∷ 300000 ∷ [] } ∷
+    record { computed = looked 299999; paper = 0 ∷ 2 ∷ 2 ∷ 1 ∷ [] } ∷
+    record { computed = looked 300000; paper = 0 ∷ 2 ∷ 2 ∷ 0 ∷ [] } ∷
+    record { computed = looked 300001; paper = 11 ∷ 0 ∷ 0 ∷ 0 ∷ [] } ∷
     []
 
 abbrev pub allSame : List Example → Bool

@@ -8,15 +8,15 @@ use Rattle.moments.specs.Moments.{ageAt, inOrder}
 use Rattle.moments.proofs.MomentLaws.{ages-add}
 use Rattle.route_table.specs.declared.row.Row.{Row}
 use Rattle.route_table.specs.declared.table.Table.{Table}
-use Rattle.route_table.specs.Rows.{rowRule, forgotten, rowFor}
+use Rattle.route_table.specs.Rows.{leftAt, rowRule, forgotten, rowFor}
 use Rattle.route_table.specs.Tables.{rowsOf, lookupOf}
 use Rattle.route_table.proofs.KeepLaws.{by-forgotten}
-use Rattle.route_table.proofs.LookupLaws.{Led, led}
+use Rattle.route_table.proofs.LookupLaws.{Led, led, led-every}
 use Rattle.route_table.proofs.RuleLaws.{ruled}
 use Rattle.route_table.proofs.TableLaws.{within}
 use Rattle.route_merges.specs.declared.candidate.Candidate.{Candidate}
 use Rattle.route_merges.specs.Learning.{rowBy}
-use Rattle.route_merges.proofs.LearnLaws.{Kept, row-for-every}
+use Rattle.route_merges.proofs.LearnLaws.{Kept}
 use Rattle.route_history.specs.TableLaws.{Times, Heard, since, borne, before, Accounts}
 
 -- ---- time passes
@@ -82,24 +82,19 @@ module _ (t : Table) (k : Clock) (times : Times) (a : Accounts t k times) (d tim
   f : Led t d time
   f = led t d time z
 
-  -- what holds of every row holds of the one that answers
-  known : (test : Row → Bool) → every test (rowsOf t) ≡ true → test row ≡ true
-  known test e =
-      ⊎-elim (λ h. h) (λ n. absurd (address-some d (f .unit) (sym (f .same) ∙ ap (λ (x : Row). x .destination) n))) (row-for-every test d (rowsOf t) e)
-
   by-last : (ts : List ℕ) → times (row .«next_hop») ≡ ts → ageAt time (row .time) ≤ 300000 → ageAt time (row .time) ≡ ageAt time (t .time) + ageAt (t .time) (row .time)
-      → since (k .elapsed) (ageAt (t .time) (row .time)) ts ≡ true → before (k .elapsed) ts ≡ true → Heard (times (row .«next_hop»)) (k .elapsed + ageAt time (t .time))
+      → since (k .elapsed) (ageAt (t .time) (row .time)) ts ≡ true → before (k .elapsed) ts ≡ true → Heard (times (row .«next_hop»)) (k .elapsed + ageAt time (t .time)) (leftAt time row)
   by-last [] q young adds b e = absurd (false≢true b)
   by-last (last ∷ earlier) q young adds b e =
       let l = leb-true last (k .elapsed) (and-eq-true-iff (leb last (k .elapsed)) (before (k .elapsed) earlier) .0 e .0) in
       let m = leb-true (k .elapsed) (last + ageAt (t .time) (row .time)) b in
       record { last = last; earlier = earlier; were = q; past = omega arith; recent = omega arith }
 
-  pub heard : Heard (times (row .«next_hop»)) (nowAt k time)
+  pub heard : Heard (times (row .«next_hop»)) (nowAt k time) (leftAt time row)
   heard =
       let (live, young) = and-eq-true-iff (not (row .withdrawn)) (leb (ageAt time (row .time)) 300000) .0 (f .carries) in
-      let past = ruled (t .own) (t .time) row (known (rowRule (t .own) (t .time)) (within t (f .within) .rules)) .past in
-      let b = known (borne (k .elapsed) (t .time) times) (a .rows) in
-      subst (λ (last : ℕ). Heard (times (row .«next_hop»)) (k .elapsed + ageAt time last)) (sym (a .shown))
+      let past = ruled (t .own) (t .time) row (led-every t d time z (rowRule (t .own) (t .time)) (within t (f .within) .rules)) .past in
+      let b = led-every t d time z (borne (k .elapsed) (t .time) times) (a .rows) in
+      subst (λ (last : ℕ). Heard (times (row .«next_hop»)) (k .elapsed + ageAt time last) (leftAt time row)) (sym (a .shown))
       (by-last (times (row .«next_hop»)) refl (leb-true _ _ young) (ages-add (row .time) (t .time) time past (f .timely))
       (rw (not-true (row .withdrawn) live) at b) (a .past (row .«next_hop»)))

@@ -124,7 +124,7 @@ module _ (t : Table) (k : Clock) (times : Times) (g : Good t k times) where
   accepted-good (forget unit time) z = forgotten-good unit time z
   accepted-good (forward network manager s delay time out) z = forwarded-good network manager s delay time out z
   accepted-good (lookup d time) z = g
-  accepted-good (relay s time out) z = g
+  accepted-good (relay s time least out) z = g
   accepted-good (page p time out) z = g
 
 -- ---- those that are refused
@@ -147,7 +147,7 @@ refused-keeps t (merge s quality time) z = merge-kept t s quality time z
 refused-keeps t (forget unit time) z = forget-kept t unit time z
 refused-keeps t (forward network manager s delay time out) z = forward-kept t network manager s delay time out z
 refused-keeps t (lookup d time) z = refl
-refused-keeps t (relay s time out) z = refl
+refused-keeps t (relay s time least out) z = refl
 refused-keeps t (page p time out) z = refl
 
 -- ---- any call

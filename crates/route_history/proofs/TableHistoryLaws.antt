@@ -5,7 +5,7 @@ use Rattle.octets.specs.Answers.{first}
 use Rattle.octets.proofs.AnswerLaws.{unless-number, none-holds}
 use Rattle.moments.specs.Elapsed.{Clock, nowAt}
 use Rattle.route_table.specs.declared.table.Table.{Table}
-use Rattle.route_table.specs.Tables.{withinRule}
+use Rattle.route_table.specs.Tables.{withinRule, lookupOf}
 use Rattle.route_table.proofs.DroppedLaws.{dropped-lookup, dropped-forget, dropped-forgets}
 use Rattle.route_table.proofs.KeepLaws.{fresh-within, forget-within}
 use Rattle.route_table.proofs.LookupLaws.{lookup-told, led}
@@ -25,13 +25,16 @@ use Rattle.route_history.proofs.StepLaws.{good-after, good-fresh}
 -- ---- freshness
 answers-heard : (t : Table) (k : Clock) (times : Times) → Accounts t k times → AnswersHeard t k times
 answers-heard t k times a time = (
-  λ d z. rw (lookup-told t d time z) (heard t k times a d time z),
-  λ s out z o.
-      let n = sym (relay-number t s time out) ∙ z in
-      let other = sym (relay-ours t s time out z) ∙ o in
-      subst (λ (w : Relaying). Heard (times (w .answer .«next_hop»)) (nowAt k time)) (onto t s time out n other)
-      (heard t k times a (dataIn s .destination) time (onward t s time (length out) n other .found)),
+  by-lookup,
+  λ s least out z o.
+      let n = sym (relay-number t s time least out) ∙ z in
+      let other = sym (relay-ours t s time least out z) ∙ o in
+      subst (λ (w : Relaying). Heard (times (w .answer .«next_hop»)) (nowAt k time) (w .answer .left)) (onto t s time least out n other)
+      (by-lookup (dataIn s .destination) (onward t s time least (length out) n other .found)),
 )
+  where
+    by-lookup : (d : ℕ) → lookupOf t d time .refused ≡ 0 → Heard (times (lookupOf t d time .«next_hop»)) (nowAt k time) (lookupOf t d time .left)
+    by-lookup d z = rw (lookup-told t d time z) (heard t k times a d time z)
 
 accounts-after : FromFresh Accounts
 accounts-after own began cs z = good-fresh own began cs z .accounts
@@ -61,13 +64,13 @@ keeps-rule = (fresh-within, every-call)
     every-call t (forget unit time) e = forget-within t unit time e
     every-call t (forward network manager s delay time out) e = forward-within t network manager s delay time out e
     every-call t (lookup d time) e = led t d time e .within
-    every-call t (relay s time out) e = unrefused t s time (length out) (sym (relay-number t s time out) ∙ e) .0
+    every-call t (relay s time least out) e = unrefused t s time least (length out) (sym (relay-number t s time least out) ∙ e) .0
     every-call t (page p time out) e = paged t p time out e
 
 -- ---- gone rows
 -- the answer to a call that is not about a next hop
 abbrev plain : ℕ → ℕ → ℕ → List ℕ → Answer
-plain refused skipped size held = record { refused = refused; ours = false; nextHop = 0; hops = 0; skipped = skipped; size = size; held = held }
+plain refused skipped size held = record { refused = refused; ours = false; nextHop = 0; hops = 0; left = 0; skipped = skipped; size = size; held = held }
 
 pub gone-rows-do-not-matter : GoneRowsDoNotMatter
 gone-rows-do-not-matter t (merge s quality time) e =
@@ -80,5 +83,5 @@ gone-rows-do-not-matter t (forward network manager s delay time out) e =
     let held = forward-held time t e network manager s delay out in
     (λ i. plain (refusal i) 0 (written i) (held i), λ z c. forward-table time t e network manager s delay out z)
 gone-rows-do-not-matter t (lookup d time) e = (rw (dropped-lookup time t e d), λ z c. absurd (false≢true c))
-gone-rows-do-not-matter t (relay s time out) e = (rw (relay-alike time t e s out), λ z c. absurd (false≢true c))
+gone-rows-do-not-matter t (relay s time least out) e = (rw (relay-alike time t e s least out), λ z c. absurd (false≢true c))
 gone-rows-do-not-matter t (page p time out) e = (rw (page-alike time t e p out), λ z c. absurd (false≢true c))

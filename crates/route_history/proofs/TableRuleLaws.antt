@@ -37,10 +37,10 @@ module _ (t : Table) (w : withinRule t ≡ true) where
   lookup-never d time =
       never-given 14 (lookupReasons t d time) some-number (ap not w, _)
 
-  relay-never : (s : List ℕ) (time room : ℕ) → relayRefusal t s time room ≡ 14 → ⊥
+  relay-never : (s : List ℕ) (time least room : ℕ) → relayRefusal t s time least room ≡ 14 → ⊥
   unfolding relayRefusal
-  relay-never s time room =
-      never-given 14 (relayReasons t s time room) some-number (ap not w, (read-never dataKind s, _))
+  relay-never s time least room =
+      never-given 14 (relayReasons t s time least room) some-number (ap not w, (read-never dataKind s, _))
 
   page-never : (p time room : ℕ) → pageThere (standing time (rowsOf t)) p ≡ true → pageRefusal t p time room ≡ 14 → ⊥
   page-never p time room there =
@@ -52,7 +52,7 @@ module _ (t : Table) (w : withinRule t ≡ true) where
   only-pages (forget unit time) e = absurd (forget-never unit time e)
   only-pages (forward network manager s delay time out) e = absurd (forward-never network manager s delay time (length out) e)
   only-pages (lookup d time) e = absurd (lookup-never d time e)
-  only-pages (relay s time out) e = absurd (relay-never s time (length out) (sym (relay-number t s time out) ∙ e))
+  only-pages (relay s time least out) e = absurd (relay-never s time least (length out) (sym (relay-number t s time least out) ∙ e))
   only-pages (page p time out) e = only-so (pageThere (standing time (rowsOf t)) p) (λ there. page-never p time (length out) there (sym (unless-number _ _) ∙ e))
 
 pub only-for-pages : OnlyForPages

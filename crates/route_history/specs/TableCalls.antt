@@ -24,8 +24,8 @@ pub data Call : Type 0 where
   forward : ℕ → ℕ → List ℕ → ℕ → ℕ → List ℕ → Call
   -- a destination, the time
   lookup : ℕ → ℕ → Call
-  -- a data frame, the time, the buffer
-  relay : List ℕ → ℕ → List ℕ → Call
+  -- a data frame, the time, the ms that its route is to have left, the buffer
+  relay : List ℕ → ℕ → ℕ → List ℕ → Call
   -- a page's number, the time, the buffer
   page : ℕ → ℕ → List ℕ → Call
 
@@ -45,20 +45,21 @@ about (merge s quality time) = record { time = time; changes = true; brings = λ
 about (forget unit time) = changing time true
 about (forward network manager s delay time out) = changing time true
 about (lookup d time) = changing time false
-about (relay s time out) = changing time false
+about (relay s time least out) = changing time false
 about (page p time out) = changing time false
 
 abbrev pub timeOf : Call → ℕ
 timeOf c = about c .time
 
 -- ---- what a call gives
--- what its caller sees: the number, and by name what the call gives, 0 where it gives no such thing: whether a frame is for this unit, a next hop and its
--- hops, how many candidates found no room, how many bytes were written or are a payload's; and what its buffer then holds
+-- what its caller sees: the number, and by name what the call gives, 0 where it gives no such thing: whether a frame is for this unit, a next hop, its hops
+-- and the ms for which its row is usable, how many candidates found no room, how many bytes were written or are a payload's; and what its buffer then holds
 pub record Answer : Type 0 where
   pub refused : ℕ
   pub ours : Bool
   pub nextHop : ℕ
   pub hops : ℕ
+  pub left : ℕ
   pub skipped : ℕ
   pub size : ℕ
   pub held : List ℕ
@@ -71,24 +72,24 @@ pub record Outcome : Type 0 where
 -- of a call that gives a number, and may fill a buffer
 abbrev gives : ℕ → ℕ → List ℕ → Table → Outcome
 gives refused size held table =
-    record { answer = record { refused = refused; ours = false; nextHop = 0; hops = 0; skipped = 0; size = size; held = held }; table = table }
+    record { answer = record { refused = refused; ours = false; nextHop = 0; hops = 0; left = 0; skipped = 0; size = size; held = held }; table = table }
 
 -- merge, forget and forward hand a table back, also where they are refused; the others only read
 abbrev pub outcome : Table → Call → Outcome
 outcome t (merge s quality time) =
     let m = mergeOf t s quality time in
-    record { answer = record { refused = m .refused; ours = false; nextHop = 0; hops = 0; skipped = m .skipped; size = 0; held = [] }; table = m .table }
+    record { answer = record { refused = m .refused; ours = false; nextHop = 0; hops = 0; left = 0; skipped = m .skipped; size = 0; held = [] }; table = m .table }
 outcome t (forget unit time) = let f = forgetOf t unit time in gives (f .refused) 0 [] (f .table)
 outcome t (forward network manager s delay time out) =
     let f = forwardOf t network manager s delay time out in
     gives (f .answer .refused) (f .answer .written) (f .held) (f .answer .table)
 outcome t (lookup d time) =
     let f = lookupOf t d time in
-    record { answer = record { refused = f .refused; ours = false; nextHop = f .«next_hop»; hops = f .hops; skipped = 0; size = 0; held = [] }; table = t }
-outcome t (relay s time out) =
-    let r = relayOf t s time out in
+    record { answer = record { refused = f .refused; ours = false; nextHop = f .«next_hop»; hops = f .hops; left = f .left; skipped = 0; size = 0; held = [] }; table = t }
+outcome t (relay s time least out) =
+    let r = relayOf t s time least out in
     let a = r .answer in
-    record { answer = record { refused = a .refused; ours = a .ours; nextHop = a .«next_hop»; hops = 0; skipped = 0; size = a .size; held = r .held }; table = t }
+    record { answer = record { refused = a .refused; ours = a .ours; nextHop = a .«next_hop»; hops = 0; left = a .left; skipped = 0; size = a .size; held = r .held }; table = t }
 outcome t (page p time out) = let w = pageOf t p time out in gives (w .said .refusal) (writtenIn w) (w .held) t
 
 abbrev pub answer : Table → Call → Answer

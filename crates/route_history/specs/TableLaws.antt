@@ -21,21 +21,21 @@ use Rattle.route_history.specs.TableCalls.{Call, merge, forget, forward,
 abbrev pub Times : Type 0
 Times = ℕ → List ℕ
 
--- some were, and the last of them no later than now and at most 300,000 ms before
-pub record Heard (times : List ℕ) (now : ℕ) : Type 0 where
+-- some were, and the last of them no later than now and at most 300,000 ms before, less those that are left
+pub record Heard (times : List ℕ) (now left : ℕ) : Type 0 where
   pub last : ℕ
   pub earlier : List ℕ
   pub were : times ≡ last ∷ earlier
   pub past : last ≤ now
-  pub recent : now ≤ last + 300000
+  pub recent : now + left ≤ last + 300000
 
--- where a lookup or a relay answers a next hop, that unit was heard
+-- where a lookup or a relay answers a next hop, that unit was heard, the longer ago the less time is left
 abbrev pub AnswersHeard : Table → Clock → Times → Type 0
 AnswersHeard t k times =
     (time : ℕ)
-    → ((d : ℕ) → let found = lookupOf t d time in found .refused ≡ 0 → Heard (times (found .«next_hop»)) (nowAt k time))
-    × ((s out : List ℕ)
-    → let relayed = relayOf t s time out .answer in relayed .refused ≡ 0 → relayed .ours ≡ false → Heard (times (relayed .«next_hop»)) (nowAt k time))
+    → ((d : ℕ) → let found = lookupOf t d time in found .refused ≡ 0 → Heard (times (found .«next_hop»)) (nowAt k time) (found .left))
+    × ((s : List ℕ) (least : ℕ) (out : List ℕ)
+    → let relayed = relayOf t s time least out .answer in relayed .refused ≡ 0 → relayed .ours ≡ false → Heard (times (relayed .«next_hop»)) (nowAt k time) (relayed .left))
 
 -- a statement about a table, its clock and when units were heard, said of them after a list of calls, accepted or refused, by the record of these
 abbrev pub After : (Table → Clock → Times → Type 0) → Table → Clock → Times → List Call → Type 0
@@ -106,7 +106,7 @@ wrongPage t (merge s quality time) = false
 wrongPage t (forget unit time) = false
 wrongPage t (forward network manager s delay time out) = false
 wrongPage t (lookup d time) = false
-wrongPage t (relay s time out) = false
+wrongPage t (relay s time least out) = false
 wrongPage t (page p time out) = not (pageThere (standing time (rowsOf t)) p)
 
 abbrev pub OnlyForPages : Type 0

@@ -65,11 +65,11 @@ gather-first s time = record { within = omega arith; few = omega arith; counted 
 
 -- ---- a lookup
 module _ (s : List ℕ) (d time : ℕ) where
-  pub lookup-none : holdsTable s ≡ false → lookupIn s d time ≡ foundOr 14 none
+  pub lookup-none : holdsTable s ≡ false → lookupIn s d time ≡ foundOr 14 none 0
   unfolding lookupIn holdsTable
   lookup-none e = go (isTable s) refl
     where
-      go : (b : _) → isTable s ≡ b → cond b (lookupOf (tableIn s) d time) (foundOr 14 none) ≡ foundOr 14 none
+      go : (b : _) → isTable s ≡ b → cond b (lookupOf (tableIn s) d time) (foundOr 14 none 0) ≡ foundOr 14 none 0
       go true q = not-looked-up (tableIn s) d time (rw q at e)
       go false q = refl
 

@@ -9,4 +9,4 @@ use Rattle.route_bytes.specs.StoredTables.{onTable}
 
 -- what a lookup in the table that they hold answers, 14 where they hold none
 unfoldable pub lookupIn : List ℕ → ℕ → ℕ → Found
-lookupIn s destination time = onTable s (λ t. lookupOf t destination time) (foundOr 14 none)
+lookupIn s destination time = onTable s (λ t. lookupOf t destination time) (foundOr 14 none 0)

@@ -30,12 +30,12 @@ pub fn row_for(s: &[u8], destination: u16) -> Row
     Row::none()
 }
 
-// The next hop to a destination, by a row that is usable at this time.
+// The next hop to a destination, by a row that is usable at this time, and for how long it is.
 pub fn lookup(s: &[u8], destination: u16, time: u32) -> Found
     ensures { λ r. ⌜ r ≡ lookupIn (now (s .entry)) destination time ⌝ }
 {
     if !holds_table(s) {
-        return found_or(Refusal::RULE, Row::none());
+        return found_or(Refusal::RULE, Row::none(), 0);
     }
     found_by(number32(s, 2), row_for(s, destination), destination, time)
 }

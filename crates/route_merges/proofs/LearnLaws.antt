@@ -1,26 +1,15 @@
 -- What every row keeps while candidates are learned.
 -- Assumes nothing.
-use Rattle.octets.proofs.Words.{_≡_, refl, sym, _∙_, Bool, true, false, cond, and-eq-true-iff, and-false, false≢true, List, [], _∷_, _⊎_, inl, inr, ⊎-elim, ℕ, _<_, arith, eqb-true, ne-eqb, ltb-true, eqb, length}
+use Rattle.octets.proofs.Words.{_≡_, sym, _∙_, Bool, true, false, and-false, false≢true, List, [], _∷_, _⊎_, inl, inr, ⊎-elim, ℕ, _<_, arith, eqb-true, ne-eqb, ltb-true, eqb, length}
 use Rattle.octets.specs.Lists.{every, Each}
 use Rattle.octets.proofs.TestLaws.{of-cond}
 use Rattle.octets.proofs.OrderLaws.{put-every}
 use Rattle.route_table.specs.declared.row.Row.{Row}
+use Rattle.route_table.proofs.HasLaws.{row-for-every}
 use Rattle.route_table.specs.Rows.{leadingTo, none, usable, withdrawnAt, rowFor}
 use Rattle.route_merges.specs.declared.candidate.Candidate.{Candidate}
 use Rattle.route_merges.specs.Candidates.{bad}
 use Rattle.route_merges.specs.Learning.{put, rowBy, givesWay, takenBack, Learned, met, newTo, learn, learnAll}
-
--- what holds of every row holds of the one that is looked up, if there is one
-pub row-for-every : (test : Row → Bool) (d : ℕ) (rs : List Row) → every test rs ≡ true → (test (rowFor d rs) ≡ true) ⊎ (rowFor d rs ≡ none)
-unfolding every
-row-for-every test d [] e = inr refl
-row-for-every test d (r ∷ rs) e =
-    let (here, later) = and-eq-true-iff (test r) (every test rs) .0 e in
-    go (eqb (r .destination) d) here (row-for-every test d rs later)
-  where
-    go : (b : Bool) → test r ≡ true → (test (rowFor d rs) ≡ true) ⊎ (rowFor d rs ≡ none) → (test (cond b r (rowFor d rs)) ≡ true) ⊎ (cond b r (rowFor d rs) ≡ none)
-    go true here later = inl here
-    go false here later = later
 
 module _ (P : List Row → Type 0) (via time : ℕ) where
   -- rows change only by the candidate's own row, where its destination has a row or there is room for one, or by one that is taken back

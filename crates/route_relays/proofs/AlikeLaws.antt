@@ -8,14 +8,14 @@ use Rattle.route_table.proofs.DroppedLaws.{dropped-within, dropped-lookup}
 use Rattle.route_relays.specs.Relays.{dataIn, relayRefusal, relayOf, handedBack}
 
 module _ (time : ℕ) (t : Table) (e : withinRule t ≡ true) where
-  relay-refusal : (s : List ℕ) (room : ℕ) → relayRefusal (dropped time t) s time room ≡ relayRefusal t s time room
+  relay-refusal : (s : List ℕ) (least room : ℕ) → relayRefusal (dropped time t) s time least room ≡ relayRefusal t s time least room
   unfolding relayRefusal
-  relay-refusal s room = rw (dropped-within time t e, e, dropped-lookup time t e (dataIn s .destination))
+  relay-refusal s least room = rw (dropped-within time t e, e, dropped-lookup time t e (dataIn s .destination))
 
-  pub relay-alike : (s out : List ℕ) → relayOf (dropped time t) s time out ≡ relayOf t s time out
+  pub relay-alike : (s : List ℕ) (least : ℕ) (out : List ℕ) → relayOf (dropped time t) s time least out ≡ relayOf t s time least out
   unfolding relayOf
-  relay-alike s out = rw (relay-refusal s (length out), dropped-lookup time t e (dataIn s .destination))
+  relay-alike s least out = rw (relay-refusal s least (length out), dropped-lookup time t e (dataIn s .destination))
 
   pub handed-alike : (s : Lent) → handedBack (dropped time t) s time ≡ handedBack t s time
   unfolding handedBack
-  handed-alike s = rw (relay-refusal (s .bytes) 0)
+  handed-alike s = rw (relay-refusal (s .bytes) 0 0)

@@ -26,12 +26,13 @@ use route_table::table::found_by;
 use route_table::table::row_for;
 
 // What relaying answers. A frame for this unit has no next hop, and its size is the payload's, which `handed_back` hands back; of any other it is the copy's
-// that was written. Where it is refused it is not for this unit, and the numbers are 0.
+// that was written. `left` is for how many ms more the route of a copy is usable. Where it is refused it is not for this unit, and the numbers are 0.
 pub struct Relayed {
     pub refused: u8,
     pub ours: bool,
     pub next_hop: u16,
     pub size: usize,
+    pub left: u32,
 }
 
 fn one_less(ttl: u8) -> u8
@@ -53,16 +54,25 @@ fn passed_on(header: DataHeader) -> DataHeader
 }
 
 // Why a frame is not relayed by a table within rule, of which this is known: its unit, its last accepted time, and what it answers to a lookup of the
-// frame's destination; 0 where it is.
-fn refusal(own: u16, last: u32, found: Found, frame: &[u8], time: u32, room: usize) -> u8
-    ensures { λ r. ⌜ r ≡ first (unrelayedReasons own last found (now (frame .entry)) time room) ⌝ }
+// frame's destination; 0 where it is. A route with less than `least` ms left will not do.
+fn refusal(
+    own: u16,
+    last: u32,
+    found: Found,
+    frame: &[u8],
+    time: u32,
+    least: u32,
+    room: usize,
+) -> u8
+    ensures { λ r. ⌜ r ≡ first (unrelayedReasons own last found (now (frame .entry)) time least room) ⌝ }
 {
     let header = DataHeader::of(frame);
     let unread = DataHeader::refusal(frame);
     let other = !(header.destination == own);
     let size = payload(frame).len() + 10;
     let refused = refuse_if(other & (room < size), Refusal::ROOM, 0);
-    let refused = refuse_if(other & !(found.refused == 0), Refusal::NO_ROUTE, refused);
+    let too_short = !(found.refused == 0) | (found.left < least);
+    let refused = refuse_if(other & too_short, Refusal::NO_ROUTE, refused);
     let refused = refuse_if(other & (header.ttl <= 1), Refusal::TTL, refused);
     let refused = refuse_if(!in_order(last, time), Refusal::EARLIER, refused);
     let refused = refuse_if(header.source == own, Refusal::OWN, refused);
@@ -84,6 +94,7 @@ fn unwritten(refused: u8, count: u8) -> Relayed
         ours: refused == 0,
         next_hop: 0,
         size: count_if(refused == 0, count),
+        left: 0,
     }
 }
 
@@ -99,11 +110,19 @@ fn put_frame(out: &mut [u8], header: DataHeader, part: &[u8])
 
 // Relays by a table within rule, of which this is known. A payload for this unit is told and nothing is written; any other frame is written with its ttl
 // one less.
-fn relay_by(own: u16, last: u32, found: Found, frame: &[u8], time: u32, out: &mut [u8]) -> Relayed
-    ensures { λ r. ⌜ relayed r (now (out .exit)) ≡ relayBy own last found (now (frame .entry)) time (now (out .entry)) ⌝ }
+fn relay_by(
+    own: u16,
+    last: u32,
+    found: Found,
+    frame: &[u8],
+    time: u32,
+    least: u32,
+    out: &mut [u8],
+) -> Relayed
+    ensures { λ r. ⌜ relayed r (now (out .exit)) ≡ relayBy own last found (now (frame .entry)) time least (now (out .entry)) ⌝ }
 {
     let header = DataHeader::of(frame);
-    let refused = refusal(own, last, found, frame, time, out.len());
+    let refused = refusal(own, last, found, frame, time, least, out.len());
     if (refused == 0) & !(header.destination == own) {
         let part = payload(frame);
         put_frame(out, passed_on(header), part);
@@ -112,13 +131,14 @@ fn relay_by(own: u16, last: u32, found: Found, frame: &[u8], time: u32, out: &mu
             ours: false,
             next_hop: found.next_hop,
             size: part.len() + 10,
+            left: found.left,
         };
     }
     unwritten(refused, header.count)
 }
 
-pub fn relay(table: Table, frame: &[u8], time: u32, out: &mut [u8]) -> Relayed
-    ensures { λ r. ⌜ relayed r (now (out .exit)) ≡ relayOf table (now (frame .entry)) time (now (out .entry)) ⌝ }
+pub fn relay(table: Table, frame: &[u8], time: u32, least: u32, out: &mut [u8]) -> Relayed
+    ensures { λ r. ⌜ relayed r (now (out .exit)) ≡ relayOf table (now (frame .entry)) time least (now (out .entry)) ⌝ }
 {
     if !table.within_rule() {
         return unwritten(Refusal::RULE, 0);
@@ -126,12 +146,12 @@ pub fn relay(table: Table, frame: &[u8], time: u32, out: &mut [u8]) -> Relayed
     let to = DataHeader::of(frame).destination;
     let rows = table.rows;
     let found = found_by(table.time, row_for(rows, to), to, time);
-    relay_by(table.own, table.time, found, frame, time, out)
+    relay_by(table.own, table.time, found, frame, time, least, out)
 }
 
 // Relays by the table that bytes hold.
-pub fn relay_in(table: &[u8], frame: &[u8], time: u32, out: &mut [u8]) -> Relayed
-    ensures { λ r. ⌜ relayed r (now (out .exit)) ≡ relayIn (now (table .entry)) (now (frame .entry)) time (now (out .entry)) ⌝ }
+pub fn relay_in(table: &[u8], frame: &[u8], time: u32, least: u32, out: &mut [u8]) -> Relayed
+    ensures { λ r. ⌜ relayed r (now (out .exit)) ≡ relayIn (now (table .entry)) (now (frame .entry)) time least (now (out .entry)) ⌝ }
 {
     if !holds_table(table) {
         return unwritten(Refusal::RULE, 0);
@@ -139,7 +159,7 @@ pub fn relay_in(table: &[u8], frame: &[u8], time: u32, out: &mut [u8]) -> Relaye
     let head = head_of(table);
     let to = DataHeader::of(frame).destination;
     let found = found_by(head.time, finding::row_for(table, to), to, time);
-    relay_by(head.own, head.time, found, frame, time, out)
+    relay_by(head.own, head.time, found, frame, time, least, out)
 }
 
 // The payload of a frame that is relayed to this unit, as its part of the frame; nothing of any other.
@@ -152,7 +172,7 @@ pub fn handed_back(table: Table, frame: &[u8], time: u32) -> &[u8]
     let to = DataHeader::of(frame).destination;
     let rows = table.rows;
     let found = found_by(table.time, row_for(rows, to), to, time);
-    let refused = refusal(table.own, table.time, found, frame, time, 0);
+    let refused = refusal(table.own, table.time, found, frame, time, 0, 0);
     if (refused == 0) & (to == table.own) {
         return payload(frame);
     }

@@ -9,7 +9,7 @@ use Rattle.octets.proofs.AddressLaws.{address-some}
 use Rattle.octets.proofs.OrderLaws.{ascending-rest, ascending-above}
 use Rattle.route_table.specs.declared.row.Row.{Row}
 use Rattle.route_table.specs.declared.table.Table.{Table}
-use Rattle.route_table.specs.Rows.{leadingTo, none, usable, leads, stands, rowRule, forgotten, ascending, standing, rowFor}
+use Rattle.route_table.specs.Rows.{leadingTo, none, usable, leftAt, leads, stands, rowRule, forgotten, ascending, standing, rowFor}
 use Rattle.route_table.specs.Tables.{rowsOf, withinRule, withRows, dropped, lookupOf, forgetOf, foundOr}
 use Rattle.route_table.proofs.RuleLaws.{within-pad}
 use Rattle.route_table.proofs.StandingLaws.{used, in-use-used, in-use-pad, standing-every, standing-ascending}
@@ -79,13 +79,13 @@ alike time d h (r ∷ rs) e =
     go false false p q i a = record { test = rw p (i .test); row = λ f. rw p (i .row (rw p at f)) }
 
 -- ---- the calls
-answers : (a o x y : Bool) (p q : Row) → (a ≡ true → x ≡ y) → (a ≡ true → y ≡ true → p ≡ q)
-    → foundOr (first (reason false 14 ∷ reason (not a) 4 ∷ reason (not o) 8 ∷ reason (not x) 11 ∷ [])) p
-    ≡ foundOr (first (reason false 14 ∷ reason (not a) 4 ∷ reason (not o) 8 ∷ reason (not y) 11 ∷ [])) q
-answers false o x y p q f g = refl
-answers true false x y p q f g = refl
-answers true true x true p q f g = rw (f refl, g refl refl)
-answers true true x false p q f g = rw (f refl)
+answers : (time : ℕ) (a o x y : Bool) (p q : Row) → (a ≡ true → x ≡ y) → (a ≡ true → y ≡ true → p ≡ q)
+    → foundOr (first (reason false 14 ∷ reason (not a) 4 ∷ reason (not o) 8 ∷ reason (not x) 11 ∷ [])) p (leftAt time p)
+    ≡ foundOr (first (reason false 14 ∷ reason (not a) 4 ∷ reason (not o) 8 ∷ reason (not y) 11 ∷ [])) q (leftAt time q)
+answers time false o x y p q f g = refl
+answers time true false x y p q f g = refl
+answers time true true x true p q f g = rw (f refl, g refl refl)
+answers time true true x false p q f g = rw (f refl)
 
 given : (n : ℕ) (new old : Table) → n ≡ 0 → cond (eqb n 0) new old ≡ new
 given n new old z = rw (eq-eqb n 0 z)
@@ -96,7 +96,7 @@ module _ (time : ℕ) (t : Table) (e : withinRule t ≡ true) where
   dropped-lookup d =
       let same : (d ≡ 0 → ⊥) → Alike time d (standing time (rowsOf t)) (rowsOf t) = λ h. alike time d h (rowsOf t) (within t e .ascends) in
       rw (dropped-within time t e, e, dropped-rows time t)
-      (answers (address d) (inOrder (t .time) time) _ _ _ _ (λ a. same (address-some d a) .test)
+      (answers time (address d) (inOrder (t .time) time) _ _ _ _ (λ a. same (address-some d a) .test)
       (λ a. same (address-some d a) .row))
 
   pub dropped-forget : (unit : ℕ) → forgetOf (dropped time t) unit time .refused ≡ forgetOf t unit time .refused

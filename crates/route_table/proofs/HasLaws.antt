@@ -1,7 +1,7 @@
 -- The row for a destination among some rows, in any order: the first with it, what holds of it, and where it stands.
 -- Assumes nothing.
-use Rattle.octets.proofs.Words.{_≡_, sym, _∙_, List, [], _∷_, ℕ, suc, _<_, ℕ-discrete, arith, eq-eqb, ne-eqb, length, getD}
-use Rattle.octets.specs.Lists.{Each}
+use Rattle.octets.proofs.Words.{_≡_, refl, sym, _∙_, Bool, true, false, cond, and-eq-true-iff, List, [], _∷_, _⊎_, inl, inr, ℕ, suc, _<_, ℕ-discrete, arith, eq-eqb, ne-eqb, eqb, length, getD}
+use Rattle.octets.specs.Lists.{every, Each}
 use Rattle.route_table.specs.declared.row.Row.{Row}
 use Rattle.route_table.specs.Rows.{none, rowFor}
 
@@ -23,6 +23,18 @@ each-row P d z (r ∷ rs) e h = go (ℕ-discrete (r .destination) d) (each-row P
     go : Dec (r .destination ≡ d) → (Has d rs → P (rowFor d rs)) → P (rowFor d (r ∷ rs))
     go (yes q) ih = rw (row-first d r rs q) (e .0)
     go (no q) ih = rw (row-behind d r rs q) (ih (rw (row-behind d r rs q) at h))
+
+-- what holds of every row holds of the one that is looked up, if there is one
+pub row-for-every : (test : Row → Bool) (d : ℕ) (rs : List Row) → every test rs ≡ true → (test (rowFor d rs) ≡ true) ⊎ (rowFor d rs ≡ none)
+unfolding every
+row-for-every test d [] e = inr refl
+row-for-every test d (r ∷ rs) e =
+    let (here, later) = and-eq-true-iff (test r) (every test rs) .0 e in
+    go (eqb (r .destination) d) here (row-for-every test d rs later)
+  where
+    go : (b : Bool) → test r ≡ true → (test (rowFor d rs) ≡ true) ⊎ (rowFor d rs ≡ none) → (test (cond b r (rowFor d rs)) ≡ true) ⊎ (cond b r (rowFor d rs) ≡ none)
+    go true here later = inl here
+    go false here later = later
 
 -- where it stands
 pub place : (d : ℕ) → 0 < d → (rs : List Row) → Has d rs → (i : ℕ) × (i < length rs) × (getD rs i none ≡ rowFor d rs)

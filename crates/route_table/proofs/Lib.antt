@@ -1,6 +1,7 @@
 pub mod DroppedLaws
 pub mod HasLaws
 pub mod KeepLaws
+pub mod LeftLaws
 pub mod LookupLaws
 pub mod PlaceLaws
 pub mod RowLaws

@@ -1,3 +1,4 @@
+pub mod Left
 pub mod Places
 pub mod Rows
 pub mod Tables

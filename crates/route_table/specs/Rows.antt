@@ -21,6 +21,10 @@ none = record { destination = 0; «next_hop» = 0; hops = 0; quality = 0; time =
 abbrev pub usable : ℕ → Row → Bool
 usable time r = not (r .withdrawn) && leb (ageAt time (r .time)) 300000
 
+-- for how many ms more a row is usable: 300,000 less its age
+abbrev pub leftAt : ℕ → Row → ℕ
+leftAt time r = 300000 - ageAt time (r .time)
+
 -- traffic to a destination may go by a row: it is the destination's, and usable
 abbrev pub leads : ℕ → ℕ → Row → Bool
 leads d time r = eqb (r .destination) d && usable time r

@@ -15,7 +15,7 @@ use Rattle.route_table.specs.declared.table.Table.{Table}
 use Rattle.route_table.specs.declared.table.Changed.{Changed}
 use Rattle.route_table.specs.declared.table.Found.{Found}
 use Rattle.route_table.specs.declared.table.Head.{Head}
-use Rattle.route_table.specs.Rows.{none, usable, leads, rowRule, isNone, forgotten, ascending, inUse, pad, standing, rowFor}
+use Rattle.route_table.specs.Rows.{none, leftAt, leads, rowRule, isNone, forgotten, ascending, inUse, pad, standing, rowFor}
 
 -- the rows of a table, in order
 abbrev pub rowsOf : Table → List Row
@@ -65,11 +65,11 @@ emptyTable own time = record { own = own; time = time; forwarded = false; origin
 unfoldable pub freshOf : ℕ → ℕ → Changed
 freshOf own time = settled (first (reason (not (address own)) 4 ∷ [])) (emptyTable 0 0) (emptyTable own time)
 
--- what is found by a row, unless a number refuses it: its next hop and its hops; where it is refused, zeros
-abbrev pub foundOr : ℕ → Row → Found
-foundOr number r =
+-- what is found by a row that is usable for so many ms more, unless a number refuses it: its next hop, its hops and these; where it is refused, zeros
+abbrev pub foundOr : ℕ → Row → ℕ → Found
+foundOr number r left =
     let by = cond (eqb number 0) r none in
-    record { refused = number; «next_hop» = by .«next_hop»; hops = by .hops }
+    record { refused = number; «next_hop» = by .«next_hop»; hops = by .hops; left = cond (eqb number 0) left 0 }
 
 -- why a table within rule does not answer the lookup of a destination, with this last accepted time and this row for it: 4 8 11, ..
 abbrev pub foundReasons : ℕ → Row → ℕ → ℕ → List Reason
@@ -81,7 +81,7 @@ foundReasons last r d time =
 
 -- .. else what the row says
 unfoldable pub foundBy : ℕ → Row → ℕ → ℕ → Found
-foundBy last r d time = foundOr (first (foundReasons last r d time)) r
+foundBy last r d time = foundOr (first (foundReasons last r d time)) r (leftAt time r)
 
 -- lookup: 14, then these, of the table's own row, ..
 abbrev pub lookupReasons : Table → ℕ → ℕ → List Reason
@@ -92,7 +92,8 @@ lookupRefusal t d time = first (lookupReasons t d time)
 
 -- .. else what that row says
 unfoldable pub lookupOf : Table → ℕ → ℕ → Found
-lookupOf t d time = foundOr (lookupRefusal t d time) (rowFor d (rowsOf t))
+lookupOf t d time =
+    let row = rowFor d (rowsOf t) in foundOr (lookupRefusal t d time) row (leftAt time row)
 
 -- why a table within rule, of this unit and with this last accepted time, does not forget another: 4 6 8
 abbrev pub unforgottenReasons : ℕ → ℕ → ℕ → ℕ → List Reason

@@ -2,7 +2,7 @@
 ghost use mathlib.Core.Path.{_≡_};
 ghost use mathlib.Core.Bool.{cond};
 ghost use Rattle.route_table.specs.Places.{okRow};
-ghost use Rattle.route_table.specs.Rows.{none, usable, leads, stands, rowRule, isNone, withdrawnAt, lost, forgotten};
+ghost use Rattle.route_table.specs.Rows.{none, usable, leftAt, leads, stands, rowRule, isNone, withdrawnAt, lost, forgotten};
 use moments::age;
 use moments::in_order;
 use octets::addresses::is_address;
@@ -66,6 +66,18 @@ impl Row {
         ensures { λ r. ⌜ r ≡ usable time self ⌝ }
     {
         !self.withdrawn & (age(time, self.time) <= Row::USABLE_MS)
+    }
+
+    // For how many ms more it is usable.
+    pub fn left(self, time: u32) -> u32
+        ensures { λ r. ⌜ r ≡ leftAt time self ⌝ }
+    {
+        let old = age(time, self.time);
+        if old <= Row::USABLE_MS {
+            Row::USABLE_MS - old
+        } else {
+            0
+        }
     }
 
     // Whether traffic to a destination may go by it at this time.

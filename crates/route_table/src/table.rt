@@ -13,6 +13,7 @@ use moments::in_order;
 use octets::addresses::is_address;
 use octets::answers::Refusal;
 use octets::answers::refuse_if;
+use octets::choices::either32;
 
 // `forwarded` says whether a beacon was forwarded; `origin` and `sequence` are then the pair of the last one.
 pub struct Table {
@@ -39,11 +40,13 @@ pub struct Changed {
     pub table: Table,
 }
 
-// What a lookup answers: the number that refuses it, 0 where there is a next hop; where it is refused the others are 0.
+// What a lookup answers: the number that refuses it, 0 where there is a next hop, and for how many ms more its row is usable; where it is refused the
+// others are 0.
 pub struct Found {
     pub refused: u8,
     pub next_hop: u16,
     pub hops: u8,
+    pub left: u32,
 }
 
 // Whether each place may stand before the next.
@@ -136,15 +139,16 @@ pub fn settled(refused: u8, old: Table, new: Table) -> Changed
     }
 }
 
-// The answer by a row, unless a number refuses it.
-pub fn found_or(refused: u8, row: Row) -> Found
-    ensures { λ r. ⌜ r ≡ foundOr refused row ⌝ }
+// The answer by a row that is usable for so many ms more, unless a number refuses it.
+pub fn found_or(refused: u8, row: Row, left: u32) -> Found
+    ensures { λ r. ⌜ r ≡ foundOr refused row left ⌝ }
 {
     let by = either(refused == 0, row, Row::none());
     Found {
         refused,
         next_hop: by.next_hop,
         hops: by.hops,
+        left: either32(refused == 0, left, 0),
     }
 }
 
@@ -158,6 +162,7 @@ pub fn found_by(last: u32, row: Row, destination: u16, time: u32) -> Found
     found_or(
         refuse_if(!is_address(destination), Refusal::FIELD, refused),
         row,
+        row.left(time),
     )
 }
 
@@ -209,7 +214,7 @@ impl Table {
         ensures { λ r. ⌜ r ≡ lookupOf self destination time ⌝ }
     {
         if !self.within_rule() {
-            return found_or(Refusal::RULE, Row::none());
+            return found_or(Refusal::RULE, Row::none(), 0);
         }
         let rows = self.rows;
         found_by(self.time, row_for(rows, destination), destination, time)

@@ -31,11 +31,12 @@ module _ (t : Table) (z : Sized t) where
   unfolding pageCall
   sent-same p time e = rw (reads-back t z, writes-tables t z, e)
 
-  looked-up : (d time hop hops : ℕ)
+  looked-up : (d time hop hops left : ℕ)
       → let found = lookupOf t d time in
-      lookupCall (tableBytes t) d time hop hops ≡ lookupLeft (found .refused) (after (found .refused) hop (found .«next_hop»)) (after (found .refused) hops (found .hops))
+      lookupCall (tableBytes t) d time hop hops left
+      ≡ lookupLeft (found .refused) (after (found .refused) hop (found .«next_hop»)) (after (found .refused) hops (found .hops)) (after (found .refused) left (found .left))
   unfolding lookupCall
-  looked-up d time hop hops = rw (reads-back t z, writes-tables t z)
+  looked-up d time hop hops left = rw (reads-back t z, writes-tables t z)
 
 -- ---- a round
 -- the call that takes a page in, as one from C
@@ -105,12 +106,12 @@ holds-tables s c (suc r) p anything l u m =
     )
 
 pub converges-in-c : ConvergesInC
-converges-in-c s c r p anything l u d time hop hops m a q =
+converges-in-c s c r p anything l u d time hop hops left m a q =
     let t = tableAfter c r u in
     let size = tables-hold s c (p .site) (p .clocks) r (p .rounds) .1 u m .held .sized in
-    let left = ap (λ (b : List ℕ). lookupCall b d time hop hops) (holds-tables s c r p anything l u m .0) ∙ looked-up t size d time hop hops in
+    let call = ap (λ (b : List ℕ). lookupCall b d time hop hops left) (holds-tables s c r p anything l u m .0) ∙ looked-up t size d time hop hops left in
     let told = lookups-converge s c r p u d time m a q in
-    rw left
+    rw call
     (record {
       known =
           λ e.
@@ -120,10 +121,10 @@ converges-in-c s c r p anything l u d time hop hops m a q =
     })
 
 pub all-known-in-c : AllKnownInC
-all-known-in-c s c r p a anything l u d time hop hops m k e q =
-    converges-in-c s c r p anything l u d time hop hops m (unit-address s (p .site) d k) q .known (all-to-know s r u d a m k e)
+all-known-in-c s c r p a anything l u d time hop hops left m k e q =
+    converges-in-c s c r p anything l u d time hop hops left m (unit-address s (p .site) d k) q .known (all-to-know s r u d a m k e)
 
 pub all-arrive-in-c : AllArriveInC
-all-arrive-in-c s c r p a anything l at asked hop hops u d m k =
-    all-arrive-by s (p .site) d (λ v. lookupCall (bufferAfter anything c r v) d (at v) hop hops .nextHop) (λ v. lookupCall (bufferAfter anything c r v) d (at v) hop hops .hops)
-    (λ v i e. all-known-in-c s c r p a anything l v d (at v) hop hops i k e (asked v i) .1) u m
+all-arrive-in-c s c r p a anything l at asked hop hops left u d m k =
+    all-arrive-by s (p .site) d (λ v. lookupCall (bufferAfter anything c r v) d (at v) hop hops left .nextHop) (λ v. lookupCall (bufferAfter anything c r v) d (at v) hop hops left .hops)
+    (λ v i e. all-known-in-c s c r p a anything l v d (at v) hop hops left i k e (asked v i) .1) u m

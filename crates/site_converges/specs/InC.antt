@@ -53,19 +53,19 @@ HoldsTables =
 abbrev pub ConvergesInC : Type 0
 ConvergesInC =
     (s : Site) (c : Course) (r : ℕ) → Played s c r → (anything : ℕ → List ℕ) → Buffers anything
-    → (u d time hop hops : ℕ) → among u (s .units) ≡ true → address d ≡ true → Asked c r u time
-    → let left = lookupCall (bufferAfter anything c r u) d time hop hops in Told s r u d (left .status) (left .nextHop) (left .hops)
+    → (u d time hop hops left : ℕ) → among u (s .units) ≡ true → address d ≡ true → Asked c r u time
+    → let call = lookupCall (bufferAfter anything c r u) d time hop hops left in Told s r u d (call .status) (call .nextHop) (call .hops)
 
 -- from as many rounds on as the diameter it leads to every other unit, ..
 abbrev pub AllKnownInC : Type 0
 AllKnownInC =
     (s : Site) (c : Course) (r : ℕ) → Played s c r → Ready s r → (anything : ℕ → List ℕ) → Buffers anything
-    → (u d time hop hops : ℕ) → among u (s .units) ≡ true → among d (s .units) ≡ true → (d ≡ u → ⊥) → Asked c r u time
-    → let left = lookupCall (bufferAfter anything c r u) d time hop hops in (left .status ≡ 0) × Leads s u d (left .nextHop) (left .hops)
+    → (u d time hop hops left : ℕ) → among u (s .units) ≡ true → among d (s .units) ≡ true → (d ≡ u → ⊥) → Asked c r u time
+    → let call = lookupCall (bufferAfter anything c r u) d time hop hops left in (call .status ≡ 0) × Leads s u d (call .nextHop) (call .hops)
 
 -- .. and following its next hops from buffer to buffer arrives
 abbrev pub AllArriveInC : Type 0
 AllArriveInC =
     (s : Site) (c : Course) (r : ℕ) → Played s c r → Ready s r → (anything : ℕ → List ℕ) → Buffers anything
-    → (at : ℕ → ℕ) → ((v : ℕ) → among v (s .units) ≡ true → Asked c r v (at v)) → (hop hops : ℕ)
-    → (u d : ℕ) → among u (s .units) ≡ true → among d (s .units) ≡ true → Arrives s (λ v. lookupCall (bufferAfter anything c r v) d (at v) hop hops .nextHop) u d
+    → (at : ℕ → ℕ) → ((v : ℕ) → among v (s .units) ≡ true → Asked c r v (at v)) → (hop hops left : ℕ)
+    → (u d : ℕ) → among u (s .units) ≡ true → among d (s .units) ≡ true → Arrives s (λ v. lookupCall (bufferAfter anything c r v) d (at v) hop hops left .nextHop) u d

@@ -33,8 +33,8 @@ lineCourse = record { began = λ u. 2 ^ 32 - 1500; heard = λ k u. lineHears ((2
 abbrev pub LineTells : Type 0
 LineTells =
     Sited line
-    × (lookupOf (tableAfter lineCourse 1 1) 2 5000 ≡ record { refused = 0; «next_hop» = 2; hops = 1 })
-    × (lookupOf (tableAfter lineCourse 1 1) 3 5000 ≡ foundOr 11 none)
-    × (lookupOf (tableAfter lineCourse 2 1) 3 5000 ≡ record { refused = 0; «next_hop» = 2; hops = 2 })
-    × (lookupOf (tableAfter lineCourse 2 3) 1 5000 ≡ record { refused = 0; «next_hop» = 2; hops = 2 })
-    × (lookupOf (tableAfter lineCourse 2 2) 2 5000 ≡ foundOr 11 none)
+    × (lookupOf (tableAfter lineCourse 1 1) 2 5000 ≡ record { refused = 0; «next_hop» = 2; hops = 1; left = 294500 })
+    × (lookupOf (tableAfter lineCourse 1 1) 3 5000 ≡ foundOr 11 none 0)
+    × (lookupOf (tableAfter lineCourse 2 1) 3 5000 ≡ record { refused = 0; «next_hop» = 2; hops = 2; left = 295500 })
+    × (lookupOf (tableAfter lineCourse 2 3) 1 5000 ≡ record { refused = 0; «next_hop» = 2; hops = 2; left = 295500 })
+    × (lookupOf (tableAfter lineCourse 2 2) 2 5000 ≡ foundOr 11 none 0)

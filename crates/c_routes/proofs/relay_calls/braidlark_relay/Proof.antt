@@ -9,14 +9,14 @@ returns : tie.Need-returns
 returns c =
     let d = c .before .before .before .before in
     let a = d .before .before .before .before .before .args in
-    relay-refused (a .table .now) (a .frame .now) (a .time) (a .out .now) _ _ _ (d .relay-in .result) _ (d .relay-in .ensures) (c .if1 .taken)
+    relay-refused (a .table .now) (a .frame .now) (a .time) (a .least-left) (a .out .now) _ _ _ _ (d .relay-in .result) _ (d .relay-in .ensures) (c .if1 .taken)
 
 cast-length : tie.Need-cast-length
 cast-length c =
     let test = c .before .before in
     let d = test .before .before .before .before in
     let a = d .before .before .before .before .before .args in
-    omega (arith, relay-size (a .table .now) (a .frame .now) (a .time) (a .out .now) 0 0 0 (d .relay-in .result) _ (d .relay-in .ensures) (test .if1 .left))
+    omega (arith, relay-size (a .table .now) (a .frame .now) (a .time) (a .least-left) (a .out .now) 0 0 0 0 (d .relay-in .result) _ (d .relay-in .ensures) (test .if1 .left))
 
 returns-2 : tie.Need-returns-2
 returns-2 c =
@@ -24,7 +24,7 @@ returns-2 c =
     let d = test .before .before .before .before in
     let a = d .before .before .before .before .before .args in
     rw (c .before .start .ensures)
-    (relay-accepted (a .table .now) (a .frame .now) (a .time) (a .out .now) _ _ _ (d .relay-in .result) _ (d .relay-in .ensures) (test .if1 .left))
+    (relay-accepted (a .table .now) (a .frame .now) (a .time) (a .least-left) (a .out .now) _ _ _ _ (d .relay-in .result) _ (d .relay-in .ensures) (test .if1 .left))
 
 pub braidlark-relay-spec : {M : Type 1} → statement M
 braidlark-relay-spec =

@@ -9,13 +9,13 @@ returns : tie.Need-returns
 returns c =
     let d = c .before .before in
     let a = d .before .before .args in
-    none-found (a .destination) (a .time) _ _ (a .table .now) (d .lookup .result) (d .lookup .ensures) (c .if1 .taken)
+    none-found (a .destination) (a .time) _ _ _ (a .table .now) (d .lookup .result) (d .lookup .ensures) (c .if1 .taken)
 
 returns-2 : tie.Need-returns-2
 returns-2 c =
     let d = c .before .before in
     let a = d .before .before .args in
-    hop-found (a .destination) (a .time) _ _ (a .table .now) (d .lookup .result) (d .lookup .ensures) (c .if1 .left)
+    hop-found (a .destination) (a .time) _ _ _ (a .table .now) (d .lookup .result) (d .lookup .ensures) (c .if1 .left)
 
 pub braidlark-lookup-spec : {M : Type 1} → statement M
 braidlark-lookup-spec = tie.close (tie.spec (λ c κs. search needs) returns returns-2)

@@ -9,7 +9,7 @@ returns : tie.Need-returns
 returns c =
     let test = c .before in
     let a = test .before .before .before .before .args in
-    rw (c .unwritten .ensures) (unrelayed (a .table) (a .frame .now) (a .time) (a .out .now) (sym (test .before .within-rule .ensures) ∙ not-true _ (test .if1 .taken)))
+    rw (c .unwritten .ensures) (unrelayed (a .table) (a .frame .now) (a .time) (a .least) (a .out .now) (sym (test .before .within-rule .ensures) ∙ not-true _ (test .if1 .taken)))
 
 returns-2 : tie.Need-returns-2
 returns-2 c =
@@ -22,7 +22,7 @@ returns-2 c =
     let a = rule .before .before .before .args in
     call .relay-by .ensures ∙
     rw (found .found-by .ensures, row .row-for .ensures, header-in (header .of .result) (a .frame .now) (header .of .ensures))
-    (relayed-by (a .table) (a .frame .now) (a .time) (a .out .now) (sym (rule .within-rule .ensures) ∙ not-false _ (test .if1 .left)))
+    (relayed-by (a .table) (a .frame .now) (a .time) (a .least) (a .out .now) (sym (rule .within-rule .ensures) ∙ not-false _ (test .if1 .left)))
 
 pub relay-spec : {M : Type 1} → statement M
 relay-spec =

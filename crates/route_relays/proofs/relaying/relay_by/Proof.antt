@@ -12,7 +12,7 @@ put-frame-requires c κs =
     let refused = part .before .before .before in
     let header = refused .before in
     let a = header .before .before .before .args in
-    has-room (a .own) (a .last) (a .found) (a .frame .now) (a .time) (a .out .now) (header .of .result) (refused .refusal .result) (header .of .ensures) (refused .refusal .ensures) (part .before .if1 .taken) _ (ap (λ (l : Lent). l .bytes) (part .payload .ensures))
+    has-room (a .own) (a .last) (a .found) (a .frame .now) (a .time) (a .least) (a .out .now) (header .of .result) (refused .refusal .result) (header .of .ensures) (refused .refusal .ensures) (part .before .if1 .taken) _ (ap (λ (l : Lent). l .bytes) (part .payload .ensures))
 
 returns : tie.Need-returns
 returns c =
@@ -21,7 +21,7 @@ returns c =
     let refused = part .before .before .before in
     let header = refused .before in
     let a = header .before .before .before .args in
-    relayed-on (a .own) (a .last) (a .found) (a .frame .now) (a .time) (a .out .now) (header .of .result) (refused .refusal .result) (header .of .ensures) (refused .refusal .ensures) (part .before .if1 .taken)
+    relayed-on (a .own) (a .last) (a .found) (a .frame .now) (a .time) (a .least) (a .out .now) (header .of .result) (refused .refusal .result) (header .of .ensures) (refused .refusal .ensures) (part .before .if1 .taken)
     (copy .before .passed-on .result) _ _ (copy .before .passed-on .ensures) (ap (λ (l : Lent). l .bytes) (part .payload .ensures)) (copy .put-frame .ensures)
 
 returns-2 : tie.Need-returns-2
@@ -29,7 +29,7 @@ returns-2 c =
     let refused = c .before .before .before in
     let header = refused .before in
     let a = header .before .before .before .args in
-    relayed-off (a .own) (a .last) (a .found) (a .frame .now) (a .time) (a .out .now) (header .of .result) (refused .refusal .result) (header .of .ensures) (refused .refusal .ensures) (c .unwritten .result) (c .before .if1 .left) (c .unwritten .ensures)
+    relayed-off (a .own) (a .last) (a .found) (a .frame .now) (a .time) (a .least) (a .out .now) (header .of .result) (refused .refusal .result) (header .of .ensures) (refused .refusal .ensures) (c .unwritten .result) (c .before .if1 .left) (c .unwritten .ensures)
 
 pub relay-by-spec : {M : Type 1} → statement M
 relay-by-spec =

@@ -12,7 +12,7 @@ returns : tie.Need-returns
 returns c =
     let test = c .before in
     let a = test .before .before .before .before .before .args in
-    rw (c .unwritten .ensures) (stored-none (a .table .now) (a .frame .now) (a .time) (a .out .now) (sym (test .before .holds-table .ensures) ∙ not-true _ (test .if1 .taken)))
+    rw (c .unwritten .ensures) (stored-none (a .table .now) (a .frame .now) (a .time) (a .least) (a .out .now) (sym (test .before .holds-table .ensures) ∙ not-true _ (test .if1 .taken)))
 
 returns-2 : tie.Need-returns-2
 returns-2 c =
@@ -27,7 +27,7 @@ returns-2 c =
     let holds = sym (judged .holds-table .ensures) ∙ not-false _ (test .if1 .left) in
     call .relay-by .ensures ∙
     rw (found .found-by .ensures, row .row-for .ensures, rows-in (a .table .now) (judged-length (a .table .now) holds), header-in (header .of .result) (a .frame .now) (header .of .ensures), head .head-of .ensures)
-    (relayed-by (tableIn (a .table .now)) (a .frame .now) (a .time) (a .out .now) (judged-rule (a .table .now) holds) ∙ stored-relayed (a .table .now) (a .frame .now) (a .time) (a .out .now) holds)
+    (relayed-by (tableIn (a .table .now)) (a .frame .now) (a .time) (a .least) (a .out .now) (judged-rule (a .table .now) holds) ∙ stored-relayed (a .table .now) (a .frame .now) (a .time) (a .least) (a .out .now) holds)
 
 pub relay-in-spec : {M : Type 1} → statement M
 relay-in-spec =

@@ -8,12 +8,14 @@ use Rattle.route_table.proofs.table.found_by.Tie as tie
 returns : tie.Need-returns
 unfolding foundBy
 returns c =
-    let second = c .before .before .before in
+    let third = c .before .before in
+    let second = third .before .before in
     let first = second .before .before in
     c .found-or .ensures ∙
     rw (
-      c .before .refuse-if3 .ensures,
-      c .before .before .is-address .ensures,
+      c .before .left .ensures,
+      third .refuse-if3 .ensures,
+      third .before .is-address .ensures,
       second .refuse-if2 .ensures,
       first .refuse-if .ensures,
       second .before .in-order .ensures,
@@ -22,4 +24,4 @@ returns c =
 
 pub found-by-spec : {M : Type 1} → statement M
 found-by-spec =
-    tie.close (tie.spec (λ c κs. search needs) (λ c κs. search needs) (λ c κs. search needs) (λ c κs. search needs) (λ c κs. search needs) (λ c κs. search needs) (λ c κs. search needs) returns)
+    tie.close (tie.spec (λ c κs. search needs) (λ c κs. search needs) (λ c κs. search needs) (λ c κs. search needs) (λ c κs. search needs) (λ c κs. search needs) (λ c κs. search needs) (λ c κs. search needs) returns)

@@ -5,4 +5,4 @@ use Rattle.route_table.proofs.table.found_or.Statement.{statement}
 use Rattle.route_table.proofs.table.found_or.Tie as tie
 
 pub found-or-spec : {M : Type 1} → statement M
-found-or-spec = tie.close (tie.spec (λ c κs. search needs) (λ c κs. search needs) (λ c. rw (c .either .ensures, c .before .none .ensures)))
+found-or-spec = tie.close (tie.spec (λ c κs. search needs) (λ c κs. search needs) (λ c κs. search needs) (λ c. rw (c .before .either .ensures, c .before .before .none .ensures, c .either32 .ensures)))

@@ -2,8 +2,8 @@
 //! subject, and stops at the first difference. This file is the command line and the order of the subjects.
 //!
 //! The paper is document 01, with beacons, plans and images as request 101 of document 02 has them, what lookups and
-//! relays say and ask of a route's time as its request 102, and times and the clock as its request 104
-//! (`shared::moments`). Following is its request 112.
+//! relays say and ask of a route's time as its request 102, times and the clock as its request 104 (`shared::moments`),
+//! and what a merge reports as its request 110. Following is its request 112.
 
 #![deny(warnings)]
 

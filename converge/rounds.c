@@ -92,13 +92,19 @@ static void merge(struct site *site, int unit, const struct page *page)
 {
     struct unit *self = &site->units[unit];
     uint8_t quality = draw_quality(site);
-    uint8_t skipped = UINT8_MAX; /* so that it shows whether 0 was written */
+    uint8_t skipped = UINT8_MAX;    /* so that it shows whether 0 was written */
+    uint16_t compared = UINT16_MAX; /* and here, whether anything was */
     uint8_t status = braidlark_merge(self->table, sizeof self->table, page->bytes, page->length, quality,
-                                     unit_tick(site, unit), &skipped);
+                                     unit_tick(site, unit), &skipped, &compared);
     site->tally.calls++;
     if (status != BRAIDLARK_ACCEPTED || skipped != 0) {
         differ(site, "unit %04X merges page %u of unit %04X: expected 0 with 0 skipped, answered %d with %d skipped",
                self->address, (unsigned)page->number, site->units[page->sender].address, status, skipped);
+    }
+    if (compared > BRAIDLARK_MOST_COMPARED) {
+        differ(site, "unit %04X merges page %u of unit %04X: expected at most %d rows compared, answered %d",
+               self->address, (unsigned)page->number, site->units[page->sender].address, BRAIDLARK_MOST_COMPARED,
+               compared);
     }
 }
 

@@ -46,8 +46,10 @@ static void write_update(uint8_t *frame, uint32_t origin, uint32_t first, uint32
 static void hear(struct scene *made, uint32_t origin, uint32_t first, uint32_t step, uint32_t time)
 {
     uint8_t frame[BRAIDLARK_MOST_FRAME], skipped;
+    uint16_t compared;
     write_update(frame, origin, first, step, 0);
-    need(braidlark_merge(made->table, sizeof made->table, frame, FULL_UPDATE, QUALITY, time, &skipped), "an update");
+    need(braidlark_merge(made->table, sizeof made->table, frame, FULL_UPDATE, QUALITY, time, &skipped, &compared),
+         "an update");
 }
 
 /* Full: 48 rows, of which the update replaces every second. Mixed: the rows heard of long ago are gone, and the update

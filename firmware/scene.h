@@ -22,7 +22,7 @@ struct scene {
     /* the answers */
     uint32_t fields[BRAIDLARK_MOST_FIELDS], place, length, left;
     uint8_t out[BRAIDLARK_MOST_FRAME], hops, skipped, which;
-    uint16_t next_hop;
+    uint16_t next_hop, compared;
     uint32_t offset;
 };
 

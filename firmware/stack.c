@@ -57,7 +57,8 @@ static uint8_t call_table_fresh(void)
 
 static uint8_t call_merge(void)
 {
-    return braidlark_merge(scene.table, sizeof scene.table, scene.update, FULL_UPDATE, QUALITY, NOW, &scene.skipped);
+    return braidlark_merge(scene.table, sizeof scene.table, scene.update, FULL_UPDATE, QUALITY, NOW, &scene.skipped,
+                           &scene.compared);
 }
 
 static uint8_t call_forget(void)

@@ -53,7 +53,7 @@ extern "C" {
  * ---- the version of this interface: MAJOR is raised where a name, a call or a buffer's length changes, MINOR where
  * something is only added; docs/changes says what a caller has to change
  */
-#define BRAIDLARK_VERSION_MAJOR 5
+#define BRAIDLARK_VERSION_MAJOR 6
 #define BRAIDLARK_VERSION_MINOR 0
 
 /* ---- refusals; braidlark_refusal_text says what each means */
@@ -140,6 +140,7 @@ static inline const char *braidlark_refusal_text(int number)
 #define BRAIDLARK_MOST_ROUTE_HOPS 16
 #define BRAIDLARK_UNREACHABLE 255 /* hops of an entry in an update whose route is dead */
 #define BRAIDLARK_LOWEST_QUALITY 40
+#define BRAIDLARK_MOST_COMPARED 1200 /* rows that one merge compares: 48 for each of 24 entries and for their origin */
 
 /* ---- members: at most so many, the manager among them, each with 1 to 4 data slots */
 #define BRAIDLARK_MOST_MEMBERS 21
@@ -340,9 +341,14 @@ uint8_t braidlark_write(const uint32_t *fields, size_t fields_length, const uint
 uint8_t braidlark_table_fresh(uint8_t *table, size_t table_length, uint16_t own, uint32_t time);
 
 /* Merges an update that was heard with this quality, from BRAIDLARK_LOWEST_QUALITY on, and says how many candidates
- * found no room. Refusals: 14 1 2 1 3 4 6 8 9. */
+ * found no room and how many rows were compared. The origin itself is the first candidate; then come the entries, but
+ * for those passed over: to this unit or by it, and to the origin. For each candidate, bad ones and skipped ones too,
+ * the standing rows are compared from the first on, up to one that is not lower than its destination: as many as are
+ * lower, and one more if a row remains. That makes at most BRAIDLARK_MOST_ROUTES for a candidate and
+ * BRAIDLARK_MOST_COMPARED for a merge. With what one comparison takes on its processor, a firmware turns the number
+ * into time, and so knows whether a merge fits between two slots. Refusals: 14 1 2 1 3 4 6 8 9. */
 uint8_t braidlark_merge(uint8_t *table, size_t table_length, const uint8_t *frame, size_t frame_length, uint8_t quality,
-                        uint32_t time, uint8_t *skipped);
+                        uint32_t time, uint8_t *skipped, uint16_t *compared);
 
 /* Withdraws all usable routes to a unit or through it; the next pages tell the neighbours. Without it a route by a next
  * hop that is gone is used for up to BRAIDLARK_USABLE_MS more: forget a unit as soon as it is known to be gone, because

@@ -12,6 +12,18 @@ void check_status(struct site *site, const char *call, uint8_t status, uint32_t 
     }
 }
 
+/* No candidate of an update was compared with more rows than there are other units. */
+void check_merge(struct site *site, int unit, const struct packet *packet, uint16_t compared)
+{
+    int candidates = 1 + (packet->length - BRAIDLARK_LENGTH_UPDATE) / BRAIDLARK_ENTRY_SIZE;
+    if (compared > candidates * (UNITS - 1)) {
+        fail(site, "%s compared %d rows to merge %d candidates", site->units[unit].name, compared, candidates);
+    }
+    if (compared > site->tally.most_compared) {
+        site->tally.most_compared = compared;
+    }
+}
+
 /* A next hop is named only for as long as the last update that was accepted from it is usable. Answers which unit it
  * is. */
 static int check_fresh(struct site *site, int unit, uint16_t next_hop)

@@ -288,6 +288,7 @@ struct tally {
     uint32_t handed_over;
     uint32_t without_route;
     uint32_t routes;
+    uint16_t most_compared; /* rows, in one merge */
     uint32_t schedules;
     uint32_t refused_joins;
     uint32_t started_over;

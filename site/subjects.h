@@ -126,6 +126,7 @@ void superframes_run(struct site *site);
 /* checks.c: what the program holds the library and itself to */
 #define REFUSAL(number) (1u << (number))
 void check_status(struct site *site, const char *call, uint8_t status, uint32_t refusals);
+void check_merge(struct site *site, int unit, const struct packet *packet, uint16_t compared);
 void check_next_hop(struct site *site, int unit, uint16_t next_hop);
 void check_routes(struct site *site);
 void check_air(struct site *site, int slot);

@@ -131,6 +131,8 @@ void summary_print(struct site *site)
     printf("             %u frames handed to a next hop, whose last update was at most %u ms old; %u had no way that "
            "would do\n",
            (unsigned)tally->handed_over, (unsigned)tally->oldest_word_ms, (unsigned)tally->without_route);
+    printf("             one merge compared %u rows at most, of %d that an update can come to\n",
+           (unsigned)tally->most_compared, BRAIDLARK_MOST_COMPARED);
     printf("  slots      %u schedules, and all that was in the air: no control or data slot has two senders\n",
            (unsigned)tally->schedules);
     print_joining(site);

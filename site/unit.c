@@ -208,9 +208,11 @@ static void hear_update(struct site *site, int unit, int sender, uint8_t quality
 {
     struct unit *self = &site->units[unit];
     uint8_t skipped = 0;
+    uint16_t compared = 0;
     uint8_t status = braidlark_merge(self->table, sizeof self->table, packet->bytes, packet->length, quality,
-                                     unit_time(site, unit), &skipped);
+                                     unit_time(site, unit), &skipped, &compared);
     check_status(site, "braidlark_merge", status, 0);
+    check_merge(site, unit, packet, compared);
     self->was_told[sender] = true;
     self->update_taken[sender] = unit_wide_time(site, unit);
     if (unit == OFFICE) {

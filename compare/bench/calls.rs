@@ -38,6 +38,7 @@ pub struct Buffers {
     pub next_hop: u16,
     pub hops: u8,
     pub skipped: u8,
+    pub compared: u16,
     pub which: u8,
     pub place: u32,
     pub length: u32,
@@ -82,9 +83,11 @@ pub mod library {
     }
 
     pub fn merge(buffers: &mut Buffers) -> u8 {
-        let Buffers { kept, input, skipped, .. } = buffers;
+        let Buffers { kept, input, skipped, compared, .. } = buffers;
         // SAFETY: as above.
-        unsafe { braidlark_merge(kept.as_mut_ptr(), kept.len(), input.as_ptr(), input.len(), QUALITY, NOW, skipped) }
+        unsafe {
+            braidlark_merge(kept.as_mut_ptr(), kept.len(), input.as_ptr(), input.len(), QUALITY, NOW, skipped, compared)
+        }
     }
 
     pub fn page(buffers: &mut Buffers) -> u8 {
@@ -168,7 +171,8 @@ pub mod independent {
 
     pub fn merge(buffers: &mut Buffers) -> Result<(), Refusal> {
         let mut table = Table::from_bytes(&buffers.kept)?;
-        buffers.skipped = table.merge(&buffers.input, QUALITY, NOW)?;
+        let merged = table.merge(&buffers.input, QUALITY, NOW)?;
+        (buffers.skipped, buffers.compared) = (merged.skipped, merged.compared);
         table.to_bytes(&mut buffers.kept);
         Ok(())
     }

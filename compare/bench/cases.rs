@@ -39,8 +39,9 @@ const SCHEDULE: Call = Call { library: library::schedule, independent: independe
 const IMAGE: Call = Call { library: library::image, independent: independent::image };
 const RESTORE: Call = Call { library: library::restore, independent: independent::restore };
 
-/// Tables are full where the name does not end in their rows.
-pub const CASES: [Case; 25] = [
+/// Tables are full where the name does not end in their rows. With `compared` in it, it ends in how many rows are
+/// compared.
+pub const CASES: [Case; 28] = [
     Case { name: "relay-10", call: RELAY, buffers: || relaying(10, MOST_ROWS), answer: ACCEPTED },
     Case { name: "relay-100", call: RELAY, buffers: || relaying(100, MOST_ROWS), answer: ACCEPTED },
     Case { name: "relay-255", call: RELAY, buffers: || relaying(255, MOST_ROWS), answer: ACCEPTED },
@@ -62,6 +63,9 @@ pub const CASES: [Case; 25] = [
     Case { name: "merge-0", call: MERGE, buffers: || merging(0), answer: ACCEPTED },
     Case { name: "merge-12", call: MERGE, buffers: || merging(12), answer: ACCEPTED },
     Case { name: "merge-24", call: MERGE, buffers: || merging(24), answer: ACCEPTED },
+    Case { name: "merge-compared-25", call: MERGE, buffers: || comparing(0), answer: ACCEPTED },
+    Case { name: "merge-compared-600", call: MERGE, buffers: || comparing(23), answer: ACCEPTED },
+    Case { name: "merge-compared-1200", call: MERGE, buffers: || comparing(MOST_ROWS), answer: ACCEPTED },
     Case { name: "join", call: JOIN, buffers: joining, answer: ACCEPTED },
     Case { name: "schedule", call: SCHEDULE, buffers: scheduling, answer: ACCEPTED },
     Case { name: "image", call: IMAGE, buffers: storing, answer: ACCEPTED },
@@ -74,6 +78,10 @@ const LAST: u16 = destination(MOST_ROWS - 1);
 const NEIGHBOUR: u16 = destination(MOST_ROWS / 2);
 /// A unit that no row goes to or through: it stands between two rows.
 const STRANGER: u16 = FIRST + 1;
+/// How many entries a full update has.
+const ENTRIES: usize = 24;
+/// How far apart two rows are that have the strangers of an update between them.
+const ROOM_FOR_STRANGERS: u16 = 0x0100;
 /// The hops of every row.
 const HOPS: u8 = 3;
 /// What a beacon holds besides the fields that are set does not matter, but is always the same.
@@ -96,9 +104,14 @@ fn last_of(rows: usize) -> u16 {
 
 /// A table of so many rows, all through one neighbour, which has a row in the middle of a full table.
 fn table(rows: usize) -> Vec<u8> {
+    table_to((0..rows).map(destination))
+}
+
+/// A table with rows to these units, which ascend, all through one neighbour.
+fn table_to(units: impl Iterator<Item = u16>) -> Vec<u8> {
     let mut table = Table::fresh(OWN, NOW).expect("this unit has an address");
-    for (place, row) in table.rows[..rows].iter_mut().enumerate() {
-        let (destination, next_hop) = (destination(place), NEIGHBOUR);
+    for (row, destination) in table.rows.iter_mut().zip(units) {
+        let next_hop = NEIGHBOUR;
         *row = Row { destination, next_hop, hops: HOPS, quality: 100, time: NOW - 1000, withdrawn: false };
     }
     let mut bytes = vec![0; Table::LENGTH];
@@ -133,6 +146,17 @@ fn merging(rows: usize) -> Buffers {
         true => buffers.reset_each_time(),
         false => buffers,
     }
+}
+
+/// A full update that finds a full table, from a stranger and of strangers: so many rows are lower than each of the 25,
+/// and the others are higher. There is room for none of the 25, so that nothing differs but the rows compared: 25 if
+/// none is lower, because each candidate compares one, 600 if 23 are, and 1,200 if all are.
+fn comparing(lower: usize) -> Buffers {
+    let row = |place| destination(place) + if place < lower { 0 } else { ROOM_FOR_STRANGERS };
+    let origin = destination(lower);
+    let others = (origin + 1..).take(ENTRIES);
+    let entries: Vec<Entry> = others.map(|stranger| (stranger, 2, 150, stranger, NOW)).collect();
+    Buffers::new(table_to((0..MOST_ROWS).map(row)), update(origin, NOW, &entries), OWN)
 }
 
 /// A stranger leaves every row as it is; the neighbour takes all of them along.

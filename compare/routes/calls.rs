@@ -37,6 +37,7 @@ extern "C" {
         quality: u8,
         time: Moment,
         skipped: *mut u8,
+        compared: *mut u16,
     ) -> u8;
 
     pub fn braidlark_page(
@@ -180,6 +181,7 @@ pub struct TableLeft {
     pub next_hop: u16,
     pub hops: u8,
     pub skipped: u8,
+    pub compared: u16,
     pub place: u32,
     /// What is called `written` where there is no `place`.
     pub length: u32,
@@ -194,6 +196,7 @@ struct Lending {
     next_hop: Lent<u16>,
     hops: Lent<u8>,
     skipped: Lent<u8>,
+    compared: Lent<u16>,
     place: Lent<u32>,
     length: Lent<u32>,
     left: Lent<u32>,
@@ -208,6 +211,7 @@ impl Lending {
             next_hop: Lent::output(1),
             hops: Lent::output(1),
             skipped: Lent::output(1),
+            compared: Lent::output(1),
             place: Lent::output(1),
             length: Lent::output(1),
             left: Lent::input(&[call.ask.left()]),
@@ -221,7 +225,8 @@ impl Lending {
         let (out, out_length) = (self.out.address(empty), call.ask.room());
         let (next_hop, hops) = (self.next_hop.address(empty), self.hops.address(empty));
         let (place, length) = (self.place.address(empty), self.length.address(empty));
-        let (skipped, left) = (self.skipped.address(empty), self.left.address(empty));
+        let (skipped, compared) = (self.skipped.address(empty), self.compared.address(empty));
+        let left = self.left.address(empty);
         // SAFETY: each address is that of a live buffer of the length given with it, or NULL with length 0.
         unsafe {
             match *call.ask {
@@ -230,7 +235,7 @@ impl Lending {
                     braidlark_lookup(table, table_length, destination, time, next_hop, hops, left),
                 Ask::Forget { unit, time } => braidlark_forget(table, table_length, unit, time),
                 Ask::Merge { quality, time, .. } =>
-                    braidlark_merge(table, table_length, frame, frame_length, quality, time, skipped),
+                    braidlark_merge(table, table_length, frame, frame_length, quality, time, skipped, compared),
                 Ask::Page { page, time, .. } =>
                     braidlark_page(table, table_length, page, time, out, out_length, length),
                 Ask::Relay(Relay { time, least_left, .. }) => braidlark_relay(
@@ -252,6 +257,7 @@ impl Lending {
             ("around next_hop", self.next_hop.is_overrun()),
             ("around hops", self.hops.is_overrun()),
             ("around skipped", self.skipped.is_overrun()),
+            ("around compared", self.compared.is_overrun()),
             ("around place", self.place.is_overrun()),
             ("around length", self.length.is_overrun()),
             ("around left", self.left.is_overrun()),
@@ -285,6 +291,7 @@ impl Call for TableCall<'_> {
             next_hop: u16::FILLER[0],
             hops: u8::FILLER[0],
             skipped: u8::FILLER[0],
+            compared: u16::FILLER[0],
             place: u32::FILLER[0],
             length: u32::FILLER[0],
             left: self.ask.left(),
@@ -304,7 +311,10 @@ impl Call for TableCall<'_> {
                 (left.next_hop, left.hops, left.left) = (route.next_hop, route.hops, route.left);
             }
             Ask::Forget { unit, time } => table.forget(*unit, *time)?,
-            Ask::Merge { frame, quality, time } => left.skipped = table.merge(frame, *quality, *time)?,
+            Ask::Merge { frame, quality, time } => {
+                let merged = table.merge(frame, *quality, *time)?;
+                (left.skipped, left.compared) = (merged.skipped, merged.compared);
+            }
             Ask::Page { page, time, .. } => left.length = table.page(*page, *time, &mut left.out)? as u32,
             Ask::Relay(Relay { frame, time, least_left, .. }) => {
                 let relayed = table.relay(frame, *time, *least_left, &mut left.out)?;
@@ -327,6 +337,7 @@ impl Call for TableCall<'_> {
             next_hop: lending.next_hop.contents()[0],
             hops: lending.hops.contents()[0],
             skipped: lending.skipped.contents()[0],
+            compared: lending.compared.contents()[0],
             place: lending.place.contents()[0],
             length: lending.length.contents()[0],
             left: lending.left.contents()[0],
@@ -364,7 +375,8 @@ impl fmt::Display for TableLeft {
     fn fmt(&self, text: &mut fmt::Formatter) -> fmt::Result {
         write!(text, "table: {}; out: {}", input_shown(&self.table), buffer_shown(&self.out))?;
         write!(text, "; next_hop: {}; hops: {}", number_shown(self.next_hop), number_shown(self.hops))?;
-        write!(text, "; skipped: {}; place: {}", number_shown(self.skipped), number_shown(self.place))?;
-        write!(text, "; length: {}; left: {}", number_shown(self.length), self.left)
+        write!(text, "; skipped: {}; compared: {}", number_shown(self.skipped), number_shown(self.compared))?;
+        write!(text, "; place: {}; length: {}", number_shown(self.place), number_shown(self.length))?;
+        write!(text, "; left: {}", self.left)
     }
 }

@@ -3,6 +3,7 @@
 //! The independent table is held to the paper's words here, and the library to the independent table.
 
 use crate::routes::calls::Ask;
+use crate::routes::comparisons;
 use crate::routes::drafts::Entry;
 use crate::routes::forwards;
 use crate::routes::refusals::every_refusal;
@@ -22,6 +23,7 @@ pub fn check(check: &mut Check) -> Agreement {
         worse_offer_of_the_same_neighbour_is_believed(check, start)?;
         equal_route_of_another_neighbour_refreshes_nothing(check, start)?;
         gone_rows_use_no_room(check, start)?;
+        comparisons::check(check, start)?;
         every_refusal(check, start)?;
         forwards::check(check, start)?;
         every_step(check, start)?;

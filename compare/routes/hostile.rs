@@ -3,7 +3,7 @@
 use crate::frames::kinds::BEACONS;
 use crate::routes::calls::{Ask, Forward, Relay};
 use crate::routes::drafts::{beacon, data, update, Entry, LEFT_BEFORE};
-use crate::routes::table::Table;
+use crate::routes::table::{Merged, Table};
 use crate::shared::check::{Agreement, Check};
 use crate::shared::hostile::{every_buffer, every_length_of_each};
 use crate::shared::moments::Moment;
@@ -19,7 +19,8 @@ pub fn check(check: &mut Check) -> Agreement {
     let entries: Vec<Entry> = (FAR..).take(24).map(|unit| (unit, 2, 150, unit, NOW)).collect();
     let news = update(NEAR, NOW, &entries);
     let mut table = Table::fresh(OWN, NOW).expect("this unit has an address");
-    assert_eq!(table.merge(&news, 200, NOW), Ok(0), "there is room for 25 rows");
+    let merged = Merged { skipped: 0, compared: 300 };
+    assert_eq!(table.merge(&news, 200, NOW), Ok(merged), "there is room for 25 rows, each above those before it");
     let mut kept = [0; Table::LENGTH];
     table.to_bytes(&mut kept);
     let fields = [("source", NEAR), ("network", NETWORK), ("original source", NEAR), ("hop", 0), ("delay", 0)];
@@ -40,7 +41,20 @@ pub fn check(check: &mut Check) -> Agreement {
     for left in LEFT_BEFORE {
         time_left(check, &kept, left)?;
     }
-    Ok(())
+    full_table(check, table)
+}
+
+/// What is merged into this table once 23 more rows fill it: all of it is above every row.
+fn full_table(check: &mut Check, mut table: Table) -> Agreement {
+    let news = |origin: u16| {
+        let entries: Vec<Entry> = (origin + 1..).take(24).map(|unit| (unit, 2, 150, unit, NOW)).collect();
+        update(origin, NOW, &entries)
+    };
+    let merged = Merged { skipped: 2, compared: 924 };
+    assert_eq!(table.merge(&news(FAR + 24), 200, NOW), Ok(merged), "there is room for 23 more rows");
+    let mut kept = [0; Table::LENGTH];
+    table.to_bytes(&mut kept);
+    every_buffer(check, &kept, &Ask::Merge { frame: news(FAR + 0x0100), quality: 200, time: NOW })
 }
 
 /// The calls that answer how long a route has left, with this where they write it: on rows that are new, that are as

@@ -4,6 +4,7 @@ mod beacons;
 pub mod calls;
 mod cases;
 pub mod check;
+mod comparisons;
 pub mod drafts;
 mod forwards;
 mod hostile;

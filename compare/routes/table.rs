@@ -1,5 +1,6 @@
-//! The independent table of routes, from the paper's section on routes and request 102 alone: its rows and their ages,
-//! looking up, forgetting and merging. It works in place, and is also what the library's merge is measured against.
+//! The independent table of routes, from the paper's section on routes and requests 102 and 110 alone: its rows and
+//! their ages, looking up, forgetting and merging. It works in place, and is also what the library's merge is measured
+//! against.
 
 use crate::frames::bodies::body_of;
 use crate::frames::kinds::{ENTRY_LENGTH, ROUTING_UPDATE};
@@ -90,6 +91,15 @@ pub struct Route {
     pub left: u32,
 }
 
+/// What a merge answers.
+#[derive(Clone, Copy, Debug, PartialEq, Eq)]
+pub struct Merged {
+    /// How many good candidates found no room.
+    pub skipped: u8,
+    /// How many rows the searches for all candidates compared.
+    pub compared: u16,
+}
+
 /// The calls.
 impl Table {
     #[inline(never)]
@@ -129,9 +139,9 @@ impl Table {
         Ok(())
     }
 
-    /// Merges an update heard with this link quality, and answers how many candidates found no room.
+    /// Merges an update heard with this link quality.
     #[inline(never)]
-    pub fn merge(&mut self, frame: &[u8], quality: u8, time: Moment) -> Result<u8, Refusal> {
+    pub fn merge(&mut self, frame: &[u8], quality: u8, time: Moment) -> Result<Merged, Refusal> {
         let used = self.used_rows()?;
         let update = Update::read(frame)?;
         let origin = update.origin;
@@ -144,18 +154,21 @@ impl Table {
         }
         let mut used = self.begin_change(used, time);
         let neighbour = Row { destination: origin, next_hop: origin, hops: 1, quality, time, withdrawn: false };
-        let mut skipped = u8::from(!self.learn(&mut used, neighbour));
+        let (place, mut compared) = self.search(used, origin);
+        let mut skipped = u8::from(!self.learn(&mut used, place, neighbour));
         for bytes in update.entries.chunks_exact(ENTRY_LENGTH) {
             let entry = Entry::read(bytes);
             if [self.own, origin].contains(&entry.destination) || entry.next_hop == self.own {
                 continue;
             }
+            let (place, more) = self.search(used, entry.destination);
+            compared += more;
             match entry.candidate(origin, quality, time) {
-                Some(candidate) => skipped += u8::from(!self.learn(&mut used, candidate)),
-                None => self.unlearn(used, entry.destination, origin, time),
+                Some(candidate) => skipped += u8::from(!self.learn(&mut used, place, candidate)),
+                None => self.unlearn(used, place, entry.destination, origin, time),
             }
         }
-        Ok(skipped)
+        Ok(Merged { skipped, compared })
     }
 }
 
@@ -194,15 +207,23 @@ impl Table {
             && self.time.follows(row.time)
     }
 
-    /// The place of the first row that is not lower than this destination.
-    fn place(&self, used: usize, destination: u16) -> usize {
-        let rows = &self.rows[..used];
-        rows.iter().position(|row| row.destination >= destination).unwrap_or(used)
+    /// Goes up from the first row to the first that is not lower than this destination. Answers its place, and how many
+    /// rows were compared.
+    fn search(&self, used: usize, destination: u16) -> (usize, u16) {
+        let mut compared = 0;
+        for (place, row) in self.rows[..used].iter().enumerate() {
+            compared += 1;
+            if row.destination >= destination {
+                return (place, compared);
+            }
+        }
+        (used, compared)
     }
 
     /// The usable route to a destination.
     pub(crate) fn route(&self, used: usize, destination: u16, time: Moment) -> Result<Route, Refusal> {
-        match self.rows[..used].get(self.place(used, destination)) {
+        let (place, _) = self.search(used, destination);
+        match self.rows[..used].get(place) {
             Some(row) if row.destination == destination && row.is_usable(time) => {
                 Ok(Route { next_hop: row.next_hop, hops: row.hops, left: row.left(time) })
             }
@@ -228,9 +249,8 @@ impl Table {
         kept
     }
 
-    /// Takes a good candidate in, if it is better than what is there. False if there is no room for it.
-    fn learn(&mut self, used: &mut usize, candidate: Row) -> bool {
-        let place = self.place(*used, candidate.destination);
+    /// Takes a good candidate in at its place, if it is better than what is there. False if there is no room for it.
+    fn learn(&mut self, used: &mut usize, place: usize, candidate: Row) -> bool {
         match self.rows[..*used].get_mut(place) {
             Some(row) if row.destination == candidate.destination => {
                 if candidate.replaces(row) {
@@ -248,9 +268,8 @@ impl Table {
         }
     }
 
-    /// Withdraws the usable row to a destination through this neighbour.
-    fn unlearn(&mut self, used: usize, destination: u16, neighbour: u16, time: Moment) {
-        let place = self.place(used, destination);
+    /// Withdraws the usable row to a destination, whose place this is, through this neighbour.
+    fn unlearn(&mut self, used: usize, place: usize, destination: u16, neighbour: u16, time: Moment) {
         if let Some(row) = self.rows[..used].get_mut(place) {
             if row.destination == destination && row.next_hop == neighbour && row.is_usable(time) {
                 row.withdraw(time);

@@ -56,8 +56,10 @@ static void hear_update(struct node *self, const uint8_t *bytes, size_t length, 
 {
     struct frame frame;
     uint8_t skipped;
-    if (read_frame(bytes, length, &frame) && braidlark_merge(self->table, sizeof self->table, bytes, length, quality,
-                                                             clock_ms(self->address), &skipped) == BRAIDLARK_ACCEPTED)
+    uint16_t compared;
+    if (read_frame(bytes, length, &frame) &&
+        braidlark_merge(self->table, sizeof self->table, bytes, length, quality, clock_ms(self->address), &skipped,
+                        &compared) == BRAIDLARK_ACCEPTED)
         note_sender(self, frame.fields[BRAIDLARK_FIELD_UPDATE_ORIGIN]);
 }
 

@@ -43,13 +43,14 @@ static uint32_t random_below(uint64_t *state, uint32_t bound)
 static void tell(int unit, uint32_t now)
 {
     uint8_t frame[BRAIDLARK_MOST_FRAME], skipped;
+    uint16_t compared;
     uint32_t length;
     for (uint32_t page = 0; braidlark_page(tables[unit], sizeof tables[unit], page, now, frame, sizeof frame, &length) ==
                             BRAIDLARK_ACCEPTED;
          page++)
         for (int other = 0; other < UNITS; other++)
             if (linked(unit, other))
-                braidlark_merge(tables[other], sizeof tables[other], frame, length, QUALITY, now, &skipped);
+                braidlark_merge(tables[other], sizeof tables[other], frame, length, QUALITY, now, &skipped, &compared);
 }
 
 static bool knows_head(int relay, uint32_t now)

@@ -10,12 +10,12 @@ use Rattle.frame_traffic.specs.Traffic.{entryAt}
 use Rattle.route_table.specs.Rows.{pad}
 use Rattle.route_table.specs.Tables.{withinRule, freshOf, lookupOf}
 use Rattle.route_merges.specs.Learning.{learn}
-use Rattle.route_merges.specs.Merges.{mergeRefusal, mergedRows, mergeOf}
+use Rattle.route_merges.specs.Merges.{mergeRefusal, mergedRows, mergedCount, mergeOf}
 use Rattle.route_bytes.specs.TableBytes.{rowAt, tableIn, tableBytes, isTable}
 use Rattle.c_routes.specs.TableCalls.{freshCall, lookupCall}
 use Rattle.route_merges.specs.StoredMerges.{mergeCall}
 use Rattle.c_history.specs.TableWitness.{AnswersAtLast}
 
 pub answers-at-last : AnswersAtLast
-unfolding tab every num digits xors ageAt inOrder isSealed readRefusal entryAt pad withinRule freshOf lookupOf learn mergeRefusal mergedRows mergeOf rowAt tableIn tableBytes isTable freshCall lookupCall mergeCall
+unfolding tab every num digits xors ageAt inOrder isSealed readRefusal entryAt pad withinRule freshOf lookupOf learn mergeRefusal mergedRows mergedCount mergeOf rowAt tableIn tableBytes isTable freshCall lookupCall mergeCall
 answers-at-last = (refl, refl, refl, refl)

@@ -13,7 +13,7 @@ use Rattle.c_routes.specs.RelayCalls.{relayCall}
 
 -- ---- one call
 -- a call from C: its arguments, and what the numbers that it fills held before, by their place among them: of a lookup the next hop is number 0, the hops are
--- 1 and what is left is 2, of a relay the next hop is 0, the place 1, the extent 2 and what is left 3; a merge, a forward and a page fill one number
+-- 1 and what is left is 2, of a relay the next hop is 0, the place 1, the extent 2 and what is left 3, of a merge the skipped are 0 and the compared 1; a forward and a page fill one number
 pub record InC : Type 0 where
   pub call : Call
   pub filled : ℕ → ℕ
@@ -38,7 +38,7 @@ holds table out numbers = record { table = table; out = out; numbers = numbers }
 
 -- what it holds when the call is made
 abbrev pub handedIn : List ℕ → Call → (ℕ → ℕ) → Memory
-handedIn s (merge frame quality time) filled = holds s [] (filled 0 ∷ [])
+handedIn s (merge frame quality time) filled = holds s [] (filled 0 ∷ filled 1 ∷ [])
 handedIn s (forget unit time) filled = holds s [] []
 handedIn s (forward network manager frame delay time out) filled = holds s out (filled 0 ∷ [])
 handedIn s (lookup d time) filled = holds s [] (filled 0 ∷ filled 1 ∷ filled 2 ∷ [])
@@ -52,8 +52,8 @@ pub record Returned : Type 0 where
 
 abbrev pub returned : List ℕ → Call → (ℕ → ℕ) → Returned
 returned s (merge frame quality time) filled =
-    let call = mergeCall s frame quality time (filled 0) in
-    record { status = call .status; memory = holds (call .table) [] (call .skipped ∷ []) }
+    let call = mergeCall s frame quality time (filled 0) (filled 1) in
+    record { status = call .status; memory = holds (call .table) [] (call .skipped ∷ call .compared ∷ []) }
 returned s (forget unit time) filled =
     let call = forgetCall s unit time in
     record { status = call .status; memory = holds (call .table) [] [] }

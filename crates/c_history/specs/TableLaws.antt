@@ -111,6 +111,12 @@ TrueTimeInC =
 -- that it had, if that is not gone by then, and none where it had none
 abbrev pub OthersUnchangedInC : Type 0
 OthersUnchangedInC =
-    (s frame : List ℕ) (quality time skipped d : ℕ) → Bytes s → Machine (merge frame quality time)
-    → let call = mergeCall s frame quality time skipped in call .status ≡ 0 → address d ≡ true → Unnamed frame d
+    (s frame : List ℕ) (quality time skipped compared d : ℕ) → Bytes s → Machine (merge frame quality time)
+    → let call = mergeCall s frame quality time skipped compared in call .status ≡ 0 → address d ≡ true → Unnamed frame d
     → rowFor d (rowsOf (tableIn (call .table))) ≡ rowFor d (standing time (rowsOf (tableIn s)))
+
+-- `braidlark_merge` never says that it compared more than 1,200 rows
+abbrev pub FewComparedInC : Type 0
+FewComparedInC =
+    (s frame : List ℕ) (quality time skipped compared : ℕ)
+    → let call = mergeCall s frame quality time skipped compared in call .status ≡ 0 → call .compared ≤ 1200

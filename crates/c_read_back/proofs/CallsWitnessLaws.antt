@@ -14,7 +14,7 @@ use Rattle.frame_traffic.specs.Traffic.{entryAt}
 use Rattle.route_table.specs.Rows.{pad}
 use Rattle.route_table.specs.Tables.{withinRule, lookupOf}
 use Rattle.route_merges.specs.Learning.{learn}
-use Rattle.route_merges.specs.Merges.{mergeRefusal, mergedRows, mergeOf}
+use Rattle.route_merges.specs.Merges.{mergeRefusal, mergedRows, mergedCount, mergeOf}
 use Rattle.route_forwards.specs.Forwards.{forwardRefusal, forwardOf}
 use Rattle.route_forwards.specs.Copies.{passedBy, shortPassedBy}
 use Rattle.frame_beacons.specs.EitherBeacons.{eitherRefusal, eitherIn}
@@ -63,7 +63,7 @@ unfolding tab every num digits xors ageAt inOrder sealed pad withinRule entryFor
 paged-once = refl
 
 pub merged-once : MergedOnce
-unfolding tab every num digits xors ageAt inOrder isSealed readRefusal sealed pad withinRule entryAt learn mergeRefusal mergedRows mergeOf rowAt tableIn tableBytes isTable mergeCall
+unfolding tab every num digits xors ageAt inOrder isSealed readRefusal sealed pad withinRule entryAt learn mergeRefusal mergedRows mergedCount mergeOf rowAt tableIn tableBytes isTable mergeCall
 merged-once = refl
 
 pub joined-once : JoinedOnce

@@ -76,16 +76,17 @@ itsPage = 0x31 ∷ 1 ∷ 0 ∷ 1 ∷ 5 ∷ 0 ∷ 0 ∷ 0 ∷ 9 ∷ 0 ∷ 2 ∷ 2
 abbrev pub PagedOnce : Type 0
 PagedOnce = pageCall (tableBytes table) 0 5 (replicate 19 0) 0 ≡ writeLeft 0 itsPage 19
 
--- unit 3 hears it at time 6, with a quality of 100: it then has unit 1 as a neighbour, and unit 9 through it, three hops away
+-- unit 3 hears it at time 6, with a quality of 100: it then has unit 1 as a neighbour, and unit 9 through it, three hops away, for which
+-- one row was compared
 abbrev pub MergedOnce : Type 0
 MergedOnce =
-    mergeCall (tableBytes (emptyTable 3 0)) itsPage 100 6 77
+    mergeCall (tableBytes (emptyTable 3 0)) itsPage 100 6 77 77
     ≡ mergeLeft 0
     (tableBytes
     (withRows (emptyTable 3 0) 6
     (record { destination = 1; «next_hop» = 1; hops = 1; quality = 100; time = 6; withdrawn = false } ∷
     record { destination = 9; «next_hop» = 1; hops = 3; quality = 150; time = 6; withdrawn = false } ∷
-    []))) 0
+    []))) 0 1
 
 -- ---- a book
 -- network 1, manager 1, one hop, two rows, three data slots of 100 ms

@@ -16,18 +16,19 @@ use Rattle.c_routes.specs.UpdateCalls.{pageCall}
 use Rattle.octets.proofs.AnsweredLaws.{Answered, valued, said-value, answered, told-done, told-undone}
 
 -- ---- merging: the call on the bytes says no number where it is refused
-module _ (s frame : List ℕ) (quality time skipped : ℕ) (a : MergedIn) (last : List ℕ) (e : mergeLeft (a .refused) last (a .skipped) ≡ mergeCall s frame quality time 0) where
-  status : a .refused ≡ mergeCall s frame quality time skipped .status
+module _ (s frame : List ℕ) (quality time skipped compared : ℕ) (a : MergedIn) (last : List ℕ)
+    (e : mergeLeft (a .refused) last (a .skipped) (a .compared) ≡ mergeCall s frame quality time 0 0) where
+  status : a .refused ≡ mergeCall s frame quality time skipped compared .status
   unfolding mergeCall
   status = ap (λ (x : MergeLeft). x .status) e
 
-  pub unmerged : (a .refused ≡ 0 → ⊥) → mergeLeft (a .refused) last skipped ≡ mergeCall s frame quality time skipped
+  pub unmerged : (a .refused ≡ 0 → ⊥) → mergeLeft (a .refused) last skipped compared ≡ mergeCall s frame quality time skipped compared
   unfolding mergeCall
   unmerged z = rw (ap (λ (x : MergeLeft). x .table) e, ← status, ne-eqb (a .refused) 0 z)
 
-  pub merged : a .refused ≡ 0 → mergeLeft 0 last (a .skipped) ≡ mergeCall s frame quality time skipped
+  pub merged : a .refused ≡ 0 → mergeLeft 0 last (a .skipped) (a .compared) ≡ mergeCall s frame quality time skipped compared
   unfolding mergeCall
-  merged z = rw (ap (λ (x : MergeLeft). x .table) e, ap (λ (x : MergeLeft). x .skipped) e, ← status, z)
+  merged z = rw (ap (λ (x : MergeLeft). x .table) e, ap (λ (x : MergeLeft). x .skipped) e, ap (λ (x : MergeLeft). x .compared) e, ← status, z)
 
 -- ---- a page
 page-answered : (t : Table) (page time : ℕ) (out : List ℕ) → Answered out (pageOf t page time out)

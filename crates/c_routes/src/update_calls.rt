@@ -7,7 +7,7 @@ use octets::answers::Written;
 use route_merges::stored::merge_in;
 use route_pages::stored::page_in;
 
-// Merges an update that was heard with this quality, and says how many candidates found no room.
+// Merges an update that was heard with this quality, and says how many candidates found no room, and how many rows were compared.
 #[no_mangle]
 pub extern "C" fn braidlark_merge(
     table: &mut [u8],
@@ -15,14 +15,16 @@ pub extern "C" fn braidlark_merge(
     quality: u8,
     time: u32,
     skipped: &mut u8,
+    compared: &mut u16,
 ) -> u8
-    ensures { λ r. ⌜ mergeLeft r (now (table .exit)) (now (skipped .exit)) ≡ mergeCall (now (table .entry)) (now (frame .entry)) quality time (now (skipped .entry)) ⌝ }
+    ensures { λ r. ⌜ mergeLeft r (now (table .exit)) (now (skipped .exit)) (now (compared .exit)) ≡ mergeCall (now (table .entry)) (now (frame .entry)) quality time (now (skipped .entry)) (now (compared .entry)) ⌝ }
 {
     let merged = merge_in(table, frame, quality, time);
     if merged.refused != 0 {
         return merged.refused;
     }
     *skipped = merged.skipped;
+    *compared = merged.compared;
     0
 }
 

@@ -94,9 +94,9 @@ views-tell-apart =
       writes = undone any _ (λ l. (l .status, l .out, l .written)) (λ a p. refl);
       tables = undone any _ (λ l. (l .status, l .table)) (λ a p. refl);
       lookups = undone any _ (λ l. (l .status, l .nextHop, l .hops, l .left)) (λ a p. refl);
-      merges = undone any _ (λ l. (l .status, l .table, l .skipped)) (λ a p. refl);
+      merges = undone any _ (λ l. (l .status, l .table, l .skipped, l .compared)) (λ a p. refl);
       relays = undone any _ (λ l. (l .status, l .out, l .nextHop, l .place, l .extent, l .left)) (λ a p. refl);
-      mergesIn = undone any _ (λ l. (record { refused = l .status; skipped = l .skipped }, l .table)) (λ a p. refl);
+      mergesIn = undone any _ (λ l. (record { refused = l .status; skipped = l .skipped; compared = l .compared }, l .table)) (λ a p. refl);
       forwardsIn = undone any _ (λ l. (record { refused = l .status; written = l .written }, l .table, l .out)) (λ a p. refl);
       forwards = undone any _ (λ l. (l .status, l .table, l .out, l .written)) (λ a p. refl);
       states = undone any _ (λ l. (l .status, l .state)) (λ a p. refl);

@@ -120,7 +120,7 @@ pub record ViewsTellApart : Type 1 where
   pub writes : TellsApart any (λ (a : ℕ × List ℕ × ℕ). writeLeft (a .0) (a .1) (a .2))
   pub tables : TellsApart any (λ (a : ℕ × List ℕ). tableLeft (a .0) (a .1))
   pub lookups : TellsApart any (λ (a : ℕ × ℕ × ℕ × ℕ). lookupLeft (a .0) (a .1) (a .2) (a .3))
-  pub merges : TellsApart any (λ (a : ℕ × List ℕ × ℕ). mergeLeft (a .0) (a .1) (a .2))
+  pub merges : TellsApart any (λ (a : ℕ × List ℕ × ℕ × ℕ). mergeLeft (a .0) (a .1) (a .2) (a .3))
   pub relays : TellsApart any (λ (a : ℕ × List ℕ × ℕ × ℕ × ℕ × ℕ). relayLeft (a .0) (a .1) (a .2) (a .3) (a .4) (a .5))
   pub mergesIn : TellsApart any (λ (a : MergedIn × List ℕ). mergedIn (a .0) (a .1))
   pub forwardsIn : TellsApart any (λ (a : ForwardedIn × List ℕ × List ℕ). forwardedIn (a .0) (a .1) (a .2))

@@ -69,19 +69,19 @@ keeps-rule = (fresh-within, every-call)
 
 -- ---- gone rows
 -- the answer to a call that is not about a next hop
-abbrev plain : ℕ → ℕ → ℕ → List ℕ → Answer
-plain refused skipped size held = record { refused = refused; ours = false; nextHop = 0; hops = 0; left = 0; skipped = skipped; size = size; held = held }
+abbrev plain : ℕ → ℕ → ℕ → ℕ → List ℕ → Answer
+plain refused skipped compared size held = record { refused = refused; ours = false; nextHop = 0; hops = 0; left = 0; skipped = skipped; compared = compared; size = size; held = held }
 
 pub gone-rows-do-not-matter : GoneRowsDoNotMatter
 gone-rows-do-not-matter t (merge s quality time) e =
-    let (refusal, skipped) = dropped-merge t s quality time e in
-    (λ i. plain (refusal i) (skipped i) 0 [], λ z c. dropped-merges t s quality time e z)
-gone-rows-do-not-matter t (forget unit time) e = (ap (λ (n : ℕ). plain n 0 0 []) (dropped-forget time t e unit), λ z c. dropped-forgets time t e unit z)
+    let (refusal, skipped, compared) = dropped-merge t s quality time e in
+    (λ i. plain (refusal i) (skipped i) (compared i) 0 [], λ z c. dropped-merges t s quality time e z)
+gone-rows-do-not-matter t (forget unit time) e = (ap (λ (n : ℕ). plain n 0 0 0 []) (dropped-forget time t e unit), λ z c. dropped-forgets time t e unit z)
 gone-rows-do-not-matter t (forward network manager s delay time out) e =
     let refusal = forward-refused time t e network manager s delay out in
     let written = forward-written time t e network manager s delay out in
     let held = forward-held time t e network manager s delay out in
-    (λ i. plain (refusal i) 0 (written i) (held i), λ z c. forward-table time t e network manager s delay out z)
+    (λ i. plain (refusal i) 0 0 (written i) (held i), λ z c. forward-table time t e network manager s delay out z)
 gone-rows-do-not-matter t (lookup d time) e = (rw (dropped-lookup time t e d), λ z c. absurd (false≢true c))
 gone-rows-do-not-matter t (relay s time least out) e = (rw (relay-alike time t e s least out), λ z c. absurd (false≢true c))
 gone-rows-do-not-matter t (page p time out) e = (rw (page-alike time t e p out), λ z c. absurd (false≢true c))

@@ -53,7 +53,7 @@ timeOf c = about c .time
 
 -- ---- what a call gives
 -- what its caller sees: the number, and by name what the call gives, 0 where it gives no such thing: whether a frame is for this unit, a next hop, its hops
--- and the ms for which its row is usable, how many candidates found no room, how many bytes were written or are a payload's; and what its buffer then holds
+-- and the ms for which its row is usable, how many candidates found no room and how many rows were compared, how many bytes were written or are a payload's; and what its buffer then holds
 pub record Answer : Type 0 where
   pub refused : ℕ
   pub ours : Bool
@@ -61,6 +61,7 @@ pub record Answer : Type 0 where
   pub hops : ℕ
   pub left : ℕ
   pub skipped : ℕ
+  pub compared : ℕ
   pub size : ℕ
   pub held : List ℕ
 
@@ -72,24 +73,24 @@ pub record Outcome : Type 0 where
 -- of a call that gives a number, and may fill a buffer
 abbrev gives : ℕ → ℕ → List ℕ → Table → Outcome
 gives refused size held table =
-    record { answer = record { refused = refused; ours = false; nextHop = 0; hops = 0; left = 0; skipped = 0; size = size; held = held }; table = table }
+    record { answer = record { refused = refused; ours = false; nextHop = 0; hops = 0; left = 0; skipped = 0; compared = 0; size = size; held = held }; table = table }
 
 -- merge, forget and forward hand a table back, also where they are refused; the others only read
 abbrev pub outcome : Table → Call → Outcome
 outcome t (merge s quality time) =
     let m = mergeOf t s quality time in
-    record { answer = record { refused = m .refused; ours = false; nextHop = 0; hops = 0; left = 0; skipped = m .skipped; size = 0; held = [] }; table = m .table }
+    record { answer = record { refused = m .refused; ours = false; nextHop = 0; hops = 0; left = 0; skipped = m .skipped; compared = m .compared; size = 0; held = [] }; table = m .table }
 outcome t (forget unit time) = let f = forgetOf t unit time in gives (f .refused) 0 [] (f .table)
 outcome t (forward network manager s delay time out) =
     let f = forwardOf t network manager s delay time out in
     gives (f .answer .refused) (f .answer .written) (f .held) (f .answer .table)
 outcome t (lookup d time) =
     let f = lookupOf t d time in
-    record { answer = record { refused = f .refused; ours = false; nextHop = f .«next_hop»; hops = f .hops; left = f .left; skipped = 0; size = 0; held = [] }; table = t }
+    record { answer = record { refused = f .refused; ours = false; nextHop = f .«next_hop»; hops = f .hops; left = f .left; skipped = 0; compared = 0; size = 0; held = [] }; table = t }
 outcome t (relay s time least out) =
     let r = relayOf t s time least out in
     let a = r .answer in
-    record { answer = record { refused = a .refused; ours = a .ours; nextHop = a .«next_hop»; hops = 0; left = a .left; skipped = 0; size = a .size; held = r .held }; table = t }
+    record { answer = record { refused = a .refused; ours = a .ours; nextHop = a .«next_hop»; hops = 0; left = a .left; skipped = 0; compared = 0; size = a .size; held = r .held }; table = t }
 outcome t (page p time out) = let w = pageOf t p time out in gives (w .said .refusal) (writtenIn w) (w .held) t
 
 abbrev pub answer : Table → Call → Answer

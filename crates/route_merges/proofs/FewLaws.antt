@@ -1,4 +1,5 @@
--- No update makes more than 48 rows of at most 48: a row in place of another adds none, and a new one is learned only where there is room.
+-- No update makes more than 48 rows of at most 48: a row in place of another adds none, and a new one is learned only where there is room. So few rows are
+-- compared.
 -- Assumes nothing.
 use Rattle.octets.proofs.Words.{_≡_, refl, ap, true, List, [], _∷_, ⊎-elim, ℕ, suc, _≤_, _<_, arith, ne-eqb, length}
 use Rattle.octets.specs.Lists.{Each}
@@ -6,7 +7,9 @@ use Rattle.octets.proofs.OrderLaws.{by-place, put-length, put-ascending, ascend
 use Rattle.route_table.specs.declared.row.Row.{Row}
 use Rattle.route_table.specs.Rows.{leadingTo, withdrawnAt, ascending, rowFor}
 use Rattle.route_merges.specs.declared.candidate.Candidate.{Candidate}
+use Rattle.route_merges.specs.Laws.{FewForEach}
 use Rattle.route_merges.specs.Learning.{put, rowBy, Learned, learn, learnAll}
+use Rattle.route_merges.proofs.CompareLaws.{compared-few}
 use Rattle.route_merges.proofs.LearnLaws.{by-learn, by-learn-all}
 use Rattle.route_merges.proofs.SearchLaws.{none-above}
 
@@ -38,3 +41,11 @@ learn-few via time c p l (a, h) = (
 -- candidates for units
 pub learn-all-few : (via time : ℕ) (cs : List Candidate) → Each (λ c. 0 < c .destination) cs → (l : Learned) → Few (l .rows) → Few (learnAll via time cs l .rows)
 learn-all-few via time = by-learn-all Few via time (λ c. 0 < c .destination) (learn-few via time)
+
+-- so at most 48 are compared for each
+pub few-for-each : FewForEach
+few-for-each via time [] u l a h = omega arith
+few-for-each via time (c ∷ cs) u l a h =
+    let (ascends, fits) = learn-few via time c (u .0) l (a, h) in
+    let rest = few-for-each via time cs (u .1) (learn via time c l) ascends fits in
+    omega (arith, compared-few (c .destination) (l .rows), h, rest)

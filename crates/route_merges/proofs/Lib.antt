@@ -1,5 +1,7 @@
 pub mod CandidateLaws
+pub mod CompareLaws
 pub mod FewLaws
+pub mod FullestLaws
 pub mod HasLaws
 pub mod KeepLaws
 pub mod LearnLaws

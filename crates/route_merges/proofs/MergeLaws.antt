@@ -19,9 +19,9 @@ use Rattle.route_table.specs.Tables.{rowsOf, withinRule}
 use Rattle.route_table.proofs.StandingLaws.{used, in-use-used, in-use-pad, standing-every, standing-ascending, standing-places}
 use Rattle.route_table.proofs.TableLaws.{held, within}
 use Rattle.route_merges.specs.Learning.{Learned, learned, learnAll}
-use Rattle.route_merges.specs.Merges.{updateIn, mergeRefusal, mergedRows, mergeOf, unmergedReasons, mergeReasons}
-use Rattle.route_merges.specs.Offering.{walked, fair}
-use Rattle.route_merges.proofs.OfferLaws.{walked-fair, walked-same}
+use Rattle.route_merges.specs.Merges.{updateIn, mergeRefusal, mergedRows, mergedCount, mergeOf, unmergedReasons, mergeReasons}
+use Rattle.route_merges.specs.Offering.{walked, comparedWalk, fair}
+use Rattle.route_merges.proofs.OfferLaws.{walked-fair, walked-same, walked-count}
 
 -- the fields that were read are those of the frame
 pub header-in : (h : UpdateHeader) (s : List ℕ) → updateValues h ≡ valuesIn update s → h ≡ updateIn s
@@ -91,6 +91,11 @@ module _ (t : Table) (s : List ℕ) (quality time : ℕ) (m : Mergeable t s qual
     merged-same =
         rw stand-rows (walked-same (t .own) (u .origin) quality (u .count) (partIn update s) time (learned (standing time (rowsOf t)) 0) some (m .entries) standing-used)
 
+    counted-same : comparedWalk (u .origin) time (walked (t .own) (u .origin) quality (u .count) (partIn update s)) (learned (inUse places) 0) ≡ mergedCount t s quality time
+    unfolding mergedCount
+    counted-same =
+        rw stand-rows (walked-count (t .own) (u .origin) quality (u .count) (partIn update s) time (learned (standing time (rowsOf t)) 0) some (m .entries) standing-used)
+
     -- the same, of the unit, the header and the entries that were read
     module _ (own : ℕ) (h : UpdateHeader) (part : List ℕ) (eo : own ≡ t .own) (eh : h ≡ updateIn s) (ep : part ≡ partIn update s) where
       pub learnable :
@@ -101,6 +106,9 @@ module _ (t : Table) (s : List ℕ) (quality time : ℕ) (m : Mergeable t s qual
       pub merged-by : learnAll (h .origin) time (walked own (h .origin) quality (h .count) part) (learned (inUse places) 0) ≡ mergedRows t s quality time
       merged-by = rw (eo, eh, ep) merged-same
 
+      pub counted-by : comparedWalk (h .origin) time (walked own (h .origin) quality (h .count) part) (learned (inUse places) 0) ≡ mergedCount t s quality time
+      counted-by = rw (eo, eh, ep) counted-same
+
 -- ---- the answer
 module _ (t : Table) (s : List ℕ) (quality time : ℕ) where
   -- 14 where the table is not within rule, else why such a table does not merge it
@@ -108,15 +116,17 @@ module _ (t : Table) (s : List ℕ) (quality time : ℕ) where
   unfolding mergeRefusal
   refused-by rule why n r w e = e ∙ rw (r, w)
 
-  pub unmerged : (n : ℕ) → n ≡ mergeRefusal t s quality time → (n ≡ 0 → ⊥) → record { refused = n; skipped = 0; table = t } ≡ mergeOf t s quality time
+  pub unmerged : (n : ℕ) → n ≡ mergeRefusal t s quality time → (n ≡ 0 → ⊥) → record { refused = n; skipped = 0; compared = 0; table = t } ≡ mergeOf t s quality time
   unfolding mergeOf
   unmerged n e z = rw (← e, ne-eqb n 0 z)
 
-  pub merges : (skipped : ℕ) (rows : List Row) (all : Learned) → mergeRefusal t s quality time ≡ 0 → all ≡ mergedRows t s quality time → (rows ≡ pad (all .rows)) × (skipped ≡ all .skipped)
+  pub merges : (skipped compared : ℕ) (rows : List Row) (all : Learned) (count : ℕ) → mergeRefusal t s quality time ≡ 0 → all ≡ mergedRows t s quality time
+      → count ≡ mergedCount t s quality time → (rows ≡ pad (all .rows)) × (skipped ≡ all .skipped) × (compared ≡ count)
       → record {
         refused = 0;
         skipped = skipped;
+        compared = compared;
         table = record { own = t .own; time = time; forwarded = t .forwarded; origin = t .origin; sequence = t .sequence; rows = rows };
       } ≡ mergeOf t s quality time
   unfolding mergeOf
-  merges skipped rows all z same (r, k) = rw (z, ← same, k, r)
+  merges skipped compared rows all count z same counts (r, k, n) = rw (z, ← same, k, r, n, counts)

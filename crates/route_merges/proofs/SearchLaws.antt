@@ -1,15 +1,14 @@
 -- The search for a destination among ascending rows: it goes past the lower ones, and stops at the row itself or where it would stand.
 -- Assumes nothing.
-use Rattle.octets.proofs.Words.{_≡_, refl, sym, ap, _∙_, Bool, true, false, cond, and-eq-true-iff, List, [], _∷_, _++_, ℕ, zero, suc, _+_, _≤_, _<_, add-one, arith, eq-eqb, ne-eqb, lt-ltb, ltb-true, ltb-false, ltb, length, getD, take, drop, set, length-append, drop-of-length-le, drop-cons, take-suc, take-at, length-take-le, set-split}
+use Rattle.octets.proofs.Words.{_≡_, refl, sym, ap, _∙_, Bool, true, and-eq-true-iff, List, [], _∷_, _++_, ℕ, zero, suc, _+_, _≤_, _<_, add-one, arith, eq-eqb, ne-eqb, lt-ltb, ltb-true, ltb, length, getD, take, drop, set, drop-of-length-le, drop-cons, take-suc, set-split}
 use Rattle.octets.specs.Lists.{every}
-use Rattle.octets.proofs.ListLaws.{every-snoc, every-on}
+use Rattle.octets.proofs.ListLaws.{every-snoc}
 use Rattle.octets.proofs.OrderLaws.{put-above, put-same, put-below, ascending-rest}
 use Rattle.route_table.specs.declared.row.Row.{Row}
 use Rattle.route_table.specs.Rows.{leadingTo, none, ascending, rowFor}
 use Rattle.route_merges.specs.Learning.{put}
-use Rattle.route_merges.specs.Searching.{startsAt}
 
-abbrev below : ℕ → Row → Bool
+abbrev pub below : ℕ → Row → Bool
 below d r = ltb (r .destination) d
 
 -- the search for a destination has come to this place: all rows before it are lower
@@ -55,26 +54,6 @@ module _ (d : ℕ) (rs : List Row) (at : ℕ) (s : Searched d rs at) where
         lower = rw (add-one, take-suc rs at none h, every-snoc (below d) (take at rs) here, s .lower, lt-ltb (here .destination) d low);
       }
 
-  -- a row that is put leaves the rows before it
-  pub put-keeps : (w : Row) → w .destination ≡ d → (take at (put w rs) ≡ take at rs) × (at ≤ length (put w rs))
-  put-keeps w q =
-      let size = length-take-le at rs (s .within) in
-      rw (← puts w q) (take-at (take at rs) (put w (drop at rs)) at size, omega (arith, size, length-append (take at rs) (put w (drop at rs))))
-
-  -- the search for the next destination, where the rows before this place still stand
-  pub searched-next : (next : ℕ) (rs′ : List Row) → (take at rs′ ≡ take at rs) × (at ≤ length rs′) → Searched next rs′ (startsAt at d next)
-  searched-next next rs′ (kept, within′) = go (ltb next d) refl
-    where
-      go : (b : Bool) → ltb next d ≡ b → Searched next rs′ (cond b 0 at)
-      go true q = searched-start next rs′
-      go false q =
-          record {
-            within = within′;
-            lower =
-                rw kept
-                (every-on (below d) (below next) (λ r e. lt-ltb (r .destination) next (omega (arith, ltb-true (r .destination) d e, ltb-false next d q))) (take at rs) (s .lower));
-          }
-
   -- past the last row
   pub stop-end : at ≡ length rs → rowFor d rs ≡ none
   stop-end e = sym found ∙ rw (drop-of-length-le rs {i = at} (omega arith))
@@ -104,7 +83,7 @@ none-above d r (s ∷ rs) e h =
     let k = ltb-true (r .destination) (s .destination) (and-eq-true-iff (ltb (r .destination) (s .destination)) (ascending (s ∷ rs)) .0 e .0) in
     rw (ne-eqb (r .destination) d (omega arith)) (none-above d s rs (ascending-rest leadingTo r (s ∷ rs) e) (omega (arith, k)))
 
-ascending-drop : (at : ℕ) (rs : List Row) → ascending rs ≡ true → ascending (drop at rs) ≡ true
+pub ascending-drop : (at : ℕ) (rs : List Row) → ascending rs ≡ true → ascending (drop at rs) ≡ true
 ascending-drop zero rs e = e
 ascending-drop (suc at) [] e = refl
 ascending-drop (suc at) (r ∷ rs) e = ascending-drop at rs (ascending-rest leadingTo r rs e)

@@ -13,7 +13,7 @@ use Rattle.route_bytes.specs.TableBytes.{rowsIn, tableIn, tableBytes, tableOver
 use Rattle.route_bytes.proofs.TableByteLaws.{table-length, rows-in}
 use Rattle.route_in_place.proofs.JudgedLaws.{judged-table, judged-rule}
 use Rattle.route_merges.specs.Learning.{Learned}
-use Rattle.route_merges.specs.Merges.{unmergedReasons, mergeRefusal, mergedRows, mergeOf}
+use Rattle.route_merges.specs.Merges.{unmergedReasons, mergeRefusal, mergedRows, mergedCount, mergeOf}
 use Rattle.route_merges.specs.StoredMerges.{mergeLeft, mergeCall}
 use Rattle.route_merges.proofs.KeepLaws.{merge-rules}
 use Rattle.route_merges.proofs.MergeLaws.{Mergeable, mergeable}
@@ -41,7 +41,7 @@ module _ (s frame : List ℕ) (quality time : ℕ) where
   -- ---- what a merge leaves, by its number
   module _ (n : ℕ) (e : n ≡ status) where
     -- the bytes as they were where it is refused
-    pub bytes-stay : (n ≡ 0 → ⊥) → mergeLeft n s 0 ≡ mergeCall s frame quality time 0
+    pub bytes-stay : (n ≡ 0 → ⊥) → mergeLeft n s 0 0 ≡ mergeCall s frame quality time 0 0
     unfolding mergeOf mergeCall
     bytes-stay z = rw (← e, ne-eqb n 0 z)
 
@@ -62,13 +62,14 @@ module _ (s frame : List ℕ) (quality time : ℕ) where
       unfolding mergeOf
       learned-rows = rows-of-pad (tableIn s .own) time (mergedRows (tableIn s) frame quality time .rows) (merge-rules (tableIn s) frame quality time (accepted .1))
 
-      module _ (h : Head) (q : h ≡ headOf (tableIn s)) (rows : List Row) (skipped : ℕ) (all : Learned) (same : all ≡ mergedRows (tableIn s) frame quality time)
-          (k : (rows ≡ pad (all .rows)) × (skipped ≡ all .skipped)) (last : List ℕ)
+      module _ (h : Head) (q : h ≡ headOf (tableIn s)) (rows : List Row) (skipped compared : ℕ) (all : Learned) (count : ℕ) (same : all ≡ mergedRows (tableIn s) frame quality time)
+          (counts : count ≡ mergedCount (tableIn s) frame quality time)
+          (k : (rows ≡ pad (all .rows)) × (skipped ≡ all .skipped) × (compared ≡ count)) (last : List ℕ)
           (l : last ≡ tableOver s (tableOf (record { own = h .own; time = time; forwarded = h .forwarded; origin = h .origin; sequence = h .sequence }) (inUse rows))) where
         all-written : last ≡ tableBytes (withRows (tableIn s) time (mergedRows (tableIn s) frame quality time .rows))
         unfolding tableOver
         all-written = l ∙ rw (eq-eqb (length s) 539 (table-length s (accepted .0)), q, k .0, same, learned-rows)
 
-        pub bytes-written : mergeLeft 0 last skipped ≡ mergeCall s frame quality time 0
+        pub bytes-written : mergeLeft 0 last skipped compared ≡ mergeCall s frame quality time 0 0
         unfolding mergeOf mergeCall
-        bytes-written = rw (accepted .0, accepted .1, all-written, k .1, same)
+        bytes-written = rw (accepted .0, accepted .1, all-written, k .1, k .2, same, counts)

@@ -1,4 +1,6 @@
 pub mod Candidates
+pub mod Comparing
+pub mod Fullest
 pub mod Laws
 pub mod Learning
 pub mod Merges

@@ -16,6 +16,7 @@ use Rattle.route_table.specs.Rows.{standing}
 use Rattle.route_table.specs.Tables.{rowsOf, withinRule, withRows}
 use Rattle.route_merges.specs.declared.merging.Merged.{Merged}
 use Rattle.route_merges.specs.Candidates.{candidates}
+use Rattle.route_merges.specs.Comparing.{comparedAll}
 use Rattle.route_merges.specs.Learning.{Learned, learned, learnAll}
 
 -- the fields of an update
@@ -44,9 +45,20 @@ mergedRows t s quality time =
     let u = updateIn s in
     learnAll (u .origin) time (candidates (t .own) (u .origin) quality (entriesOf (u .count) (partIn update s))) (learned (standing time (rowsOf t)) 0)
 
--- the number that refuses it with the table as it was; or the new table, and how many candidates were skipped
+-- and how many rows are compared for them
+unfoldable pub mergedCount : Table → List ℕ → ℕ → ℕ → ℕ
+mergedCount t s quality time =
+    let u = updateIn s in
+    comparedAll (u .origin) time (candidates (t .own) (u .origin) quality (entriesOf (u .count) (partIn update s))) (learned (standing time (rowsOf t)) 0)
+
+-- the number that refuses it with the table as it was; or the new table, how many candidates were skipped, and how many rows were compared
 unfoldable pub mergeOf : Table → List ℕ → ℕ → ℕ → Merged
 mergeOf t s quality time =
     let refusal = mergeRefusal t s quality time in
     let all = mergedRows t s quality time in
-    record { refused = refusal; skipped = after refusal 0 (all .skipped); table = after refusal t (withRows t time (all .rows)) }
+    record {
+      refused = refusal;
+      skipped = after refusal 0 (all .skipped);
+      compared = after refusal 0 (mergedCount t s quality time);
+      table = after refusal t (withRows t time (all .rows));
+    }

@@ -3,13 +3,15 @@
 -- Assumes nothing.
 use Prim.Native.Nat.{ℕ, zero, suc, _+_}
 use mathlib.Core.Bool.{Bool, _||_, cond}
-use mathlib.Core.List.{List}
-use lib.Dec.{ltb}
+use mathlib.Core.List.{List, [], _∷_}
+use lib.Dec.{eqb, ltb}
 use Rattle.octets.specs.Lists.{tab}
 use Rattle.frame_traffic.specs.declared.entry.Entry.{Entry}
 use Rattle.frame_traffic.specs.Traffic.{entryAt}
 use Rattle.route_merges.specs.declared.candidate.Candidate.{Candidate}
 use Rattle.route_merges.specs.Candidates.{neighbour, offered, passedOver, bad}
+use Rattle.route_merges.specs.Comparing.{compared}
+use Rattle.route_merges.specs.Learning.{Learned, learn}
 
 -- a candidate for no unit: it is bad, and there is no row that it could withdraw
 abbrev pub nothing : Candidate
@@ -28,6 +30,12 @@ candidateNo own origin quality part (suc n) = offerAt own origin quality part n
 
 abbrev pub walked : ℕ → ℕ → ℕ → ℕ → List ℕ → List Candidate
 walked own origin quality count part = tab (count + 1) (candidateNo own origin quality part)
+
+-- the rows that are compared for them, none for what offers nothing
+abbrev pub comparedWalk : ℕ → ℕ → List Candidate → Learned → ℕ
+comparedWalk via time [] l = 0
+comparedWalk via time (c ∷ cs) l =
+    cond (eqb (c .destination) 0) 0 (compared (c .destination) (l .rows)) + comparedWalk via time cs (learn via time c l)
 
 -- a candidate for no unit is bad
 abbrev pub fair : Candidate → Bool

@@ -1,5 +1,5 @@
 -- Needs no belief, laws carry it to the list of rows: what the code sees of a table's 48 places while it looks for a candidate's row. The search goes up from
--- a place behind lower ones and stops at the first that is not lower.
+-- the first and stops at the first that is not lower.
 -- Assumes nothing.
 use Prim.Native.Nat.{ℕ}
 use mathlib.Core.Bool.{Bool, not, _&&_, _||_, cond}
@@ -14,9 +14,9 @@ use Rattle.route_merges.specs.Learning.{rowBy, givesWay, takenBack}
 abbrev pub goesOn : ℕ → ℕ → Row → Bool
 goesOn at destination r = ltb at 47 && ltb 0 (r .destination) && ltb (r .destination) destination
 
--- where the search for a destination starts, when that for the one before it stopped at a place: there, or anew where it is lower
-abbrev pub startsAt : ℕ → ℕ → ℕ → ℕ
-startsAt place before destination = cond (ltb destination before) 0 place
+-- where the search stopped, one more row was compared: there is one, and it was looked for a unit
+abbrev pub comparesOn : ℕ → Row → Bool
+comparesOn destination r = ltb 0 destination && ltb 0 (r .destination)
 
 -- a candidate changes the row for its destination
 abbrev pub alters : ℕ → ℕ → Candidate → Row → Bool

@@ -7,12 +7,12 @@ ghost use Rattle.octets.specs.Lists.{every};
 ghost use Rattle.route_table.specs.Rows.{ascending, inUse, pad};
 ghost use Rattle.route_merges.specs.Learning.{learned, learnAll};
 ghost use Rattle.route_merges.specs.Merges.{unmergedReasons, mergeOf};
-ghost use Rattle.route_merges.specs.Offering.{walked, fair};
+ghost use Rattle.route_merges.specs.Offering.{walked, comparedWalk, fair};
 use crate::candidate::Candidate;
+use crate::steps::compares_on;
 use crate::steps::goes_on;
 use crate::steps::made;
 use crate::steps::skips;
-use crate::steps::starts;
 use crate::steps::stores;
 use frame_traffic::update::UpdateHeader;
 use frame_traffic::update::entries;
@@ -23,21 +23,23 @@ use route_table::row::Row;
 use route_table::standing::standing_places;
 use route_table::table::Table;
 
-// What a merge gives: the table, which is as it was where `refused` is not 0, and how many candidates found no room.
+// What a merge gives: the table, which is as it was where `refused` is not 0, how many candidates found no room, and how many rows were compared.
 pub struct Merged {
     pub refused: u8,
     pub skipped: u8,
+    pub compared: u16,
     pub table: Table,
 }
 
-// The rows when every candidate has been learned, and how many were skipped.
+// The rows when every candidate has been learned, how many were skipped, and how many rows were compared.
 pub(crate) struct Rows {
     pub(crate) rows: [Row; 48],
     pub(crate) skipped: u8,
+    pub(crate) compared: u16,
 }
 
-// Every candidate of an update in turn: one loop on one array. A turn takes the search for the candidate's row one place on, or, where that stops,
-// does with the candidate and takes the next. The entries of a page ascend, so that all their searches together pass each row about once. A row that is
+// Every candidate of an update in turn: one loop on one array. A turn takes the search for the candidate's row one place on, up from the first, or, where
+// that stops, does with the candidate and takes the next; it counts each row that it compares, so that what is reported is what was done. A row that is
 // stored takes the place of the row that is there for its destination, or is moved in: each row from there on moves up by one, as far as the first place
 // that is not in use. A function that did this would copy the array.
 pub(crate) fn learn_all(
@@ -50,17 +52,19 @@ pub(crate) fn learn_all(
     time: u32,
 ) -> Rows
     requires { ⌜ (rows ≡ pad (inUse rows)) × (ascending (inUse rows) ≡ true) × (count ≤ 24) × (0 < origin) × (every fair (walked own origin quality count (now part)) ≡ true) ⌝ }
-    ensures { λ r. ⌜ (r .rows ≡ pad (learnAll origin time (walked own origin quality count (now (part .entry))) (learned (inUse rows) 0) .rows)) × (r .skipped ≡ learnAll origin time (walked own origin quality count (now (part .entry))) (learned (inUse rows) 0) .skipped) ⌝ }
+    ensures { λ r. ⌜ (r .rows ≡ pad (learnAll origin time (walked own origin quality count (now (part .entry))) (learned (inUse rows) 0) .rows)) × (r .skipped ≡ learnAll origin time (walked own origin quality count (now (part .entry))) (learned (inUse rows) 0) .skipped) × (r .compared ≡ comparedWalk origin time (walked own origin quality count (now (part .entry))) (learned (inUse rows) 0)) ⌝ }
 {
     let mut out = rows;
     let mut candidate = Candidate::neighbour(origin, quality);
     let mut done: u8 = 0;
     let mut skipped: u8 = 0;
+    let mut compared: u16 = 0;
     let mut at: usize = 0;
     while done <= count {
         let row = out[at];
         if goes_on(at, candidate.destination, row) {
             at += 1;
+            compared += 1;
             continue;
         }
         let last = out[47];
@@ -68,6 +72,7 @@ pub(crate) fn learn_all(
         let full = 0 < last.destination;
         let mut moves = stores(origin, time, candidate, row, there, full);
         skipped += skips(candidate, there, full) as u8;
+        compared += compares_on(candidate.destination, row) as u16;
         let mut hand = made(origin, time, candidate, row);
         let mut i = at;
         while moves {
@@ -77,12 +82,15 @@ pub(crate) fn learn_all(
             hand = next;
             i += 1;
         }
-        let sought = candidate.destination;
         candidate = Candidate::at(part, done, own, origin, quality);
         done += 1;
-        at = starts(at, sought, candidate.destination);
+        at = 0;
     }
-    Rows { rows: out, skipped }
+    Rows {
+        rows: out,
+        skipped,
+        compared,
+    }
 }
 
 // Why a table within rule of the unit `own`, with this last accepted time, does not merge an update; 0 where it does.
@@ -107,6 +115,7 @@ pub fn merge(table: Table, frame: &[u8], quality: u8, time: u32) -> Merged
         return Merged {
             refused,
             skipped: 0,
+            compared: 0,
             table,
         };
     }
@@ -126,6 +135,7 @@ pub fn merge(table: Table, frame: &[u8], quality: u8, time: u32) -> Merged
     Merged {
         refused: 0,
         skipped: learned.skipped,
+        compared: learned.compared,
         table: Table {
             own: table.own,
             time,

@@ -3,7 +3,7 @@ ghost use mathlib.Core.Path.{_≡_};
 ghost use mathlib.Core.Bool.{cond};
 ghost use Prim.Native.Nat.{_-_};
 ghost use lib.Dec.{eqb};
-ghost use Rattle.route_merges.specs.Searching.{goesOn, startsAt, alters, stores, skips, made};
+ghost use Rattle.route_merges.specs.Searching.{goesOn, comparesOn, alters, stores, skips, made};
 use crate::candidate::Candidate;
 use route_table::row::Row;
 
@@ -33,11 +33,11 @@ pub(crate) fn goes_on(at: usize, destination: u16, row: Row) -> bool
     (at < 47) & (rank(row.destination) < limit(destination))
 }
 
-// Where the search for the next destination starts, when that for the one before stopped at a place: only lower rows stand before the start.
-pub(crate) fn starts(place: usize, before: u16, destination: u16) -> usize
-    ensures { λ r. ⌜ r ≡ startsAt place before destination ⌝ }
+// Whether one more row was compared where the search stopped: there is one, and it was looked for a unit.
+pub(crate) fn compares_on(destination: u16, row: Row) -> bool
+    ensures { λ r. ⌜ r ≡ comparesOn destination row ⌝ }
 {
-    if destination < before { 0 } else { place }
+    (0 < destination) & (0 < row.destination)
 }
 
 // Whether a candidate changes the row for its destination.

@@ -19,6 +19,7 @@ use route_table::table::Head;
 pub struct MergedIn {
     pub refused: u8,
     pub skipped: u8,
+    pub compared: u16,
 }
 
 // Why an update is not merged into the table that bytes hold, 14 where they hold none; 0 where it is.
@@ -34,13 +35,14 @@ fn why_unmerged_in(s: &[u8], frame: &[u8], quality: u8, time: u32) -> u8
 
 // Merges an update that was heard with this quality. Nothing is written before it is known that nothing refuses it.
 pub fn merge_in(table: &mut [u8], frame: &[u8], quality: u8, time: u32) -> MergedIn
-    ensures { λ r. ⌜ mergedIn r (now (table .exit)) ≡ mergeCall (now (table .entry)) (now (frame .entry)) quality time 0 ⌝ }
+    ensures { λ r. ⌜ mergedIn r (now (table .exit)) ≡ mergeCall (now (table .entry)) (now (frame .entry)) quality time 0 0 ⌝ }
 {
     let refused = why_unmerged_in(&table[..], frame, quality, time);
     if refused != 0 {
         return MergedIn {
             refused,
             skipped: 0,
+            compared: 0,
         };
     }
     let head = head_of(&table[..]);
@@ -67,5 +69,6 @@ pub fn merge_in(table: &mut [u8], frame: &[u8], quality: u8, time: u32) -> Merge
     MergedIn {
         refused: 0,
         skipped: learned.skipped,
+        compared: learned.compared,
     }
 }

@@ -9,13 +9,13 @@ returns : tie.Need-returns
 returns c =
     let d = c .before .before .before .before in
     let a = d .before .before .before .before .args in
-    unmerged (a .table .now) (a .frame .now) (a .quality) (a .time) _ (d .merge-in .result) _ (d .merge-in .ensures) (c .if1 .taken)
+    unmerged (a .table .now) (a .frame .now) (a .quality) (a .time) _ _ (d .merge-in .result) _ (d .merge-in .ensures) (c .if1 .taken)
 
 returns-2 : tie.Need-returns-2
 returns-2 c =
     let d = c .before .before .before .before in
     let a = d .before .before .before .before .args in
-    merged (a .table .now) (a .frame .now) (a .quality) (a .time) _ (d .merge-in .result) _ (d .merge-in .ensures) (c .if1 .left)
+    merged (a .table .now) (a .frame .now) (a .quality) (a .time) _ _ (d .merge-in .result) _ (d .merge-in .ensures) (c .if1 .left)
 
 pub braidlark-merge-spec : {M : Type 1} → statement M
 braidlark-merge-spec =

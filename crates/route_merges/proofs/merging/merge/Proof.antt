@@ -5,7 +5,7 @@ use Rattle.octets.specs.Parts.{Lent}
 use Rattle.route_table.specs.Rows.{pad, standing}
 use Rattle.route_table.specs.Tables.{rowsOf}
 use Rattle.route_merges.specs.Merges.{updateIn, mergeRefusal}
-use Rattle.route_merges.proofs.MergeLaws.{Mergeable, mergeable, header-in, stand-places, learnable, merged-by, refused-by, unmerged, merges}
+use Rattle.route_merges.proofs.MergeLaws.{Mergeable, mergeable, header-in, stand-places, learnable, merged-by, counted-by, refused-by, unmerged, merges}
 use Rattle.route_merges.proofs.merging.merge.Statement.{statement}
 use Rattle.route_merges.proofs.merging.merge.Tie as tie
 
@@ -44,7 +44,8 @@ returns-2 c =
     let d = learn .before in
     let test = d .before .before .before .before in
     let whole = merged-by _ _ _ _ (able d) _ (stand d) _ (d .before .before .before .of .result) _ refl (header d) (ap (λ (l : Lent). l .bytes) (d .entries .ensures)) in
-    merges _ _ _ _ _ _ _ (sym (number (test .before)) ∙ accepted test) whole (learn .learn-all .ensures)
+    let counts = counted-by _ _ _ _ (able d) _ (stand d) _ (d .before .before .before .of .result) _ refl (header d) (ap (λ (l : Lent). l .bytes) (d .entries .ensures)) in
+    merges _ _ _ _ _ _ _ _ _ (sym (number (test .before)) ∙ accepted test) whole counts (learn .learn-all .ensures)
 
 pub merge-spec : {M : Type 1} → statement M
 merge-spec =

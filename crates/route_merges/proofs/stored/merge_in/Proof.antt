@@ -8,7 +8,7 @@ use Rattle.route_table.specs.Rows.{pad}
 use Rattle.route_table.specs.Tables.{rowsOf}
 use Rattle.route_bytes.specs.TableBytes.{tableIn}
 use Rattle.route_merges.specs.Merges.{updateIn}
-use Rattle.route_merges.proofs.MergeLaws.{Mergeable, header-in, learnable, merged-by}
+use Rattle.route_merges.proofs.MergeLaws.{Mergeable, header-in, learnable, merged-by, counted-by}
 use Rattle.route_merges.proofs.StoredLaws.{bytes-stay, stored-able, stored-standing, bytes-written}
 use Rattle.route_merges.proofs.stored.merge_in.Statement.{statement}
 use Rattle.route_merges.proofs.stored.merge_in.Tie as tie
@@ -47,7 +47,8 @@ returns-2 c =
     let head = d .before .before .before .before in
     let test = head .before .before in
     let whole = merged-by _ _ _ _ (able d) _ (standing d) _ (d .before .before .before .of .result) _ (own d) (header d) (ap (λ (l : Lent). l .bytes) (d .entries .ensures)) in
-    bytes-written _ _ _ _ _ (test .before .why-unmerged-in .ensures) (accepted test) (head .head-of .result) (head .head-of .ensures) _ _ _ whole (learn .learn-all .ensures) _ (put .put-table .ensures)
+    let counts = counted-by _ _ _ _ (able d) _ (standing d) _ (d .before .before .before .of .result) _ (own d) (header d) (ap (λ (l : Lent). l .bytes) (d .entries .ensures)) in
+    bytes-written _ _ _ _ _ (test .before .why-unmerged-in .ensures) (accepted test) (head .head-of .result) (head .head-of .ensures) _ _ _ _ _ whole counts (learn .learn-all .ensures) _ (put .put-table .ensures)
 
 pub merge-in-spec : {M : Type 1} → statement M
 merge-in-spec =

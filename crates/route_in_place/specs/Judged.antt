@@ -1,9 +1,9 @@
 -- Needs no belief, laws carry it to the table that the bytes hold: what the code sees of them while it judges them, rows in front and zeros behind them.
 -- Assumes nothing.
-use Prim.Native.Nat.{ℕ, _+_, _*_}
+use Prim.Native.Nat.{ℕ}
 use mathlib.Core.Bool.{Bool, _&&_}
 use mathlib.Core.List.{List}
-use lib.Dec.{leb}
+use lib.Dec.{leb, ltb}
 use Rattle.octets.specs.Lists.{tab}
 use Rattle.octets.specs.Zeros.{zerosFrom}
 use Rattle.route_table.specs.Places.{okPlaces}
@@ -13,6 +13,6 @@ use Rattle.route_bytes.specs.TableBytes.{rowAt, flagsOk}
 abbrev pub rowsOk : ℕ → ℕ → List ℕ → Bool
 rowsOk own last s = flagsOk 48 s && okPlaces own last (tab 48 (rowAt s))
 
--- the first `used` places are rows, 49 for places that are not right, and zeros stand behind them
-abbrev pub zerosBehind : ℕ → List ℕ → Bool
-zerosBehind used s = leb used 48 && zerosFrom (11 + 11 * used) s
+-- the rows in front end at a byte, 0 for rows that are not right, the last of them is to an address, and zeros stand behind them
+abbrev pub frontOk : ℕ → ℕ → List ℕ → Bool
+frontOk end highest s = ltb 0 end && (leb highest 0xFFFE && zerosFrom end s)

@@ -18,8 +18,7 @@ use octets::numbers::look_over;
 use octets::parts::part;
 use octets::parts::put_bytes;
 use route_bytes::tables::head_of;
-use route_in_place::finding;
-use route_in_place::judging::holds_table;
+use route_in_place::judging::judged_for;
 use route_table::table::Found;
 use route_table::table::Table;
 use route_table::table::found_by;
@@ -149,12 +148,13 @@ pub fn relay(table: Table, frame: &[u8], time: u32, least: u32, out: &mut [u8]) 
 pub fn relay_in(table: &[u8], frame: &[u8], time: u32, least: u32, out: &mut [u8]) -> Relayed
     ensures { λ r. ⌜ relayed r (now (out .exit)) ≡ relayIn (now (table .entry)) (now (frame .entry)) time least (now (out .entry)) ⌝ }
 {
-    if !holds_table(table) {
+    let to = DataHeader::of(frame).destination;
+    let judged = judged_for(table, to);
+    if !judged.holds {
         return unwritten(Refusal::RULE, 0);
     }
     let head = head_of(table);
-    let to = DataHeader::of(frame).destination;
-    let found = found_by(head.time, finding::row_for(table, to), to, time);
+    let found = found_by(head.time, judged.row, to, time);
     relay_by(head.own, head.time, found, frame, time, least, out)
 }
 

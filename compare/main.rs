@@ -3,7 +3,8 @@
 //!
 //! The paper is document 01, with beacons, plans and images as request 101 of document 02 has them, what lookups and
 //! relays say and ask of a route's time as its request 102, times and the clock as its request 104 (`shared::moments`),
-//! and what a merge reports as its request 110. Following is its request 112.
+//! and what a merge reports as its request 110. Following is its request 112, and `routes::direct` the relay that its
+//! request 111 has the library measured against.
 
 #![deny(warnings)]
 

@@ -1,5 +1,6 @@
 //! The calls that are measured, each by the library and by the independent implementation. The same buffers go in and
-//! come out: both have to decode, judge and write the same bytes, and both refuse what is to be refused.
+//! come out: both have to judge and write the same bytes, and both refuse what is to be refused. Only a relay that trusts
+//! its table judges less.
 
 use crate::shared::moments::Moment;
 use crate::shared::refusal::Refusal;
@@ -152,11 +153,19 @@ pub mod independent {
     use super::*;
     use crate::book::members::Book;
     use crate::follow::choice::{self, Heard};
+    use crate::routes::direct;
     use crate::routes::table::Table;
 
     pub fn relay(buffers: &mut Buffers) -> Result<(), Refusal> {
-        let table = Table::from_bytes(&buffers.kept)?;
-        let relayed = table.relay(&buffers.input, NOW, buffers.least_left, &mut buffers.out)?;
+        let Buffers { kept, input, least_left, out, .. } = buffers;
+        let relayed = direct::relay(kept, input, NOW, *least_left, out)?;
+        (buffers.next_hop, buffers.place, buffers.length, buffers.left) = relayed.numbers();
+        Ok(())
+    }
+
+    pub fn relay_trusting(buffers: &mut Buffers) -> Result<(), Refusal> {
+        let Buffers { kept, input, least_left, out, .. } = buffers;
+        let relayed = direct::relay_trusting(kept, input, NOW, *least_left, out)?;
         (buffers.next_hop, buffers.place, buffers.length, buffers.left) = relayed.numbers();
         Ok(())
     }

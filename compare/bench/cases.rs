@@ -28,6 +28,7 @@ pub struct Case {
 const NO_ROUTE: u8 = Refusal::NoRoute as u8;
 
 const RELAY: Call = Call { library: library::relay, independent: independent::relay };
+const TRUSTING: Call = Call { library: library::relay, independent: independent::relay_trusting };
 const LOOKUP: Call = Call { library: library::lookup, independent: independent::lookup };
 const MERGE: Call = Call { library: library::merge, independent: independent::merge };
 const PAGE: Call = Call { library: library::page, independent: independent::page };
@@ -40,8 +41,8 @@ const IMAGE: Call = Call { library: library::image, independent: independent::im
 const RESTORE: Call = Call { library: library::restore, independent: independent::restore };
 
 /// Tables are full where the name does not end in their rows. With `compared` in it, it ends in how many rows are
-/// compared.
-pub const CASES: [Case; 28] = [
+/// compared. With `trusting`, the library judges the table as always, and Rust does not.
+pub const CASES: [Case; 31] = [
     Case { name: "relay-10", call: RELAY, buffers: || relaying(10, MOST_ROWS), answer: ACCEPTED },
     Case { name: "relay-100", call: RELAY, buffers: || relaying(100, MOST_ROWS), answer: ACCEPTED },
     Case { name: "relay-255", call: RELAY, buffers: || relaying(255, MOST_ROWS), answer: ACCEPTED },
@@ -70,6 +71,9 @@ pub const CASES: [Case; 28] = [
     Case { name: "schedule", call: SCHEDULE, buffers: scheduling, answer: ACCEPTED },
     Case { name: "image", call: IMAGE, buffers: storing, answer: ACCEPTED },
     Case { name: "restore", call: RESTORE, buffers: restoring, answer: ACCEPTED },
+    Case { name: "relay-10-trusting", call: TRUSTING, buffers: || relaying(10, MOST_ROWS), answer: ACCEPTED },
+    Case { name: "relay-100-trusting", call: TRUSTING, buffers: || relaying(100, MOST_ROWS), answer: ACCEPTED },
+    Case { name: "relay-255-trusting", call: TRUSTING, buffers: || relaying(255, MOST_ROWS), answer: ACCEPTED },
 ];
 
 const OWN: u16 = 0x0100;

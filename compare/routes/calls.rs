@@ -5,6 +5,8 @@
 //! can write to, so that a call is also held to leaving the others alone.
 
 use crate::frames::kinds::SHORT_BEACON;
+use crate::routes::direct;
+use crate::routes::relays::Relayed;
 use crate::routes::table::Table;
 use crate::shared::check::{Answer, Call};
 use crate::shared::kept::{self, On};
@@ -173,6 +175,9 @@ impl kept::Ask for Ask {
 /// A call of the library with the bytes of its table.
 type TableCall<'a> = On<'a, Ask>;
 
+/// Relaying on the bytes of a table: with them, the frame, the time, the smallest time left and the output buffer.
+type Relaying = fn(&[u8], &[u8], Moment, u32, &mut [u8]) -> Result<Relayed, Refusal>;
+
 /// What there is after a call. Places that it did not write to hold their filler.
 #[derive(PartialEq, Eq)]
 pub struct TableLeft {
@@ -265,6 +270,51 @@ impl Lending {
     }
 }
 
+/// What the independent implementation answers.
+impl TableCall<'_> {
+    /// Lets the independent table answer.
+    fn ask_table(&self, left: &mut TableLeft) -> Result<(), Refusal> {
+        let mut table = match *self.ask {
+            // What the buffer holds does not matter, but its length does.
+            Ask::Fresh { own, time } if self.kept.len() == Table::LENGTH => Table::fresh(own, time)?,
+            _ => Table::from_bytes(self.kept)?,
+        };
+        match self.ask {
+            Ask::Fresh { .. } => {}
+            Ask::Lookup { destination, time, .. } => {
+                let route = table.lookup(*destination, *time)?;
+                (left.next_hop, left.hops, left.left) = (route.next_hop, route.hops, route.left);
+            }
+            Ask::Forget { unit, time } => table.forget(*unit, *time)?,
+            Ask::Merge { frame, quality, time } => {
+                let merged = table.merge(frame, *quality, *time)?;
+                (left.skipped, left.compared) = (merged.skipped, merged.compared);
+            }
+            Ask::Page { page, time, .. } => left.length = table.page(*page, *time, &mut left.out)? as u32,
+            Ask::Relay(Relay { frame, time, least_left, .. }) => {
+                let relayed = table.relay(frame, *time, *least_left, &mut left.out)?;
+                (left.next_hop, left.place, left.length, left.left) = relayed.numbers();
+            }
+            Ask::Forward(Forward { network, manager, frame, delay, time, .. }) => {
+                left.length = table.forward(*network, *manager, frame, *delay, *time, &mut left.out)? as u32;
+            }
+        }
+        table.to_bytes(&mut left.table);
+        Ok(())
+    }
+
+    /// Holds relaying on the bytes themselves to what the table answered and left.
+    fn hold(&self, name: &str, peer: Relaying, relay: &Relay, result: Result<(), Refusal>, left: &TableLeft) {
+        let mut own = self.untouched();
+        let relayed = peer(self.kept, &relay.frame, relay.time, relay.least_left, &mut own.out);
+        let own_result = relayed.map(|relayed| {
+            (own.next_hop, own.place, own.length, own.left) = relayed.numbers();
+        });
+        assert_eq!(own_result, result, "{} differs from the table: {}", name, self);
+        assert!(own == *left, "{} differs from the table: {}\n  it:    {}\n  table: {}", name, self, own, left);
+    }
+}
+
 impl Call for TableCall<'_> {
     type Left = TableLeft;
 
@@ -299,33 +349,14 @@ impl Call for TableCall<'_> {
     }
 
     fn carry_out(&self, left: &mut TableLeft) -> Result<(), Refusal> {
-        let mut table = match *self.ask {
-            // What the buffer holds does not matter, but its length does.
-            Ask::Fresh { own, time } if self.kept.len() == Table::LENGTH => Table::fresh(own, time)?,
-            _ => Table::from_bytes(self.kept)?,
-        };
-        match self.ask {
-            Ask::Fresh { .. } => {}
-            Ask::Lookup { destination, time, .. } => {
-                let route = table.lookup(*destination, *time)?;
-                (left.next_hop, left.hops, left.left) = (route.next_hop, route.hops, route.left);
-            }
-            Ask::Forget { unit, time } => table.forget(*unit, *time)?,
-            Ask::Merge { frame, quality, time } => {
-                let merged = table.merge(frame, *quality, *time)?;
-                (left.skipped, left.compared) = (merged.skipped, merged.compared);
-            }
-            Ask::Page { page, time, .. } => left.length = table.page(*page, *time, &mut left.out)? as u32,
-            Ask::Relay(Relay { frame, time, least_left, .. }) => {
-                let relayed = table.relay(frame, *time, *least_left, &mut left.out)?;
-                (left.next_hop, left.place, left.length, left.left) = relayed.numbers();
-            }
-            Ask::Forward(Forward { network, manager, frame, delay, time, .. }) => {
-                left.length = table.forward(*network, *manager, frame, *delay, *time, &mut left.out)? as u32;
+        let result = self.ask_table(left);
+        if let Ask::Relay(relay) = self.ask {
+            self.hold("direct::relay", direct::relay, relay, result, left);
+            if result.is_ok() {
+                self.hold("direct::relay_trusting", direct::relay_trusting, relay, result, left);
             }
         }
-        table.to_bytes(&mut left.table);
-        Ok(())
+        result
     }
 
     fn make(&self, empty: Empty) -> Answer<TableLeft> {

@@ -5,6 +5,7 @@ pub mod calls;
 mod cases;
 pub mod check;
 mod comparisons;
+pub mod direct;
 pub mod drafts;
 mod forwards;
 mod hostile;

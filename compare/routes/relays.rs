@@ -10,10 +10,10 @@ use std::ops::Range;
 
 /// Where the fields of a data frame stand, and the payload after them.
 const SOURCE: usize = 1;
-const DESTINATION: usize = 3;
-const TTL: usize = 5;
+pub(crate) const DESTINATION: usize = 3;
+pub(crate) const TTL: usize = 5;
 const PAYLOAD_LENGTH: usize = 8;
-const PAYLOAD: usize = 9;
+pub(crate) const PAYLOAD: usize = 9;
 /// A data frame with no payload: the fields and the checksum.
 const SHORTEST_DATA: usize = PAYLOAD + 1;
 
@@ -67,14 +67,15 @@ impl Table {
 }
 
 /// What relaying needs of a data frame within every rule.
-struct Data {
-    source: u16,
-    destination: u16,
-    ttl: u8,
+pub(crate) struct Data {
+    pub source: u16,
+    pub destination: u16,
+    pub ttl: u8,
 }
 
 impl Data {
-    fn read(frame: &[u8]) -> Result<Data, Refusal> {
+    #[inline(always)]
+    pub fn read(frame: &[u8]) -> Result<Data, Refusal> {
         let body = body_of(frame, DATA, SHORTEST_DATA, |frame| usize::from(frame[PAYLOAD_LENGTH]))?;
         let data = Data { source: word(body, SOURCE), destination: word(body, DESTINATION), ttl: body[TTL] };
         match is_unit(data.source) && is_unit(data.destination) {

@@ -1,4 +1,5 @@
 pub mod FourteenLaws
+pub mod FrameLaws
 pub mod ReadingLaws
 pub mod SealLaws
 pub mod StoredLaws

@@ -1,11 +1,14 @@
 -- Bytes with their checksum behind them.
 -- Assumes nothing.
-use Rattle.octets.proofs.Words.{_≡_, refl, sym, ap, _∙_, true, List, [], _∷_, _++_, ℕ, suc, _+_, _-_, _<_, add-sub-cancel, arith, eq-eqb, eqb-true, length, getD, take, length-append, take-at, getD-at, take-suc, take-all}
+use Rattle.octets.proofs.Words.{_≡_, refl, sym, ap, _∙_, true, List, [], _∷_, _++_, ℕ, suc, _+_, _-_, _<_, add-sub-cancel, arith, eq-eqb, eqb-true, length, getD, take, set, length-append, length-set, set-append-left, take-at, getD-at, take-suc, take-all}
+use lib.Bits.{bitXor}
+use lib.Seq.{set-at}
 use Rattle.octets.specs.Layouts.{bytes, Bytes}
 use Rattle.octets.specs.Numbers.{num}
 use Rattle.octets.specs.Sums.{xors}
 use Rattle.octets.proofs.ByteLaws.{no-bytes, cons-bytes, append-bytes, layout-bytes, xors-byte}
 use Rattle.octets.proofs.NumberLaws.{num-one}
+use Rattle.octets.proofs.SumLaws.{xors-set}
 use Rattle.frame_kinds.specs.Reading.{isSealed}
 use Rattle.frame_kinds.specs.Shape.{Kind, sealed, frameOf}
 
@@ -42,3 +45,10 @@ sealed-whole s n l e =
     let w : xors 0 (take n s) ≡ getD s n 0 = (rw m at (eqb-true (xors 0 (take (length s - 1) s)) (num 1 s (length s - 1)) e)) ∙ num-one s n in
     let h : n < length s = omega arith in
     rw (w, ← take-suc s n 0 h) (take-all (suc n) s (omega arith))
+
+-- sealed bytes with another one among them: the checksum follows from the one that they have
+pub sealed-set : (bs : List ℕ) (i v : ℕ) → i < length bs → set (set (sealed bs) i v) (length bs) (bitXor (bitXor (xors 0 bs) (getD bs i 0)) v) ≡ sealed (set bs i v)
+unfolding sealed
+sealed-set bs i v h =
+    let sum = bitXor (bitXor (xors 0 bs) (getD bs i 0)) v in
+    rw (set-append-left bs (xors 0 bs ∷ []) i v h, xors-set 0 bs i v h) (set-at (set bs i v) (xors 0 bs) [] sum (length bs) (length-set bs i v))

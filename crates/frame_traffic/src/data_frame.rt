@@ -1,16 +1,12 @@
 // 0x11, data: an order or a reading on its way to a unit.
 ghost use mathlib.Core.Path.{_≡_};
 ghost use mathlib.Core.List.{_∷_, []};
-ghost use lib.Seq.{sets};
-ghost use Rattle.octets.specs.Layouts.{bytes};
 ghost use Rattle.frame_traffic.specs.Traffic.{dataKind, dataValues};
 ghost use Rattle.frame_kinds.specs.Shape.{valuesIn, partLent};
 ghost use Rattle.frame_kinds.specs.Reading.{refusalAs};
 ghost use Rattle.octets.specs.Parts.{lent};
 use frame_kinds::judging::refused;
 use octets::addresses::is_address;
-use octets::fixed::put8;
-use octets::fixed::put16;
 use octets::numbers::number8;
 use octets::numbers::number16;
 use octets::parts::part;
@@ -65,18 +61,6 @@ impl DataHeader {
             self.sequence as u32,
             self.count as u32,
         ]
-    }
-
-    // Writes the type and the fields where they stand, from the buffer's start.
-    pub fn put(self, out: &mut [u8])
-        ensures { λ _. ⌜ now (out .exit) ≡ sets (now (out .entry)) 0 (bytes (1 ∷ dataKind .widths) (dataKind .code ∷ dataValues self)) ⌝ }
-    {
-        put8(out, 0, 0x11);
-        put16(out, 1, self.source);
-        put16(out, 3, self.destination);
-        put8(out, 5, self.ttl);
-        put16(out, 6, self.sequence);
-        put8(out, 8, self.count);
     }
 }
 

@@ -1,12 +1,12 @@
 -- The round trips, proved once over a kind.
 -- Assumes nothing.
-use Rattle.octets.proofs.Words.{_≡_, refl, sym, ap, _∙_, Bool, true, false, not, _||_, cond, List, [], _∷_, _++_, append-assoc, List·Memᴰ, ⊎-elim, ℕ, _+_, _≤_, _<_, arith, eq-eqb, ne-eqb, le-ltb, eqb-true, eqb, ltb, length, take, drop, length-append, take-at, drop-at, take-add}
+use Rattle.octets.proofs.Words.{_≡_, refl, sym, ap, _∙_, Bool, true, false, not, _||_, cond, List, [], _∷_, _++_, append-assoc, List·Memᴰ, ⊎-elim, ℕ, _≤_, _<_, arith, eq-eqb, ne-eqb, le-ltb, eqb-true, eqb, ltb, length, take, drop, length-append, take-at, drop-at}
 use Rattle.octets.specs.Answers.{Said, accepted, unless}
-use Rattle.octets.specs.Layouts.{total, fields, bytes, Fit, Bytes}
+use Rattle.octets.specs.Layouts.{total, fields, bytes, Fit}
 use Rattle.octets.specs.Numbers.{num}
 use Rattle.octets.specs.Sums.{xors}
 use Rattle.octets.proofs.AnswerLaws.{unless-none, unless-number}
-use Rattle.octets.proofs.LayoutLaws.{fit-length, length-bytes, fields-bytes, bytes-fields, fields-fit}
+use Rattle.octets.proofs.LayoutLaws.{fit-length, length-bytes, fields-bytes, fields-fit}
 use Rattle.frames.specs.Frames.{kinds, refusalTyped, readFrame}
 use Rattle.frames.specs.Layout.{widthsOf}
 use Rattle.frame_kinds.specs.Reading.{isSealed, misfit, readRefusal, refusalAs, unknownRefusal, readAs, readUnknown}
@@ -14,8 +14,9 @@ use Rattle.frame_kinds.specs.Shape.{Kind, placeOf, lengthOf, valuesIn, partIn, 
 use Rattle.frames.specs.Trips.{refusalWith, RefusedAlike, ReadsBack, WritesBack}
 use Rattle.frame_kinds.specs.Writing.{writeRefusal}
 use Rattle.frames.proofs.KindLaws.{asked, known-or-not, code-fits, of-type}
-use Rattle.frame_kinds.proofs.ReadingLaws.{Passed, passed}
-use Rattle.frame_kinds.proofs.SealLaws.{length-sealed, sealed-is, sealed-whole}
+use Rattle.frame_kinds.proofs.FrameLaws.{rewritten}
+use Rattle.frame_kinds.proofs.ReadingLaws.{passed}
+use Rattle.frame_kinds.proofs.SealLaws.{length-sealed, sealed-is}
 use Rattle.frame_kinds.proofs.WritingLaws.{put}
 
 -- the two orders of the length tests give the same number, if a frame of the right length has the right part
@@ -112,18 +113,6 @@ reads-back k m vs part f e =
       accepted-read k m s (sym (alike k vs part c f) ∙ e) ∙ ap (λ (us : List ℕ). accepted (k .code ∷ us)) (frame-values k vs part c f),
       rw (frame-values k vs part c f) (frame-part k vs part c f (omega (arith, frame-length k vs part c f))),
     )
-
--- ---- bytes that are not refused, written again
-module _ (k : Kind) (s : List ℕ) (b : Bytes s) (e : refusalAs k s ≡ 0) where
-  abbrev known : Passed (k .code) (lengthOf k (k .extent (valuesIn k s))) (k .rule (valuesIn k s) (partIn k s)) s
-  known = passed _ _ _ s e
-
-  rewritten : frameOf k (valuesIn k s) (partIn k s) ≡ s
-  rewritten =
-      let n = placeOf k + k .extent (valuesIn k s) in
-      let h : bytes (1 ∷ k .widths) (k .code ∷ valuesIn k s) ≡ take (placeOf k) s =
-      rw (← known .typed) (bytes-fields s b (1 ∷ k .widths) 0 (omega (arith, known .sized))) in
-      rw (h, ← take-add (placeOf k) (k .extent (valuesIn k s)) s) (sealed-whole s n (omega (arith, known .sized)) (known .summed))
 
 -- what is known of bytes that are read: they are of one of the kinds, and it does not refuse them
 pub record Read (s : List ℕ) : Type 0 where

@@ -16,6 +16,7 @@ use Rattle.frame_kinds.specs.Shape.{frameOf}
 use Rattle.book_image.specs.Forms.{same}
 use Rattle.route_table.specs.declared.table.Table.{Table}
 use Rattle.route_table.specs.Tables.{withRows, emptyTable, lookupOf}
+use Rattle.route_relays.specs.Relays.{copyOf}
 use Rattle.site_plan.specs.declared.plan.Plan.{Plan}
 use Rattle.site_plan.specs.Plans.{active, slots, superframeMs, planOf, longBeacons, shortBeacons}
 use Rattle.paper.specs.Story.{story}
@@ -74,6 +75,11 @@ routes = withRows (emptyTable 1 0) 0 (record { destination = 9; «next_hop» = 2
 -- what its lookup says at a time: the number, the next hop, the hops, and what is left
 abbrev pub looked : ℕ → List ℕ
 looked time = let f = lookupOf routes 9 time in f .refused ∷ f .«next_hop» ∷ f .hops ∷ f .left ∷ []
+
+-- ---- document 02's relayed copy
+-- data from 0x0201 to 0x0300, sequence 77, a payload of two bytes, with this ttl and this checksum
+abbrev pub dataBytes : ℕ → ℕ → List ℕ
+dataBytes ttl sum = 0x11 ∷ 0x01 ∷ 0x02 ∷ 0x00 ∷ 0x03 ∷ ttl ∷ 0x4D ∷ 0x00 ∷ 0x02 ∷ 0x15 ∷ 0x05 ∷ sum ∷ []
 
 -- ---- what a drift leaves
 -- a number with its sign as a list: 1 below zero and else 0, then the magnitude
@@ -135,6 +141,8 @@ examplesWith told =
     -- where neither will do, the first's own number
     record { computed = chosen 2 (heard (shortAt 1) 60) (heard joinBytes 60); paper = 15 ∷ 0 ∷ [] } ∷
     record { computed = chosen 2 (heard joinBytes 60) (heard (shortAt 1) 60); paper = 2 ∷ 0 ∷ [] } ∷
+    -- of a copy with ttl 7 for 8 the checksum differs by the XOR of the two, 0x0F
+    record { computed = copyOf (dataBytes 8 0x46); paper = dataBytes 7 0x49 } ∷
     -- at age 0 a route has 300,000 ms left, at 299,999 one, at 300,000 none and is still answered; then it is 11
     record { computed = looked 0; paper = 0 ∷ 2 ∷ 2 ∷ 300000 ∷ [] } ∷
     record { computed = looked 299999; paper = 0 ∷ 2 ∷ 2 ∷ 1 ∷ [] } ∷

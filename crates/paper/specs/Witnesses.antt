@@ -7,7 +7,7 @@ use mathlib.Core.List.{List, [], _∷_, map}
 use Prim.Native.Nat.{ℕ}
 use lib.ListN.{getD}
 use Rattle.frames.specs.Frames.{kinds, readFrame}
-use Rattle.paper.specs.Examples.{Example, listed, joinBytes, shortBytes, allSame}
+use Rattle.paper.specs.Examples.{Example, listed, joinBytes, dataBytes, shortBytes, allSame}
 
 -- these bytes, and what reading says of them: 0, the type, and the fields
 abbrev pub reads : List ℕ → List ℕ → Example
@@ -16,8 +16,7 @@ reads bytes says = record { computed = listed (readFrame bytes); paper = says }
 unfoldable pub kindsRead : List Example
 kindsRead =
     -- data from 0x0201 to 0x0300, ttl 8, sequence 77, a payload of two bytes
-    reads (0x11 ∷ 0x01 ∷ 0x02 ∷ 0x00 ∷ 0x03 ∷ 0x08 ∷ 0x4D ∷ 0x00 ∷ 0x02 ∷ 0x15 ∷ 0x05 ∷ 0x46 ∷ [])
-    (0 ∷ 0x11 ∷ 0x0201 ∷ 0x0300 ∷ 8 ∷ 77 ∷ 2 ∷ []) ∷
+    reads (dataBytes 8 0x46) (0 ∷ 0x11 ∷ 0x0201 ∷ 0x0300 ∷ 8 ∷ 77 ∷ 2 ∷ []) ∷
     -- the paper's join request
     reads joinBytes (0 ∷ 0x21 ∷ 0x0201 ∷ 0 ∷ 1 ∷ 4 ∷ []) ∷
     -- the response that gives slot 9 to 0x0201

@@ -1,6 +1,6 @@
 -- One loop over the rows in use, each against the one before, and one over the zeros behind, judge what the definition does.
 -- Assumes nothing.
-use Rattle.octets.proofs.Words.{_≡_, refl, sym, ap, ap₂, _∙_, Bool, true, false, not, _&&_, _||_, and-true, and-false, and-eq-true-iff, List, [], _∷_, ℕ, zero, suc, _+_, _*_, _-_, _≤_, _<_, ℕ-discrete, add-one, arith, eq-eqb, ne-eqb, lt-ltb, le-leb, lt-leb, not-true, not-false, eqb, leb, ltb, length, take, drop, drop-of-length-le, drop-cons}
+use Rattle.octets.proofs.Words.{_≡_, refl, sym, ap, ap₂, _∙_, Bool, true, false, not, _&&_, _||_, cond, false≢true, and-true, and-false, and-assoc, and-eq-true-iff, List, [], _∷_, ℕ, zero, suc, _+_, _*_, _-_, _≤_, _<_, ℕ-discrete, add-one, arith, eq-eqb, ne-eqb, lt-ltb, le-ltb, le-leb, lt-leb, leb-true, not-true, not-false, eqb, leb, ltb, length, take, drop, drop-of-length-le, drop-cons}
 use Rattle.octets.specs.Layouts.{fields}
 use Rattle.octets.specs.Lists.{tab, every}
 use Rattle.octets.specs.Numbers.{num}
@@ -8,17 +8,18 @@ use Rattle.octets.proofs.LayoutLaws.{fields-part}
 use Rattle.octets.proofs.NumberLaws.{num-part}
 use Rattle.octets.proofs.ListLaws.{length-tab, getD-tab}
 use Rattle.route_table.specs.declared.row.Row.{Row}
-use Rattle.route_table.specs.Places.{firstDestination, okPlaces}
-use Rattle.route_table.specs.Rows.{rowRule, isNone}
+use Rattle.route_table.specs.Places.{carriesRule, firstDestination, okPlaces}
+use Rattle.route_table.specs.Rows.{none, isNone, inUse, rowFor}
 use Rattle.route_table.specs.declared.table.Head.{Head}
 use Rattle.route_table.specs.Tables.{headOf, pairOk, withinRule}
 use Rattle.octets.specs.Addresses.{address}
-use Rattle.route_table.proofs.PlaceLaws.{ok-right, none-first}
+use Rattle.route_table.proofs.PlaceLaws.{rule-carries, ok-right, none-first}
 use Rattle.route_table.proofs.TableLaws.{table-right}
-use Rattle.route_bytes.specs.TableBytes.{rowWidths, rowFrom, rowAt, tableIn, flagsOk, isTable, holdsTable}
-use Rattle.route_bytes.proofs.TableByteLaws.{table-length}
+use Rattle.route_bytes.specs.TableBytes.{rowWidths, rowFrom, rowAt, rowsIn, tableIn, flagsOk, isTable, holdsTable}
+use Rattle.route_bytes.proofs.TableByteLaws.{table-length, rows-in}
 use Rattle.octets.specs.Zeros.{isZero, zerosFrom}
-use Rattle.route_in_place.specs.Judged.{rowsOk, zerosBehind}
+use Rattle.route_in_place.specs.declared.judging.Judged.{Judged}
+use Rattle.route_in_place.specs.Judged.{rowsOk, frontOk, rowStarting, judgedFor}
 use Rattle.octets.proofs.ZeroLaws.{fields-zero}
 
 -- ---- lists that are read from bytes, from a place on
@@ -71,22 +72,40 @@ swap true false true o = refl
 swap true false false o = refl
 swap false e n o = refl
 
-regroup : (b g f a e o : Bool) → (b && (f && e && (g && a && o))) ≡ (g && b && f && (a && (e && o)))
-regroup true true true true e o = refl
-regroup true true true false e o = and-false e
-regroup true true false a e o = refl
-regroup true false f a e o = and-false (f && e)
-regroup false true f a e o = refl
-regroup false false f a e o = refl
+-- what is asked of a row that is above the one below, in the definition's order and in the code's; that the one below is to an address follows
+regroup : (b l c f a e o : Bool) → (l ≡ true → b ≡ true) → (b && (f && e && (l && c && a && o))) ≡ (c && f && (l && (a && (e && o))))
+regroup b false c f a e o h = rw (and-false (f && e)) (and-false b ∙ sym (and-false (c && f)))
+regroup b true c f a e o h = rw (h refl) (go c f a)
+  where
+    go : (c f a : Bool) → (f && e && (c && a && o)) ≡ (c && f && (a && (e && o)))
+    go true true true = refl
+    go true true false = and-false e
+    go true false a = refl
+    go false f a = and-false (f && e)
 
 -- rows may follow one with this destination
 abbrev follow : ℕ → List Row → Bool
 follow below rs = eqb (firstDestination rs) 0 || ltb below (firstDestination rs)
 
+-- an address is no higher than this
+abbrev few : ℕ → Bool
+few d = leb d 0xFFFE
+
 -- the rows passed are right: the rest is right exactly if the whole is
-pub record Judging (s : List ℕ) (own last below place : ℕ) : Type 0 where
+pub record Judging (s : List ℕ) (own last wanted below at start : ℕ) : Type 0 where
+  pub place : ℕ
+  pub here : start ≡ 11 + 11 * place
   pub within : place ≤ 48
-  pub rest : (follow below (drop place (tab 48 (rowAt s))) && (every small (drop place (tab 48 (flagAt s))) && okPlaces own last (drop place (tab 48 (rowAt s))))) ≡ rowsOk own last s
+  pub rest : (few below && (follow below (drop place (tab 48 (rowAt s))) && (every small (drop place (tab 48 (flagAt s))) && okPlaces own last (drop place (tab 48 (rowAt s)))))) ≡ rowsOk own last s
+  -- the row that is wanted was found, or it is among the rest; where it was found, no row of the rest is as low
+  pub room : at + 11 ≤ 539
+  pub left : cond (eqb at 0) (rowFor wanted (inUse (drop place (tab 48 (rowAt s))))) (rowFrom (fields rowWidths s at)) ≡ rowFor wanted (inUse (tab 48 (rowAt s)))
+  pub once : (at ≡ 0 → ⊥) → wanted ≤ below
+
+-- what is known of the rows when they were passed
+abbrev Passed : List ℕ → ℕ → ℕ → ℕ → ℕ → ℕ → ℕ → Type 0
+Passed s own last wanted end highest at =
+    (frontOk end highest s ≡ rowsOk own last s) × (at + 11 ≤ 539) × (frontOk end highest s ≡ true → rowStarting at s ≡ rowFor wanted (inUse (tab 48 (rowAt s))))
 
 -- ---- a row through a part of known length
 module _ (s : List ℕ) (i : ℕ) where
@@ -122,47 +141,119 @@ module _ (s : List ℕ) (l : length s ≡ 539) where
     unfolding every
     none-ok rs z = ok-right own last rs ∙ rw (none-first rs z)
 
-    module _ (below i : ℕ) (j : Judging s own last below i) where
+    module _ (wanted below at start : ℕ) (j : Judging s own last wanted below at start) where
+      abbrev rows : List Row
+      rows = drop (j .place) (tab 48 (rowAt s))
+
+      abbrev flags : List ℕ
+      flags = drop (j .place) (tab 48 (flagAt s))
+
+      -- none of the rest is in use
+      found : inUse rows ≡ [] → rowStarting at s ≡ rowFor wanted (inUse (tab 48 (rowAt s)))
+      found e = rw e at (j .left)
+
       -- no row is left
-      pub none-left : i ≡ 48 → zerosBehind 48 s ≡ rowsOk own last s
+      pub none-left : 539 ≤ start → Passed s own last wanted 539 below at
       unfolding every
       none-left e =
           let k : length s ≤ 539 = omega arith in
-          rw (drop-of-length-le s k) (rw (e, tab-past 48 (rowAt s) 48 (omega arith), tab-past 48 (flagAt s) 48 (omega arith)) at (j .rest))
+          let all : j .place ≡ 48 = omega (arith, j .here, j .within) in
+          let past : rows ≡ [] = rw all (tab-past 48 (rowAt s) 48 (omega arith)) in (
+            rw (drop-of-length-le s k) (rw (all, tab-past 48 (rowAt s) 48 (omega arith), tab-past 48 (flagAt s) 48 (omega arith)) at (j .rest)),
+            j .room,
+            λ t. found (rw past),
+          )
 
-      module _ (h : i < 48) where
-        module _ (r : Row) (here : r ≡ rowFrom (fields rowWidths (part s i) 0)) where
-          same : r ≡ rowAt s i
-          same = part-row s i r here
+      module _ (h : start < 539) where
+        inside : j .place < 48
+        inside = omega (arith, j .here)
 
-          -- the first empty place
-          pub empty-here : r .destination ≡ 0 → zerosBehind i s ≡ rowsOk own last s
-          empty-here z =
-              let rs = drop i (tab 48 (rowAt s)) in
-              let first : firstDestination rs ≡ 0 = rw (tab-from 48 (rowAt s) i h, ← same) z in
-              rw (le-leb i 48 (omega arith))
-              (sym (behind (48 - i) i (omega arith)) ∙ (sym (ap (λ (b : Bool). every small (drop i (tab 48 (flagAt s))) && b) (none-ok rs first)) ∙ (rw (eq-eqb (firstDestination rs) 0 first) at (j .rest))))
+        module _ (r : Row) (read : r ≡ rowFrom (fields rowWidths (take (start + 11 - start) (drop start s)) 0)) where
+          same : r ≡ rowAt s (j .place)
+          same = part-row s (j .place) r (rw (j .here) at read)
 
-          module _ (some : r .destination ≡ 0 → ⊥) (good : Bool) (e : good ≡ rowRule own last r) (v : ℕ) (flag : v ≡ num 1 (part s i) 10) where
+          first : firstDestination rows ≡ r .destination
+          first = rw (tab-from 48 (rowAt s) (j .place) inside, ← same)
+
+          -- a place that is not above the row below: an empty one, where there may be zeros alone, or one that is no zeros
+          pub ended : r .destination ≤ below → Passed s own last wanted start below at
+          unfolding every rowAt
+          ended k = go (ℕ-discrete (r .destination) 0)
+            where
+              go : Dec (r .destination ≡ 0) → Passed s own last wanted start below at
+              go (yes z) =
+                  let none : firstDestination rows ≡ 0 = first ∙ z in
+                  let zeros : (every small flags && okPlaces own last rows) ≡ zerosFrom (11 + 11 * j .place) s =
+                  ap (λ (b : Bool). every small flags && b) (none-ok rows none) ∙ behind (48 - j .place) (j .place) (omega (arith, inside)) in (
+                    rw (j .here, lt-ltb 0 (11 + 11 * j .place) (omega arith), ← zeros) (rw (eq-eqb (firstDestination rows) 0 none) at (j .rest)),
+                    j .room,
+                    λ t. found (none-first rows none),
+                  )
+              go (no n) =
+                  let number : num 2 s (11 + 11 * j .place) ≡ r .destination = sym (ap (λ (x : Row). x .destination) same) in
+                  let some : num 2 s (11 + 11 * j .place) ≡ 0 → ⊥ = λ z. n (sym number ∙ z) in
+                  let cut : frontOk start below s ≡ (few below && false) =
+                  rw (j .here, lt-ltb 0 (11 + 11 * j .place) (omega arith), fields-zero rowWidths s (11 + 11 * j .place) (omega (arith, inside)), ne-eqb _ 0 some) in (
+                    cut ∙ (rw (first, ne-eqb (r .destination) 0 n, le-ltb below (r .destination) k) at (j .rest)),
+                    j .room,
+                    λ t. absurd (false≢true (sym (and-false (few below)) ∙ (sym cut ∙ t))),
+                  )
+
+          module _ (above : below < r .destination) (good : Bool) (e : good ≡ carriesRule own last r) (v : ℕ)
+              (flag : v ≡ num 1 (take (start + 11 - start) (drop start s)) 10) where
             abbrev kept : Bool
-            kept = good && ltb below (r .destination) && leb v 1
+            kept = good && leb v 1
 
-            turn : (kept && (follow (r .destination) (drop (i + 1) (tab 48 (rowAt s))) && (every small (drop (i + 1) (tab 48 (flagAt s))) && okPlaces own last (drop (i + 1) (tab 48 (rowAt s)))))) ≡ rowsOk own last s
+            abbrev rows-on : List Row
+            rows-on = drop (j .place + 1) (tab 48 (rowAt s))
+
+            abbrev flags-on : List ℕ
+            flags-on = drop (j .place + 1) (tab 48 (flagAt s))
+
+            turn : (kept && (few (r .destination) && (follow (r .destination) rows-on && (every small flags-on && okPlaces own last rows-on)))) ≡ rowsOk own last s
             unfolding every
             turn =
-                let rs = drop (i + 1) (tab 48 (rowAt s)) in
-                let fs = drop (i + 1) (tab 48 (flagAt s)) in
-                sym (regroup (ltb below (r .destination)) good (small v) (follow (r .destination) rs) (every small fs) (okPlaces own last rs))
-                ∙ (rw (tab-from 48 (rowAt s) i h, tab-from 48 (flagAt s) i h, ← same, ← part-flag s i v flag, ne-eqb (r .destination) 0 some, ← e) at (j .rest))
+                let d = r .destination in
+                let lowest : leb 1 d ≡ true = le-leb 1 d (omega arith) in
+                sym (regroup (few below) (few d) good (small v) (follow d rows-on) (every small flags-on) (okPlaces own last rows-on) (λ q. le-leb below 0xFFFE (omega (arith, leb-true d 0xFFFE q))))
+                ∙ (rw (tab-from 48 (rowAt s) (j .place) inside, tab-from 48 (flagAt s) (j .place) inside, ← same, ← part-flag s (j .place) v (rw (j .here) at flag), ne-eqb d 0 (omega arith), lt-ltb below d (omega arith), ← rule-carries own last r, ← e, lowest) at (j .rest))
 
-            pub row-bad : not kept ≡ true → zerosBehind 49 s ≡ rowsOk own last s
-            row-bad t = rw (not-true kept t) at turn
+            pub row-bad : not kept ≡ true → Passed s own last wanted 0 0 0
+            row-bad t = (rw (not-true kept t) at turn, omega arith, λ q. absurd (false≢true q))
 
-            pub row-kept : not kept ≡ false → Judging s own last (r .destination) (i + 1)
-            row-kept t = record { within = omega arith; rest = rw (not-false kept t) at turn }
+            -- the rest has one row less
+            on : rowFor wanted (inUse rows) ≡ cond (eqb (r .destination) wanted) r (rowFor wanted (inUse rows-on))
+            on = rw (tab-from 48 (rowAt s) (j .place) inside, ← same, ne-eqb (r .destination) 0 (omega arith))
 
-pub judging : (s : List ℕ) (own last : ℕ) → Judging s own last 0 0
-judging s own last = record { within = omega arith; rest = rw (above-none (firstDestination (tab 48 (rowAt s)))) }
+            left-on : (next : ℕ) → next ≡ cond (eqb (r .destination) wanted) start at
+                → (next + 11 ≤ 539) × (cond (eqb next 0) (rowFor wanted (inUse rows-on)) (rowFrom (fields rowWidths s next)) ≡ rowFor wanted (inUse (tab 48 (rowAt s)))) × ((next ≡ 0 → ⊥) → wanted ≤ r .destination)
+            left-on next n = go (ℕ-discrete (r .destination) wanted) (ℕ-discrete at 0)
+              where
+                go : Dec (r .destination ≡ wanted) → Dec (at ≡ 0)
+                    → (next + 11 ≤ 539) × (cond (eqb next 0) (rowFor wanted (inUse rows-on)) (rowFrom (fields rowWidths s next)) ≡ rowFor wanted (inUse (tab 48 (rowAt s)))) × ((next ≡ 0 → ⊥) → wanted ≤ r .destination)
+                go (yes q) (no z) = absurd (omega (arith, j .once z))
+                go (yes q) (yes z) =
+                    let here : next ≡ start = rw (eq-eqb (r .destination) wanted q) at n in
+                    let row : rowFrom (fields rowWidths s start) ≡ r = sym (read ∙ ap rowFrom (fields-part rowWidths s start (start + 11 - start) (omega arith))) in (
+                      omega (arith, j .here, inside),
+                      rw (here, ne-eqb start 0 (omega (arith, j .here)), row) (rw (z, on, eq-eqb (r .destination) wanted q) at (j .left)),
+                      λ s. omega arith,
+                    )
+                go (no q) d =
+                    let here : next ≡ at = rw (ne-eqb (r .destination) wanted q) at n in (
+                      omega (arith, j .room),
+                      rw here (rw (on, ne-eqb (r .destination) wanted q) at (j .left)),
+                      λ s. omega (arith, j .once (λ z. s (here ∙ z))),
+                    )
+
+            pub row-kept : not kept ≡ false → (next : ℕ) → next ≡ cond (eqb (r .destination) wanted) start at → Judging s own last wanted (r .destination) next (start + 11)
+            row-kept t next n =
+                let (room, left, once) = left-on next n in
+                record { place = j .place + 1; here = omega (arith, j .here); within = omega (arith, inside); rest = rw (not-false kept t) at turn; room = room; left = left; once = once }
+
+pub judging : (s : List ℕ) (own last wanted : ℕ) → Judging s own last wanted 0 0 11
+judging s own last wanted =
+    record { place = 0; here = refl; within = omega arith; rest = rw (above-none (firstDestination (tab 48 (rowAt s)))); room = omega arith; left = refl; once = λ z. absurd (z refl) }
   where
     above-none : (d : ℕ) → (eqb d 0 || ltb 0 d) ≡ true
     above-none d = go (ℕ-discrete d 0)
@@ -182,24 +273,45 @@ pub no-length : (s : List ℕ) → (length s ≡ 539 → ⊥) → false ≡ hold
 unfolding isTable holdsTable
 no-length s n = rw (ne-eqb (length s) 539 n)
 
-module _ (s : List ℕ) (l : length s ≡ 539) (h : Head) (e : h ≡ headOf (tableIn s)) (used : ℕ) (q : zerosBehind used s ≡ rowsOk (h .own) (h .time) s) where
+-- a row through a part, where it starts
+module _ (s : List ℕ) (at : ℕ) where
+  pub no-start : at ≡ 0 → none ≡ rowStarting at s
+  no-start z = rw (eq-eqb at 0 z)
+
+  pub starts : (at ≡ 0 → ⊥) → (r : Row) → r ≡ rowFrom (fields rowWidths (take (at + 11 - at) (drop at s)) 0) → r ≡ rowStarting at s
+  starts n r e = e ∙ rw (ne-eqb at 0 n) (ap rowFrom (fields-part rowWidths s at (at + 11 - at) (omega arith)))
+
+pub judged-none : (s : List ℕ) (d : ℕ) → false ≡ holdsTable s → record { holds = false; row = none } ≡ judgedFor d s
+judged-none s d e = rw (← e)
+
+module _ (s : List ℕ) (l : length s ≡ 539) (h : Head) (e : h ≡ headOf (tableIn s)) (wanted end highest at : ℕ) (q : Passed s (h .own) (h .time) wanted end highest at) where
   abbrev pair : Bool
   pair = pairOk (h .forwarded) (h .origin) (h .sequence)
 
-  whole : (address (h .own) && leb (num 1 s 6) 1 && pair && zerosBehind used s) ≡ holdsTable s
+  whole : (address (h .own) && leb (num 1 s 6) 1 && pair && frontOk end highest s) ≡ holdsTable s
   unfolding isTable tableIn holdsTable
   whole =
       let places = okPlaces (h .own) (h .time) (tab 48 (rowAt s)) in
       let known : (true && leb (num 1 s 6) 1 && flagsOk 48 s) ≡ isTable s = rw (eq-eqb (length s) 539 l) in
       let rule : (address (h .own) && pair && places) ≡ withinRule (tableIn s) = rw e (table-right (tableIn s) _ _ (length-tab 48 (rowAt s)) refl refl) in
-      rw q (head-first (address (h .own)) (leb (num 1 s 6) 1) pair (flagsOk 48 s) places ∙ ap₂ _&&_ known rule)
+      rw (q .0) (head-first (address (h .own)) (leb (num 1 s 6) 1) pair (flagsOk 48 s) places ∙ ap₂ _&&_ known rule)
 
-  pub rows-bad : 48 < used → false ≡ holdsTable s
-  rows-bad k = sym (and-false (address (h .own) && leb (num 1 s 6) 1 && pair)) ∙ (rw (lt-leb used 48 k) at whole)
+  pub rows-bad : end ≡ 0 → false ≡ holdsTable s
+  rows-bad k = sym (and-false (address (h .own) && leb (num 1 s 6) 1 && pair)) ∙ (rw k at whole)
 
-  pub all-judged : used ≤ 48 → (flag : ℕ) (right zeros : Bool) → flag ≡ num 1 s 6 → right ≡ pair → zeros ≡ zerosFrom (11 + 11 * used) s
-      → (address (h .own) && leb flag 1 && right && zeros) ≡ holdsTable s
-  all-judged k flag right zeros f p z = rw (f, p, z) (rw (le-leb used 48 k) at whole)
+  pub all-judged : (end ≡ 0 → ⊥) → (flag : ℕ) (right zeros : Bool) → flag ≡ num 1 s 6 → right ≡ pair → zeros ≡ zerosFrom end s
+      → (address (h .own) && leb flag 1 && right && leb highest 0xFFFE && zeros) ≡ holdsTable s
+  all-judged k flag right zeros f p z =
+      rw (f, p, z) (and-assoc (address (h .own) && leb (num 1 s 6) 1 && pair) (leb highest 0xFFFE) (zerosFrom end s) ∙ (rw (lt-ltb 0 end (omega (arith, k))) at whole))
+
+  -- the row that was found is that of the table, if there is one
+  pub judged-row : (holds : Bool) → holds ≡ holdsTable s → (start : ℕ) → start ≡ cond holds at 0 → (r : Row) → r ≡ rowStarting start s
+      → record { holds = holds; row = r } ≡ judgedFor wanted s
+  unfolding tableIn
+  judged-row true t start b r c =
+      let front = and-eq-true-iff (address (h .own) && leb (num 1 s 6) 1 && pair) (frontOk end highest s) .0 (whole ∙ sym t) .1 in
+      rw (← t, c, b) (ap (λ (x : Row). record { holds = true; row = x }) (q .2 front ∙ ap (rowFor wanted) (sym (rows-in s l))))
+  judged-row false t start b r c = rw (← t, c, b)
 
 -- ---- what holds of bytes that hold a table within rule
 module _ (s : List ℕ) (e : holdsTable s ≡ true) where
@@ -217,3 +329,15 @@ module _ (s : List ℕ) (e : holdsTable s ≡ true) where
   pub judged-flags : flagsOk 48 s ≡ true
   unfolding isTable
   judged-flags = and-eq-true-iff (eqb (length s) 539 && leb (num 1 s 6) 1) (flagsOk 48 s) .0 judged-table .1
+
+-- ---- what judging for a destination tells
+module _ (s : List ℕ) (d : ℕ) (j : Judged) (e : j ≡ judgedFor d s) where
+  pub judged-holds : (b : Bool) → j .holds ≡ b → holdsTable s ≡ b
+  judged-holds b t = sym (ap (λ (x : Judged). x .holds) e) ∙ t
+
+  pub judged-found : j .holds ≡ true → j .row ≡ rowFor d (rowsIn s)
+  judged-found t = ap (λ (x : Judged). x .row) e ∙ rw (judged-holds true t)
+
+pub start-fits : (holds : Bool) (at start n : ℕ) → start ≡ cond holds at 0 → at + 11 ≤ n → start + 11 ≤ n
+start-fits true at start n e h = omega arith
+start-fits false at start n e h = omega arith

@@ -9,8 +9,8 @@ ghost use Rattle.route_passing.specs.Passes.{passOf};
 ghost use Rattle.route_bytes.specs.StoredTables.{tableLeft, changedBy};
 ghost use Rattle.route_bytes.specs.TableBytes.{rowsBytes, tableIn, tableBytes, holdsTable};
 ghost use Rattle.route_in_place.specs.Changes.{kept};
-use crate::finding::row_for;
 use crate::judging::holds_table;
+use crate::judging::judged_for;
 use octets::answers::Refusal;
 use octets::answers::refuse_if;
 use octets::numbers::look_over;
@@ -102,12 +102,12 @@ pub fn pass(
 ) -> u8
     ensures { λ r. ⌜ tableLeft r (now (table .exit)) ≡ changedBy (now (table .entry)) (λ t. passOf t before network passing delay time behind) ⌝ }
 {
-    if !holds_table(&table[..]) {
+    let judged = judged_for(&table[..], passing.original_source);
+    if !judged.holds {
         return Refusal::RULE;
     }
     let head = head_of(&table[..]);
-    let row = row_for(&table[..], passing.original_source);
-    let found = found_by(head.time, row, passing.original_source, time);
+    let found = found_by(head.time, judged.row, passing.original_source, time);
     let unpassed = why_not_passed(head, found, network, passing, delay, time);
     let refused = refuse_if(!(unpassed == 0), unpassed, behind);
     let refused = refuse_if(!(before == 0), before, refused);

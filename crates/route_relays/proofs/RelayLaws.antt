@@ -8,7 +8,7 @@ use Rattle.octets.proofs.TestLaws.{neither}
 use Rattle.moments.specs.Moments.{inOrder}
 use Rattle.frame_kinds.specs.Reading.{refusalAs}
 use Rattle.octets.specs.Addresses.{address}
-use Rattle.frame_kinds.specs.Shape.{valuesIn, partIn, partLent, frameOf}
+use Rattle.frame_kinds.specs.Shape.{valuesIn, partIn, partLent}
 use Rattle.frame_kinds.proofs.ReadingLaws.{passed, part-length}
 use Rattle.frame_traffic.specs.declared.data_frame.DataHeader.{DataHeader}
 use Rattle.frame_traffic.specs.Traffic.{dataKind, dataValues, dataFrom}
@@ -194,14 +194,20 @@ module _ (own last : ℕ) (found : Found) (s : List ℕ) (time least : ℕ) (out
     other : isFor own s ≡ false
     other = rw (header-in h s e) at (not-true (eqb (h .destination) own) (and-eq-true-iff (eqb n 0) (not (eqb (h .destination) own)) .0 f .1))
 
-    pub has-room : (part : List ℕ) → part ≡ partIn dataKind s → 10 + length part ≤ length out
-    has-room part p = rw p (omega (arith, copy-length s, onward-by own last found s time least (length out) (sym z ∙ none) other .fits))
+    on : OnwardBy own last found s time least (length out)
+    on = onward-by own last found s time least (length out) (sym z ∙ none) other
 
-    pub relayed-on : (copy : DataHeader) (part held : List ℕ) → copy ≡ passedOn h → part ≡ partIn dataKind s
-        → held ≡ sets out 0 (frameOf dataKind (dataValues copy) part)
-        → relayed (record { refused = n; ours = false; «next_hop» = found .«next_hop»; size = length part + 10; left = found .left }) held ≡ relayBy own last found s time least out
+    size : length s ≡ length (copyOf s)
+    size = omega (arith, copy-length s, part-length dataKind s (on .unread), passed _ _ _ s (on .unread) .sized)
+
+    -- it can be copied
+    pub copied-on : (refusalAs dataKind s ≡ 0) × (length s ≤ length out)
+    copied-on = (on .unread, omega (arith, size, on .fits))
+
+    pub relayed-on : (held : List ℕ) → held ≡ sets out 0 (copyOf s)
+        → relayed (record { refused = n; ours = false; «next_hop» = found .«next_hop»; size = length s; left = found .left }) held ≡ relayBy own last found s time least out
     unfolding relayBy
-    relayed-on copy part held c p q = rw (q, c, p, header-in h s e, copy-length s, ← z, none, other)
+    relayed-on held q = rw (q, size, ← z, none, other)
 
   -- a frame of which nothing is written
   pub relayed-off : (r : Relayed) → (eqb n 0 && not (eqb (h .destination) own)) ≡ false → r ≡ unwritten n (h .count) → relayed r out ≡ relayBy own last found s time least out

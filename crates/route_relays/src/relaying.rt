@@ -3,27 +3,29 @@ ghost use mathlib.Core.Path.{_≡_};
 ghost use mathlib.Core.Bool.{cond};
 ghost use lib.ListN.{length};
 ghost use lib.Seq.{sets};
-ghost use Prim.Native.Nat.{_+_, _-_, _≤_};
+ghost use Prim.Native.Nat.{_-_, _≤_};
 ghost use Rattle.octets.specs.Answers.{first};
 ghost use Rattle.octets.specs.Parts.{lent};
-ghost use Rattle.frame_kinds.specs.Shape.{frameOf};
-ghost use Rattle.frame_traffic.specs.Traffic.{dataKind, dataValues};
-ghost use Rattle.route_relays.specs.Relays.{passedOn, unrelayedReasons, relayOf, relayBy, relayIn, handedBack, unwritten, relayed};
-use frame_kinds::sealing::seal;
+ghost use Rattle.frame_kinds.specs.Reading.{refusalAs};
+ghost use Rattle.frame_traffic.specs.Traffic.{dataKind};
+ghost use Rattle.route_relays.specs.Relays.{copyOf, unrelayedReasons, relayOf, relayBy, relayIn, handedBack, unwritten, relayed};
 use frame_traffic::data_frame::DataHeader;
 use frame_traffic::data_frame::payload;
 use moments::in_order;
 use octets::answers::Refusal;
 use octets::answers::refuse_if;
+use octets::numbers::look_over;
 use octets::parts::part;
 use octets::parts::put_bytes;
 use route_bytes::tables::head_of;
-use route_in_place::finding;
-use route_in_place::judging::holds_table;
+use route_in_place::judging::judged_for;
 use route_table::table::Found;
 use route_table::table::Table;
 use route_table::table::found_by;
 use route_table::table::row_for;
+
+// Where the ttl stands in a data frame.
+const TTL_AT: usize = 5;
 
 // What relaying answers. A frame for this unit has no next hop, and its size is the payload's, which `handed_back` hands back; of any other it is the copy's
 // that was written. `left` is for how many ms more the route of a copy is usable. Where it is refused it is not for this unit, and the numbers are 0.
@@ -39,18 +41,6 @@ fn one_less(ttl: u8) -> u8
     ensures { λ r. ⌜ r ≡ ttl - 1 ⌝ }
 {
     if ttl == 0 { 0 } else { ttl - 1 }
-}
-
-fn passed_on(header: DataHeader) -> DataHeader
-    ensures { λ r. ⌜ r ≡ passedOn header ⌝ }
-{
-    DataHeader {
-        source: header.source,
-        destination: header.destination,
-        ttl: one_less(header.ttl),
-        sequence: header.sequence,
-        count: header.count,
-    }
 }
 
 // Why a frame is not relayed by a table within rule, of which this is known: its unit, its last accepted time, and what it answers to a lookup of the
@@ -98,14 +88,20 @@ fn unwritten(refused: u8, count: u8) -> Relayed
     }
 }
 
-// Writes the frame with this header and this payload. The writer of any kind of frame would judge again what was judged when it was read.
-fn put_frame(out: &mut [u8], header: DataHeader, part: &[u8])
-    requires { ⌜ 10 + length (now part) ≤ length (now out) ⌝ }
-    ensures { λ _. ⌜ now (out .exit) ≡ sets (now (out .entry)) 0 (frameOf dataKind (dataValues header) (now (part .entry))) ⌝ }
+// Writes the copy that goes on: the frame's bytes, of which two differ. Of what the checksum is made of only the ttl changes, so the new one follows from the
+// one that was received and checked.
+fn put_copy(out: &mut [u8], frame: &[u8])
+    requires { ⌜ (refusalAs dataKind (now frame) ≡ 0) × (length (now frame) ≤ length (now out)) ⌝ }
+    ensures { λ _. ⌜ now (out .exit) ≡ sets (now (out .entry)) 0 (copyOf (now (frame .entry))) ⌝ }
 {
-    header.put(out);
-    put_bytes(out, 9, part);
-    seal(out, 9 + part.len());
+    look_over(frame);
+    let last = frame.len() - 1;
+    let sum = frame[last];
+    let ttl = frame[TTL_AT];
+    let next = one_less(ttl);
+    put_bytes(out, 0, frame);
+    out[TTL_AT] = next;
+    out[last] = sum ^ ttl ^ next;
 }
 
 // Relays by a table within rule, of which this is known. A payload for this unit is told and nothing is written; any other frame is written with its ttl
@@ -124,13 +120,12 @@ fn relay_by(
     let header = DataHeader::of(frame);
     let refused = refusal(own, last, found, frame, time, least, out.len());
     if (refused == 0) & !(header.destination == own) {
-        let part = payload(frame);
-        put_frame(out, passed_on(header), part);
+        put_copy(out, frame);
         return Relayed {
             refused,
             ours: false,
             next_hop: found.next_hop,
-            size: part.len() + 10,
+            size: frame.len(),
             left: found.left,
         };
     }
@@ -153,12 +148,13 @@ pub fn relay(table: Table, frame: &[u8], time: u32, least: u32, out: &mut [u8]) 
 pub fn relay_in(table: &[u8], frame: &[u8], time: u32, least: u32, out: &mut [u8]) -> Relayed
     ensures { λ r. ⌜ relayed r (now (out .exit)) ≡ relayIn (now (table .entry)) (now (frame .entry)) time least (now (out .entry)) ⌝ }
 {
-    if !holds_table(table) {
+    let to = DataHeader::of(frame).destination;
+    let judged = judged_for(table, to);
+    if !judged.holds {
         return unwritten(Refusal::RULE, 0);
     }
     let head = head_of(table);
-    let to = DataHeader::of(frame).destination;
-    let found = found_by(head.time, finding::row_for(table, to), to, time);
+    let found = found_by(head.time, judged.row, to, time);
     relay_by(head.own, head.time, found, frame, time, least, out)
 }
 

@@ -1,10 +1,22 @@
 -- The 48 places against the list of rows that they hold.
 -- Assumes nothing.
-use Rattle.octets.proofs.Words.{_≡_, refl, sym, _∙_, Bool, true, false, not, _&&_, _||_, cond, and-true, and-false, List, [], _∷_, ℕ, _+_, _≤_, _<_, ℕ-discrete, add-one, arith, eq-eqb, ne-eqb, not-true, not-false, eqb, ltb, length, getD, drop, drop-of-length-le, drop-cons}
+use Rattle.octets.proofs.Words.{_≡_, refl, sym, _∙_, Bool, true, false, not, _&&_, _||_, cond, and-true, and-false, List, [], _∷_, ℕ, _+_, _≤_, _<_, ℕ-discrete, add-one, arith, eq-eqb, ne-eqb, not-true, not-false, eqb, leb, ltb, length, getD, drop, drop-of-length-le, drop-cons}
+use Rattle.octets.specs.Addresses.{address}
 use Rattle.octets.specs.Lists.{every}
+use Rattle.moments.specs.Moments.{inOrder}
 use Rattle.route_table.specs.declared.row.Row.{Row}
-use Rattle.route_table.specs.Places.{okRow, firstDestination, okPlaces}
+use Rattle.route_table.specs.Places.{carriesRule, okRow, firstDestination, okPlaces}
 use Rattle.route_table.specs.Rows.{none, rowRule, isNone, ascending, inUse}
+
+-- ---- the rules of a row, one of them apart
+pub rule-carries : (own last : ℕ) (r : Row) → (address (r .destination) && carriesRule own last r) ≡ rowRule own last r
+rule-carries own last r =
+    flat (address (r .destination)) (not (eqb (r .destination) own)) (address (r .«next_hop») && not (eqb (r .«next_hop») own))
+    (leb 1 (r .hops) && leb (r .hops) 16) (leb 40 (r .quality)) (inOrder (r .time) last)
+  where
+    flat : (a o n h q t : Bool) → (a && (o && n && h && q && t)) ≡ (a && o && n && h && q && t)
+    flat true o n h q t = refl
+    flat false o n h q t = refl
 
 -- ---- the loop that judges the places
 pub first-of-drop : (l : List Row) (i : ℕ) → i < length l → firstDestination (drop i l) ≡ getD l i none .destination

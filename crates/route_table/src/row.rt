@@ -1,7 +1,7 @@
 // One row of a routing table: how far a destination is, and by which neighbour.
 ghost use mathlib.Core.Path.{_≡_};
 ghost use mathlib.Core.Bool.{cond};
-ghost use Rattle.route_table.specs.Places.{okRow};
+ghost use Rattle.route_table.specs.Places.{carriesRule, okRow};
 ghost use Rattle.route_table.specs.Rows.{none, usable, leftAt, leads, stands, rowRule, isNone, withdrawnAt, lost, forgotten};
 use moments::age;
 use moments::in_order;
@@ -94,16 +94,22 @@ impl Row {
         age(time, self.time) <= lifetime(self.withdrawn)
     }
 
-    // Whether it keeps the rules in the table of a unit, at its last accepted time.
-    pub fn good(self, own: u16, last: u32) -> bool
-        ensures { λ r. ⌜ r ≡ rowRule own last self ⌝ }
+    // Whether it keeps the rules in the table of a unit, at its last accepted time, but for its destination being an address.
+    pub fn carries(self, own: u16, last: u32) -> bool
+        ensures { λ r. ⌜ r ≡ carriesRule own last self ⌝ }
     {
-        is_address(self.destination)
-            & !(self.destination == own)
+        !(self.destination == own)
             & (is_address(self.next_hop) & !(self.next_hop == own))
             & ((1 <= self.hops) & (self.hops <= Row::MOST_HOPS))
             & (Row::LEAST_QUALITY <= self.quality)
             & in_order(self.time, last)
+    }
+
+    // Whether it keeps all of them.
+    pub fn good(self, own: u16, last: u32) -> bool
+        ensures { λ r. ⌜ r ≡ rowRule own last self ⌝ }
+    {
+        is_address(self.destination) & self.carries(own, last)
     }
 
     fn is_none(self) -> bool

@@ -1,0 +1,4 @@
+pub mod LoopLaws
+pub mod PlaceLaws
+pub mod PollLaws
+pub mod SiftLaws

@@ -13,7 +13,7 @@ use Rattle.octets.specs.declared.answers.Written.{Written}
 use Rattle.octets.specs.Told.{wrote}
 use Rattle.slot_sets.specs.Sets.{Slots, slotsOf}
 use Rattle.frame_traffic.specs.Traffic.{dataValues, updateValues}
-use Rattle.frame_requests.specs.Requests.{joinRequestValues, joinResponseValues, slotRequestValues, discoveryRequestValues, discoveryResponseValues}
+use Rattle.frame_requests.specs.Requests.{joinRequestValues, joinResponseValues, slotRequestValues, discoveryRequestValues, discoveryResponseValues, electionValues}
 use Rattle.frame_beacons.specs.Beacons.{beaconValues}
 use Rattle.frame_beacons.specs.ShortBeacons.{shortBeaconValues}
 use Rattle.frames.specs.Told.{told}
@@ -86,7 +86,7 @@ maskBook b = maskRows (b .rows)
 pub record ViewsTellApart : Type 1 where
   -- most contracts say `answer ≡ definition`, of the result, of a buffer, or of each
   pub itself : {A : Type 0} → TellsApart any (λ (a : A). a)
-  -- the values of a record of fields: `of` of the nine kinds
+  -- the values of a record of fields: `of` of the ten kinds
   pub dataHeaders : TellsApart any dataValues
   pub updateHeaders : TellsApart any updateValues
   pub joinRequests : TellsApart any joinRequestValues
@@ -94,6 +94,7 @@ pub record ViewsTellApart : Type 1 where
   pub slotRequests : TellsApart any slotRequestValues
   pub discoveryRequests : TellsApart any discoveryRequestValues
   pub discoveryResponses : TellsApart any discoveryResponseValues
+  pub elections : TellsApart any electionValues
   pub beacons : TellsApart any beaconValues
   pub shortBeacons : TellsApart any shortBeaconValues
   -- what an enum says, alone and with a buffer

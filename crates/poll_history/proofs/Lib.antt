@@ -1,0 +1,5 @@
+pub mod HeldLaws
+pub mod HistoryLaws
+pub mod VoterLaws
+pub mod WinLaws
+pub mod WitnessLaws

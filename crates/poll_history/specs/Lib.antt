@@ -1,0 +1,4 @@
+pub mod Held
+pub mod Histories
+pub mod Laws
+pub mod Witness

@@ -35,6 +35,7 @@ use Rattle.book_joins.specs.declared.grants.Granted.{Granted}
 use Rattle.book_joins.specs.Joins.{answeredBy}
 use Rattle.c_unit.specs.ClockCalls.{clockLeft}
 use Rattle.c_unit.specs.FollowCalls.{followLeft}
+use Rattle.unit_poll.specs.PollBytes.{pollLeft, winnerLeft}
 use Rattle.c_frames.specs.EntryCalls.{entryLeft}
 use Rattle.c_frames.specs.FrameCalls.{readLeft}
 use Rattle.c_unit.specs.StateCalls.{stateLeft}
@@ -129,6 +130,8 @@ pub record ViewsTellApart : Type 1 where
   pub states : TellsApart any (λ (a : ℕ × List ℕ). stateLeft (a .0) (a .1))
   pub clocks : TellsApart any (λ (a : ℕ × ℕ). clockLeft (a .0) (a .1))
   pub follows : TellsApart any (λ (a : ℕ × ℕ). followLeft (a .0) (a .1))
+  pub polls : TellsApart any (λ (a : ℕ × List ℕ). pollLeft (a .0) (a .1))
+  pub winners : TellsApart any (λ (a : ℕ × ℕ). winnerLeft (a .0) (a .1))
   pub bookCalls : TellsApart any (λ (a : ℕ × List ℕ). bookLeft (a .0) (a .1))
   pub planNumberings : TellsApart any (λ (a : ℕ × List ℕ). numbersLeft (a .0) (a .1))
   pub requests : TellsApart any (λ (a : ℕ × List ℕ × List ℕ × ℕ). requestLeft (a .0) (a .1) (a .2) (a .3))

@@ -429,7 +429,8 @@ uint8_t braidlark_poll_hear(uint8_t *poll, size_t poll_length, const uint8_t *fr
  * unit's last message is the same, their own units' included, name the same winner, in whatever order the messages came
  * and whatever was refused in between; polls that differ may name two, so that the firmware sends its message more than
  * once, and waits before it acts. A unit that is the winner then takes BRAIDLARK_EVENT_ELECTED, which is one of Normal
- * alone, and makes its plan and a fresh book; the others join it. Refusals: 14. */
+ * alone: before a tick leaves that for want of beacons, more than three superframes after the last one. It makes its
+ * plan and a fresh book, and the others join it. Refusals: 14. */
 uint8_t braidlark_poll_winner(const uint8_t *poll, size_t poll_length, uint16_t *winner);
 
 /* ---- a unit's clock */

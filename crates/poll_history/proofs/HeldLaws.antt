@@ -2,10 +2,10 @@
 -- Assumes nothing.
 use Rattle.octets.proofs.Words.{_≡_, refl, sym, ap, ap₂, _∙_, Bool, true, false, not, cond, List, [], _∷_, ℕ, _<_, ℕ-discrete, arith, eq-eqb, ne-eqb, eqb, length}
 use Rattle.octets.specs.Addresses.{address}
-use Rattle.octets.specs.Calls.{after}
+use Rattle.octets.specs.Calls.{after, stored}
 use Rattle.octets.specs.Layouts.{Bytes}
 use Rattle.octets.specs.Lists.{every, Each}
-use Rattle.octets.proofs.CallLaws.{stored-none}
+use Rattle.octets.proofs.CallLaws.{after-refused, stored-none}
 use Rattle.octets.proofs.NumberLaws.{num-lt}
 use Rattle.octets.proofs.OrderLaws.{by-place}
 use Rattle.unit_poll.specs.declared.voter.Voter.{Voter}
@@ -13,9 +13,25 @@ use Rattle.unit_poll.specs.PollBytes.{pollIn, pollBytes, holdsPoll, WinnerLeft,
 use Rattle.unit_poll.specs.Polls.{Poll, pollRule, freshPoll, freshRefusal, voterIn, hearRefusal, withMessage, heardBy, winnerOf}
 use Rattle.unit_poll.specs.Voters.{voter, unitOf, put}
 use Rattle.unit_poll.proofs.TripLaws.{VoterFits, Sized, poll-back, poll-held}
-use Rattle.poll_history.specs.Held.{bufferAfter, takenInC, Held, begun, ended, logInC, Machine, StaysStored, AlwaysNames, SameLastInC, SameWinnerInC, NeverTwoInC}
+use Rattle.poll_history.specs.Held.{bufferAfter, takenInC, Held, begun, ended, logInC, Machine, RefusedLeaves, StaysStored, AlwaysNames, SameLastInC, SameWinnerInC, NeverTwoInC}
 use Rattle.poll_history.specs.Histories.{pollAfter, taken, lastOf, Course, ending, log}
 use Rattle.poll_history.proofs.HistoryLaws.{one-rule, keeps-rule, same-winner, never-two}
+
+-- ---- a refused call leaves all as it was
+fresh-leaves : (s : List ℕ) (own priority : ℕ) → (freshCall s own priority .status ≡ 0 → ⊥) → freshCall s own priority .poll ≡ s
+unfolding freshCall
+fresh-leaves s own priority n = after-refused (stored 75 s (freshRefusal own)) s (pollBytes (freshPoll own priority)) n
+
+hear-leaves : (s frame : List ℕ) → (hearCall s frame .status ≡ 0 → ⊥) → hearCall s frame .poll ≡ s
+unfolding hearCall
+hear-leaves s frame n = after-refused (hearCall s frame .status) s (pollBytes (heardBy (pollIn s) frame)) n
+
+winner-leaves : (s : List ℕ) (held : ℕ) → (winnerCall s held .status ≡ 0 → ⊥) → winnerCall s held .winner ≡ held
+unfolding winnerCall
+winner-leaves s held n = after-refused (winnerCall s held .status) held (winnerOf (pollIn s)) n
+
+pub refused-leaves : RefusedLeaves
+refused-leaves = record { fresh = fresh-leaves; hear = hear-leaves; winner = winner-leaves }
 
 -- ---- numbers keep fitting
 message-fits : (s : List ℕ) → Bytes s → VoterFits (voterIn s)

@@ -47,6 +47,12 @@ pub record Machine (h : Held) : Type 0 where
   pub accepted : freshCall (h .buffer) (h .course .own) (h .course .priority) .status ≡ 0
 
 -- ---- the statements
+-- a call that is refused leaves the poll, whatever the bytes hold, and the winner as they were
+pub record RefusedLeaves : Type 0 where
+  pub fresh : (s : List ℕ) (own priority : ℕ) → (freshCall s own priority .status ≡ 0 → ⊥) → freshCall s own priority .poll ≡ s
+  pub hear : (s frame : List ℕ) → (hearCall s frame .status ≡ 0 → ⊥) → hearCall s frame .poll ≡ s
+  pub winner : (s : List ℕ) (held : ℕ) → (winnerCall s held .status ≡ 0 → ⊥) → winnerCall s held .winner ≡ held
+
 -- the buffer holds the bytes of the poll that the course comes to, and the statuses accept what the course accepts
 abbrev pub StaysStored : Type 0
 StaysStored = (h : Held) → Machine h → (ended h ≡ pollBytes (ending (h .course))) × (logInC h ≡ log (h .course))

@@ -5,7 +5,10 @@ use mathlib.Core.List.{List, [], _∷_}
 use Prim.Native.Nat.{ℕ}
 use Rattle.frame_kinds.specs.Shape.{frameOf}
 use Rattle.frame_requests.specs.Requests.{election}
+use lib.ListN.{replicate}
+use Rattle.unit_poll.specs.PollBytes.{winnerLeft, winnerCall}
 use Rattle.unit_poll.specs.Polls.{hearRefusal, winnerOf}
+use Rattle.poll_history.specs.Held.{Held, ended}
 use Rattle.poll_history.specs.Histories.{Course, ending}
 
 abbrev pub message : ℕ → ℕ → List ℕ
@@ -29,3 +32,13 @@ AllNameFive =
     (winnerOf (ending third) ≡ 5) × (winnerOf (ending fifth) ≡ 5) × (winnerOf (ending ninth) ≡ 5)
     × (hearRefusal (ending third) (message 3 99) ≡ 6) × (hearRefusal (ending fifth) (0x26 ∷ 9 ∷ []) ≡ 1)
     × (message 9 70 ≡ 0x26 ∷ 9 ∷ 0 ∷ 70 ∷ 105 ∷ [])
+
+-- the same in the buffers of the first two, whatever these held before: own 2, priority 1, then the others, ascending, and zeros
+abbrev pub heldBy : Course → Held
+heldBy c = record { buffer = replicate 75 7; course = c }
+
+abbrev pub BuffersNameFive : Type 0
+BuffersNameFive =
+    (ended (heldBy third) ≡ 3 ∷ 0 ∷ 40 ∷ 5 ∷ 0 ∷ 70 ∷ 9 ∷ 0 ∷ 70 ∷ replicate 66 0)
+    × (ended (heldBy fifth) ≡ 5 ∷ 0 ∷ 70 ∷ 3 ∷ 0 ∷ 40 ∷ 9 ∷ 0 ∷ 70 ∷ replicate 66 0)
+    × (winnerCall (ended (heldBy third)) 0xFFFF ≡ winnerLeft 0 5) × (winnerCall (ended (heldBy fifth)) 0xFFFF ≡ winnerLeft 0 5)

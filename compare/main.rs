@@ -3,8 +3,8 @@
 //!
 //! The paper is document 01, with beacons, plans and images as request 101 of document 02 has them, what lookups and
 //! relays say and ask of a route's time as its request 102, times and the clock as its request 104 (`shared::moments`),
-//! and what a merge reports as its request 110. Following is its request 112, and `routes::direct` the relay that its
-//! request 111 has the library measured against.
+//! and what a merge reports as its request 110. Following is its request 112, polls are its request 109, and
+//! `routes::direct` is the relay that its request 111 has the library measured against.
 
 #![deny(warnings)]
 
@@ -15,6 +15,7 @@ mod follow;
 mod frames;
 mod image;
 mod life;
+mod poll;
 mod routes;
 mod shared;
 
@@ -33,8 +34,9 @@ Compares the library, call by call, with an independent implementation.
   --seed N    start of the random numbers, decimal or 0x and hex (1)
   --frames N  random frames to compare, each in several calls (300000)
   --routes N  random calls on tables of routes to compare (2100000)
-  --steps N   random steps of a unit's state, as many of its clock, and as many
-              pairs of frames of which it follows one (1000000)
+  --steps N   random steps of a unit's state, as many of its clock, as many pairs
+              of frames of which it follows one, and as many steps of units that
+              hear each other's election messages (1000000)
   --books N   random calls on member books to compare (2100000)
   --images N  random stored images to compare, each in several calls (520000)
   --times N   each of these numbers so many times as large (1)
@@ -81,6 +83,7 @@ const SUBJECTS: &[Subject] = &[
     Subject { name: "life", calls: &life::calls::CALLS, check: life::check::check },
     Subject { name: "clock", calls: &clock::calls::CALLS, check: clock::check::check },
     Subject { name: "following", calls: &follow::calls::CALLS, check: follow::check::check },
+    Subject { name: "polls", calls: &poll::calls::CALLS, check: poll::check::check },
     Subject { name: "books", calls: &book::calls::CALLS, check: book::check::check },
     Subject { name: "images", calls: &image::calls::CALLS, check: image::check::check },
 ];

@@ -1,16 +1,16 @@
 /*
  * Every call of the header, from the firmware's side: a manager's plan and book, one more site with short beacons, then
  * a unit that joins, learns routes from its neighbour and passes frames and beacons on, the rows that merges compare, a
- * choice between two frames of one slot, and calls on both sides of the moment when a clock begins again at 0. Each
- * answer is checked. firmware/check builds it as C99 and as C++.
+ * choice between two frames of one slot, units that choose a manager, and calls on both sides of the moment when a
+ * clock begins again at 0. Each answer is checked. firmware/check builds it as C99 and as C++.
  */
 #include "braidlark.h"
 
 #include <stdio.h>
 #include <string.h>
 
-#if BRAIDLARK_VERSION_MAJOR != 6 || !defined BRAIDLARK_VERSION_MINOR
-#error "these are the calls of version 6"
+#if BRAIDLARK_VERSION_MAJOR != 6 || BRAIDLARK_VERSION_MINOR < 1
+#error "these are the calls of version 6.1"
 #endif
 
 enum { NETWORK = 1, MANAGER = 0x0100, UNIT = 0x0201, FAR_UNIT = 0x0300, STRANGER = 0x0400 };
@@ -97,7 +97,8 @@ static void refusals_have_texts(void)
             EXPECT(strcmp(braidlark_refusal_text(number), braidlark_refusal_text(other)) != 0);
     }
     EXPECT(strcmp(braidlark_refusal_text(BRAIDLARK_NOT_OURS + 1), none) == 0);
-    EXPECT(strcmp(braidlark_refusal_text(BRAIDLARK_FULL), "every member row live") == 0);
+    EXPECT(strcmp(braidlark_refusal_text(BRAIDLARK_FULL),
+                  "every member row live, or a poll with no room for one more unit") == 0);
 }
 
 /* A count has to be that of the bytes; a number has to be there, and to fit its field. */
@@ -127,6 +128,9 @@ static void numbers_fit(void)
     EXPECT(BRAIDLARK_RESPONSES_SIZE == (1 + BRAIDLARK_MOST_HELD) * BRAIDLARK_LENGTH_JOIN_RESPONSE);
     EXPECT(BRAIDLARK_TABLE_SIZE == 11 + BRAIDLARK_MOST_ROUTES * 11);
     EXPECT(BRAIDLARK_MOST_COMPARED == (1 + BRAIDLARK_MOST_ENTRIES) * BRAIDLARK_MOST_ROUTES);
+    EXPECT(BRAIDLARK_POLL_SIZE == 3 + BRAIDLARK_MOST_POLLED * 3);
+    EXPECT(BRAIDLARK_MOST_POLLED >= BRAIDLARK_MOST_MEMBERS - 1); /* one is the poll's own unit */
+    EXPECT((int)BRAIDLARK_FIELDS_ELECTION == 3 && BRAIDLARK_LENGTH_ELECTION == 5);
     EXPECT(BRAIDLARK_BOOK_SIZE == BRAIDLARK_PLAN_SIZE + 4 + BRAIDLARK_MOST_MEMBERS * 14);
     EXPECT(BRAIDLARK_MOST_IMAGE == 11 + (BRAIDLARK_PLAN_SIZE - 1) + BRAIDLARK_MOST_MEMBERS * 10); /* without the kind */
     EXPECT(BRAIDLARK_LONGEST_SUPERFRAME_MS == BRAIDLARK_MOST_SLOTS * BRAIDLARK_LONGEST_SLOT_MS);
@@ -904,6 +908,433 @@ static void hear_two(void)
     }
 }
 
+/* ---- choosing a manager */
+
+enum { PRIORITY = 70, MESSAGE_SIZE = 3 }; /* the second is what a poll has for one: a unit and its priority */
+
+/* A unit's election message. */
+struct message {
+    uint16_t unit;
+    uint8_t priority;
+};
+
+static uint32_t write_election(uint8_t *frame, struct message message)
+{
+    uint32_t fields[BRAIDLARK_FIELDS_ELECTION] = {BRAIDLARK_TYPE_ELECTION, message.unit, message.priority};
+    return write_whole(fields, BRAIDLARK_FIELDS_ELECTION, NULL, 0, frame);
+}
+
+static void make_poll(uint8_t *poll, struct message own)
+{
+    EXPECT(braidlark_poll_fresh(poll, BRAIDLARK_POLL_SIZE, own.unit, own.priority) == BRAIDLARK_ACCEPTED);
+}
+
+/* A message that is refused leaves the poll as it was. */
+static void hear_election(uint8_t *poll, struct message message, uint8_t refusal)
+{
+    uint8_t frame[BRAIDLARK_MOST_FRAME], before[BRAIDLARK_POLL_SIZE];
+    uint32_t length = write_election(frame, message);
+    memcpy(before, poll, sizeof before);
+    EXPECT(braidlark_poll_hear(poll, BRAIDLARK_POLL_SIZE, frame, length) == refusal);
+    if (refusal != BRAIDLARK_ACCEPTED)
+        EXPECT(memcmp(before, poll, sizeof before) == 0);
+}
+
+static void expect_winner(const uint8_t *poll, uint16_t expected)
+{
+    uint16_t winner = 0;
+    EXPECT(braidlark_poll_winner(poll, BRAIDLARK_POLL_SIZE, &winner) == BRAIDLARK_ACCEPTED);
+    EXPECT(winner == expected);
+}
+
+/* A poll's bytes hold a message at each place; at place 0 it is the poll's own unit's. */
+static void put_message(uint8_t *poll, size_t place, struct message message)
+{
+    poll[place * MESSAGE_SIZE] = (uint8_t)message.unit;
+    poll[place * MESSAGE_SIZE + 1] = (uint8_t)(message.unit >> 8);
+    poll[place * MESSAGE_SIZE + 2] = message.priority;
+}
+
+static int holds_message(const uint8_t *poll, size_t place, struct message message)
+{
+    uint8_t bytes[MESSAGE_SIZE];
+    put_message(bytes, 0, message);
+    return memcmp(poll + place * MESSAGE_SIZE, bytes, sizeof bytes) == 0;
+}
+
+/* What was written is read as the same numbers. */
+static void write_and_read_election(void)
+{
+    static const uint8_t expected[BRAIDLARK_LENGTH_ELECTION] = {0x26, 0x01, 0x02, 0x46, 0x63};
+    static const struct message messages[] = {
+        {BRAIDLARK_HIGHEST_ADDRESS, 0}, {BRAIDLARK_LOWEST_ADDRESS, 255}, {UNIT, PRIORITY}};
+    uint8_t frame[BRAIDLARK_MOST_FRAME];
+    uint32_t fields[BRAIDLARK_MOST_FIELDS];
+    size_t each;
+    for (each = 0; each < sizeof messages / sizeof messages[0]; each++) {
+        EXPECT(write_election(frame, messages[each]) == BRAIDLARK_LENGTH_ELECTION);
+        read_whole(frame, BRAIDLARK_LENGTH_ELECTION, fields);
+        EXPECT(fields[BRAIDLARK_FIELD_TYPE] == BRAIDLARK_TYPE_ELECTION);
+        EXPECT(fields[BRAIDLARK_FIELD_ELECTION_NODE] == messages[each].unit);
+        EXPECT(fields[BRAIDLARK_FIELD_ELECTION_PRIORITY] == messages[each].priority);
+    }
+    EXPECT(memcmp(frame, expected, sizeof expected) == 0);
+}
+
+/* A node is an address, a priority a byte, and nothing stands behind them. */
+static void refuse_to_write_election(void)
+{
+    static const struct {
+        uint32_t node, priority;
+        size_t part_length, room;
+        uint8_t refusal;
+    } cases[] = {
+        {0, 256, 1, 0, BRAIDLARK_BAD_LENGTH},
+        {0, 0, 0, 0, BRAIDLARK_BAD_FIELD},
+        {BRAIDLARK_EVERY_UNIT, 0, 0, 0, BRAIDLARK_BAD_FIELD},
+        {UNIT, 256, 0, 0, BRAIDLARK_BAD_FIELD},
+        {UNIT, 255, 0, BRAIDLARK_LENGTH_ELECTION - 1, BRAIDLARK_NO_SPACE},
+    };
+    static const uint8_t part[1] = {0};
+    uint8_t frame[BRAIDLARK_LENGTH_ELECTION];
+    uint32_t written = 1;
+    size_t each;
+    for (each = 0; each < sizeof cases / sizeof cases[0]; each++) {
+        uint32_t fields[BRAIDLARK_FIELDS_ELECTION] = {BRAIDLARK_TYPE_ELECTION, cases[each].node, cases[each].priority};
+        EXPECT(braidlark_write(fields, BRAIDLARK_FIELDS_ELECTION, part, cases[each].part_length, frame,
+                               cases[each].room, &written) == cases[each].refusal);
+    }
+    EXPECT(written == 1);
+}
+
+/* Another length is said before a unit that is no address. What the bytes were does not matter. */
+static void begin_poll(void)
+{
+    static const struct message own = {UNIT, PRIORITY};
+    uint8_t poll[BRAIDLARK_POLL_SIZE + 1], before[BRAIDLARK_POLL_SIZE + 1];
+    size_t each;
+    memset(poll, 0xFF, sizeof poll);
+    memcpy(before, poll, sizeof before);
+    EXPECT(braidlark_poll_fresh(NULL, 0, UNIT, PRIORITY) == BRAIDLARK_OUT_OF_RULE);
+    EXPECT(braidlark_poll_fresh(poll, BRAIDLARK_POLL_SIZE - 1, 0, PRIORITY) == BRAIDLARK_OUT_OF_RULE);
+    EXPECT(braidlark_poll_fresh(poll, BRAIDLARK_POLL_SIZE + 1, UNIT, PRIORITY) == BRAIDLARK_OUT_OF_RULE);
+    EXPECT(braidlark_poll_fresh(poll, BRAIDLARK_POLL_SIZE, 0, PRIORITY) == BRAIDLARK_BAD_FIELD);
+    EXPECT(braidlark_poll_fresh(poll, BRAIDLARK_POLL_SIZE, BRAIDLARK_EVERY_UNIT, PRIORITY) == BRAIDLARK_BAD_FIELD);
+    EXPECT(memcmp(before, poll, sizeof before) == 0);
+    make_poll(poll, own);
+    EXPECT(holds_message(poll, 0, own) && poll[BRAIDLARK_POLL_SIZE] == 0xFF);
+    for (each = MESSAGE_SIZE; each < BRAIDLARK_POLL_SIZE; each++)
+        EXPECT(poll[each] == 0);
+    expect_winner(poll, UNIT);
+}
+
+/* The highest priority, then the lowest address, whichever of the two is the poll's own. */
+static void rank_two(void)
+{
+    static const struct {
+        struct message winner, other;
+    } cases[] = {
+        {{UNIT, 1}, {FAR_UNIT, 0}},     {{FAR_UNIT, 1}, {UNIT, 0}},     {{UNIT, 255}, {FAR_UNIT, 254}},
+        {{FAR_UNIT, 255}, {UNIT, 127}}, {{UNIT, 128}, {FAR_UNIT, 127}}, {{FAR_UNIT, 128}, {UNIT, 127}},
+        {{UNIT, 0}, {FAR_UNIT, 0}},     {{UNIT, 255}, {FAR_UNIT, 255}}, {{0x01FF, 70}, {0x0200, 70}},
+    };
+    uint8_t poll[BRAIDLARK_POLL_SIZE];
+    size_t each;
+    for (each = 0; each < sizeof cases / sizeof cases[0]; each++) {
+        make_poll(poll, cases[each].winner);
+        hear_election(poll, cases[each].other, BRAIDLARK_ACCEPTED);
+        expect_winner(poll, cases[each].winner.unit);
+        make_poll(poll, cases[each].other);
+        expect_winner(poll, cases[each].other.unit);
+        hear_election(poll, cases[each].winner, BRAIDLARK_ACCEPTED);
+        expect_winner(poll, cases[each].winner.unit);
+    }
+}
+
+/* A later message replaces the earlier one, up and down, and takes no place of its own. */
+static void replace_messages(void)
+{
+    static const struct message own = {UNIT, PRIORITY}, low = {FAR_UNIT, 0}, high = {FAR_UNIT, PRIORITY + 1},
+                                same = {FAR_UNIT, PRIORITY}, none = {0, 0};
+    uint8_t poll[BRAIDLARK_POLL_SIZE];
+    make_poll(poll, own);
+    hear_election(poll, high, BRAIDLARK_ACCEPTED);
+    expect_winner(poll, FAR_UNIT);
+    hear_election(poll, low, BRAIDLARK_ACCEPTED);
+    expect_winner(poll, UNIT);
+    hear_election(poll, high, BRAIDLARK_ACCEPTED);
+    expect_winner(poll, FAR_UNIT);
+    hear_election(poll, same, BRAIDLARK_ACCEPTED);
+    expect_winner(poll, UNIT);
+    EXPECT(holds_message(poll, 0, own) && holds_message(poll, 1, same) && holds_message(poll, 2, none));
+}
+
+/* ---- choosing a manager: three units hear the same messages in different orders */
+
+enum { MESSAGES = 5, ORDERS = 1 * 2 * 3 * 4 * 5 };
+
+/* The order with this number, one of all: each number's remainder names the next of those that are left. */
+static void put_in_order(const struct message *messages, unsigned number, struct message *ordered)
+{
+    struct message left[MESSAGES];
+    unsigned count;
+    memcpy(left, messages, sizeof left);
+    for (count = MESSAGES; count > 0; count--) {
+        unsigned taken = number % count;
+        number /= count;
+        ordered[MESSAGES - count] = left[taken];
+        left[taken] = left[count - 1];
+    }
+}
+
+/* The stranger says two things, and its last one decides: it wins by the higher. Else two units are level, and the one
+ * with the lower address wins. Each unit refuses its own message, which it knows already. */
+static void agree_in_order(unsigned number)
+{
+    static const struct message messages[MESSAGES] = {
+        {UNIT, 10}, {NEAR_UNIT, 70}, {FAR_UNIT, 70}, {STRANGER, 200}, {STRANGER, 5}};
+    struct message ordered[MESSAGES];
+    uint8_t poll[BRAIDLARK_POLL_SIZE];
+    uint16_t winner = 0;
+    size_t own, each;
+    put_in_order(messages, number, ordered);
+    for (each = 0; each < MESSAGES; each++)
+        if (ordered[each].unit == STRANGER)
+            winner = messages[ordered[each].priority == 200 ? 3 : 1].unit;
+    for (own = 0; own < 3; own++) {
+        make_poll(poll, messages[own]);
+        for (each = 0; each < MESSAGES; each++)
+            hear_election(poll, ordered[each],
+                          ordered[each].unit == messages[own].unit ? BRAIDLARK_OWN_UNIT : BRAIDLARK_ACCEPTED);
+        expect_winner(poll, winner);
+    }
+}
+
+/* ---- choosing a manager: a poll with no room left, and bytes that are none */
+
+enum { LOWEST_POLLED = 0x1000, POLLED_STEP = 2 }; /* of 24 units, with room between for others */
+
+static struct message polled(size_t place, uint8_t priority)
+{
+    struct message message = {(uint16_t)(LOWEST_POLLED + POLLED_STEP * place), priority};
+    return message;
+}
+
+/* The unit's own poll with 24 others, heard neither up nor down; they stand ascending. */
+static void fill_poll(uint8_t *poll)
+{
+    static const struct message own = {UNIT, PRIORITY};
+    size_t each;
+    make_poll(poll, own);
+    for (each = 0; each < BRAIDLARK_MOST_POLLED; each++)
+        hear_election(poll, polled(each * 7 % BRAIDLARK_MOST_POLLED, PRIORITY - 1), BRAIDLARK_ACCEPTED);
+    EXPECT(holds_message(poll, 0, own));
+    for (each = 0; each < BRAIDLARK_MOST_POLLED; each++)
+        EXPECT(holds_message(poll, each + 1, polled(each, PRIORITY - 1)));
+    expect_winner(poll, UNIT);
+}
+
+/* A 25th is refused wherever it would stand and whatever it says; each of the 24 is still heard. */
+static void hear_one_too_many(void)
+{
+    static const struct message too_many[] = {
+        {BRAIDLARK_LOWEST_ADDRESS, 255}, {LOWEST_POLLED + 1, 255}, {BRAIDLARK_HIGHEST_ADDRESS, 0}};
+    static const struct message own = {UNIT, 255};
+    uint8_t poll[BRAIDLARK_POLL_SIZE];
+    size_t each;
+    fill_poll(poll);
+    for (each = 0; each < sizeof too_many / sizeof too_many[0]; each++)
+        hear_election(poll, too_many[each], BRAIDLARK_FULL);
+    hear_election(poll, own, BRAIDLARK_OWN_UNIT);
+    expect_winner(poll, UNIT);
+    for (each = BRAIDLARK_MOST_POLLED; each > 0; each--) {
+        hear_election(poll, polled(each - 1, PRIORITY + 1), BRAIDLARK_ACCEPTED);
+        EXPECT(holds_message(poll, each, polled(each - 1, PRIORITY + 1)));
+        expect_winner(poll, polled(each - 1, 0).unit);
+    }
+    hear_election(poll, too_many[0], BRAIDLARK_FULL);
+}
+
+/* Refused in the order that the header gives: each frame has the flaws behind its own too, as far as it can, and the
+ * poll is full. A poll of another length is said before all of them. */
+static void refuse_elections(void)
+{
+    static const struct {
+        uint8_t frame[BRAIDLARK_LENGTH_JOIN_REQUEST];
+        size_t length;
+        uint8_t refusal;
+    } cases[] = {
+        {{0}, 0, BRAIDLARK_BAD_LENGTH},
+        {{0}, BRAIDLARK_MOST_FRAME + 1, BRAIDLARK_BAD_LENGTH},
+        {{0x27, 0x00, 0x00, 0x46}, BRAIDLARK_LENGTH_ELECTION - 1, BRAIDLARK_BAD_TYPE},
+        {{0x21, 0x01, 0x02, 0x00, 0x01, 0x00, 0x04, 0x27}, BRAIDLARK_LENGTH_JOIN_REQUEST, BRAIDLARK_BAD_TYPE},
+        {{0x26, 0x00, 0x00, 0x46}, BRAIDLARK_LENGTH_ELECTION - 1, BRAIDLARK_BAD_LENGTH},
+        {{0x26, 0x00, 0x00, 0x46}, BRAIDLARK_LENGTH_ELECTION + 1, BRAIDLARK_BAD_LENGTH},
+        {{0x26, 0x00, 0x00, 0x46, 0x61}, BRAIDLARK_LENGTH_ELECTION, BRAIDLARK_BAD_CHECKSUM},
+        {{0x26, 0x00, 0x00, 0x46, 0x60}, BRAIDLARK_LENGTH_ELECTION, BRAIDLARK_BAD_FIELD},
+        {{0x26, 0xFF, 0xFF, 0x46, 0x60}, BRAIDLARK_LENGTH_ELECTION, BRAIDLARK_BAD_FIELD},
+        {{0x26, 0x01, 0x02, 0x46, 0x63}, BRAIDLARK_LENGTH_ELECTION, BRAIDLARK_OWN_UNIT},
+        {{0x26, 0x00, 0x04, 0x46, 0x64}, BRAIDLARK_LENGTH_ELECTION, BRAIDLARK_FULL},
+    };
+    uint8_t poll[BRAIDLARK_POLL_SIZE + 1] = {0}, before[BRAIDLARK_POLL_SIZE + 1], frame[BRAIDLARK_MOST_FRAME + 1] = {0};
+    size_t each;
+    fill_poll(poll);
+    memcpy(before, poll, sizeof before);
+    for (each = 0; each < sizeof cases / sizeof cases[0]; each++) {
+        const uint8_t *heard = cases[each].length > 0 ? frame : NULL;
+        memcpy(frame, cases[each].frame, sizeof cases[each].frame);
+        EXPECT(braidlark_poll_hear(poll, BRAIDLARK_POLL_SIZE, heard, cases[each].length) == cases[each].refusal);
+        EXPECT(braidlark_poll_hear(poll, BRAIDLARK_POLL_SIZE - 1, heard, cases[each].length) == BRAIDLARK_OUT_OF_RULE);
+        EXPECT(braidlark_poll_hear(poll, BRAIDLARK_POLL_SIZE + 1, heard, cases[each].length) == BRAIDLARK_OUT_OF_RULE);
+        EXPECT(braidlark_poll_hear(NULL, 0, heard, cases[each].length) == BRAIDLARK_OUT_OF_RULE);
+        EXPECT(memcmp(before, poll, sizeof before) == 0);
+    }
+}
+
+/* Bytes that are no poll: neither call changes anything. */
+static void expect_no_poll(const uint8_t *bytes, size_t length)
+{
+    static const struct message message = {STRANGER, PRIORITY};
+    uint8_t poll[BRAIDLARK_POLL_SIZE + 1], frame[BRAIDLARK_MOST_FRAME];
+    uint32_t frame_length = write_election(frame, message);
+    uint16_t winner = 0xABCD;
+    memcpy(poll, bytes, sizeof poll);
+    EXPECT(braidlark_poll_winner(poll, length, &winner) == BRAIDLARK_OUT_OF_RULE);
+    EXPECT(braidlark_poll_hear(poll, length, frame, frame_length) == BRAIDLARK_OUT_OF_RULE);
+    EXPECT(braidlark_poll_hear(poll, length, NULL, 0) == BRAIDLARK_OUT_OF_RULE);
+    EXPECT(winner == 0xABCD && memcmp(bytes, poll, sizeof poll) == 0);
+}
+
+/* A unit's poll in which two others were heard; one byte more than a poll has is behind it. */
+static void make_small_poll(uint8_t *poll)
+{
+    static const struct message own = {UNIT, PRIORITY}, near_one = {NEAR_UNIT, 1}, far_one = {FAR_UNIT, 2};
+    memset(poll, 0, BRAIDLARK_POLL_SIZE + 1);
+    make_poll(poll, own);
+    hear_election(poll, far_one, BRAIDLARK_ACCEPTED);
+    hear_election(poll, near_one, BRAIDLARK_ACCEPTED);
+}
+
+/* What may stand at a place of that poll, where the rest stays. */
+static void spoil_poll(void)
+{
+    static const struct {
+        size_t place;
+        struct message message;
+        int good;
+    } cases[] = {
+        {0, {BRAIDLARK_LOWEST_ADDRESS, 0}, 1},
+        {0, {0, PRIORITY}, 0},
+        {0, {BRAIDLARK_EVERY_UNIT, PRIORITY}, 0},
+        {0, {FAR_UNIT, PRIORITY}, 0}, /* its own unit among the others */
+        {1, {UNIT, 1}, 0},
+        {1, {FAR_UNIT, 1}, 0}, /* a unit twice */
+        {1, {STRANGER, 1}, 0}, /* descending */
+        {1, {0, 0}, 0},        /* a gap */
+        {2, {0, 0}, 1},        /* one was heard */
+        {2, {0, 2}, 0},
+        {2, {BRAIDLARK_HIGHEST_ADDRESS, 255}, 1},
+        {2, {BRAIDLARK_EVERY_UNIT, 2}, 0},
+        {3, {STRANGER, 0}, 1}, /* three were heard */
+        {3, {0, 1}, 0},
+        {4, {STRANGER, 0}, 0},
+        {BRAIDLARK_MOST_POLLED, {STRANGER, 0}, 0},
+        {BRAIDLARK_MOST_POLLED, {0, 1}, 0}, /* the last byte */
+    };
+    uint8_t poll[BRAIDLARK_POLL_SIZE + 1];
+    uint16_t winner;
+    size_t each;
+    for (each = 0; each < sizeof cases / sizeof cases[0]; each++) {
+        make_small_poll(poll);
+        put_message(poll, cases[each].place, cases[each].message);
+        if (cases[each].good)
+            EXPECT(braidlark_poll_winner(poll, BRAIDLARK_POLL_SIZE, &winner) == BRAIDLARK_ACCEPTED);
+        else
+            expect_no_poll(poll, BRAIDLARK_POLL_SIZE);
+    }
+}
+
+static void change_poll_length(void)
+{
+    uint8_t poll[BRAIDLARK_POLL_SIZE + 1];
+    uint16_t winner = 0;
+    make_small_poll(poll);
+    expect_winner(poll, UNIT);
+    expect_no_poll(poll, 0);
+    expect_no_poll(poll, BRAIDLARK_POLL_SIZE - 1);
+    expect_no_poll(poll, BRAIDLARK_POLL_SIZE + 1);
+    EXPECT(braidlark_poll_winner(NULL, 0, &winner) == BRAIDLARK_OUT_OF_RULE);
+    EXPECT(winner == 0);
+}
+
+/* ---- choosing a manager: the winner takes over */
+
+/* Elected is an event of Normal alone. */
+static void be_elected(void)
+{
+    static const uint8_t way[] = {BRAIDLARK_EVENT_READY, BRAIDLARK_EVENT_BEACON_HEARD, BRAIDLARK_EVENT_JOIN_ACCEPTED};
+    uint8_t state[BRAIDLARK_STATE_SIZE];
+    size_t each;
+    EXPECT(braidlark_state_fresh(state, sizeof state, NOW) == BRAIDLARK_ACCEPTED);
+    for (each = 0; each < sizeof way; each++) {
+        EXPECT(braidlark_state_event(state, sizeof state, BRAIDLARK_EVENT_ELECTED, NOW) == BRAIDLARK_NOT_ALLOWED);
+        EXPECT(braidlark_state_event(state, sizeof state, way[each], NOW) == BRAIDLARK_ACCEPTED);
+    }
+    EXPECT(state[0] == BRAIDLARK_NORMAL);
+    EXPECT(braidlark_state_event(state, sizeof state, BRAIDLARK_EVENT_ELECTED, NOW) == BRAIDLARK_ACCEPTED);
+    EXPECT(state[0] == BRAIDLARK_MANAGER);
+    EXPECT(braidlark_state_event(state, sizeof state, BRAIDLARK_EVENT_ELECTED, NOW) == BRAIDLARK_NOT_ALLOWED);
+}
+
+/* Its book knows nobody but itself, the lost manager least of all: members join anew. */
+static void manage_anew(uint16_t winner)
+{
+    static const uint32_t request[BRAIDLARK_FIELDS_JOIN_REQUEST] = {BRAIDLARK_TYPE_JOIN_REQUEST, FAR_UNIT, 0, NETWORK,
+                                                                    1};
+    uint8_t plan[BRAIDLARK_PLAN_SIZE], book[BRAIDLARK_BOOK_SIZE], frame[BRAIDLARK_MOST_FRAME];
+    uint8_t out[BRAIDLARK_RESPONSES_SIZE];
+    uint32_t length = write_whole(request, BRAIDLARK_FIELDS_JOIN_REQUEST, NULL, 0, frame), written = 0;
+    EXPECT(braidlark_plan(plan, sizeof plan, NETWORK, winner, MAX_HOPS, ROWS, DATA_SLOTS, SLOT_MS, LONG_BEACONS) ==
+           BRAIDLARK_ACCEPTED);
+    EXPECT(braidlark_book_fresh(book, sizeof book, plan, sizeof plan, NOW) == BRAIDLARK_ACCEPTED);
+    EXPECT(braidlark_heard(book, sizeof book, winner, NOW) == BRAIDLARK_ACCEPTED);
+    EXPECT(braidlark_heard(book, sizeof book, MANAGER, NOW) == BRAIDLARK_NO_MEMBER);
+    EXPECT(braidlark_heard(book, sizeof book, FAR_UNIT, NOW) == BRAIDLARK_NO_MEMBER);
+    EXPECT(braidlark_join(book, sizeof book, frame, length, NOW, out, sizeof out, &written) == BRAIDLARK_ACCEPTED);
+    EXPECT(written == 2 * BRAIDLARK_LENGTH_JOIN_RESPONSE);
+    EXPECT(braidlark_heard(book, sizeof book, FAR_UNIT, NOW) == BRAIDLARK_ACCEPTED);
+}
+
+/* A unit that finds itself the winner. */
+static void take_over(void)
+{
+    static const struct message own = {NEAR_UNIT, PRIORITY}, unit = {UNIT, 10}, far_one = {FAR_UNIT, PRIORITY};
+    uint8_t poll[BRAIDLARK_POLL_SIZE];
+    make_poll(poll, own);
+    hear_election(poll, far_one, BRAIDLARK_ACCEPTED);
+    hear_election(poll, unit, BRAIDLARK_ACCEPTED);
+    expect_winner(poll, NEAR_UNIT);
+    be_elected();
+    manage_anew(NEAR_UNIT);
+}
+
+static void choose_a_manager(void)
+{
+    unsigned number;
+    write_and_read_election();
+    refuse_to_write_election();
+    begin_poll();
+    rank_two();
+    replace_messages();
+    for (number = 0; number < ORDERS; number++)
+        agree_in_order(number);
+    hear_one_too_many();
+    refuse_elections();
+    spoil_poll();
+    change_poll_length();
+    take_over();
+}
+
 /* ---- the clock passes 2^32 - 1 ms and begins again at 0 */
 
 static void age_across(void)
@@ -979,6 +1410,7 @@ int main(void)
     be_a_unit();
     compare_rows();
     hear_two();
+    choose_a_manager();
     pass_the_top();
     printf("every_call: %u of %u checks hold\n", checks - failures, checks);
     return failures == 0 ? 0 : 1;

@@ -123,10 +123,31 @@ static void make_book(struct scene *made, int mixed)
          "an image");
 }
 
+static void write_election(uint8_t *frame, uint32_t unit)
+{
+    const uint32_t election[] = {BRAIDLARK_TYPE_ELECTION, unit, PRIORITY};
+    write_frame(election, BRAIDLARK_FIELDS_ELECTION, NULL, 0, frame);
+}
+
+/* Full: 24 others, and the highest of them is heard again. Mixed: half as many, and a new one that is below all. */
+static void make_poll(struct scene *made, int mixed)
+{
+    uint32_t others = mixed ? BRAIDLARK_MOST_POLLED / 2 : BRAIDLARK_MOST_POLLED;
+    need(braidlark_poll_fresh(made->poll, sizeof made->poll, UNIT, PRIORITY), "a poll");
+    for (uint32_t each = 0; each < others; each++) {
+        uint8_t frame[BRAIDLARK_MOST_FRAME];
+        write_election(frame, FIRST_MEMBER + each);
+        need(braidlark_poll_hear(made->poll, sizeof made->poll, frame, BRAIDLARK_LENGTH_ELECTION),
+             "an election message");
+    }
+    write_election(made->election, mixed ? NEWCOMER : FIRST_MEMBER + others - 1);
+}
+
 void make_scene(struct scene *made, int mixed)
 {
     make_table(made, mixed);
     make_frames(made);
     make_book(made, mixed);
+    make_poll(made, mixed);
     need(braidlark_state_fresh(made->state, sizeof made->state, NOW), "a state");
 }

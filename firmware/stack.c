@@ -109,6 +109,21 @@ static uint8_t call_state_tick(void)
     return braidlark_state_tick(scene.state, sizeof scene.state, 2000, NOW);
 }
 
+static uint8_t call_poll_fresh(void)
+{
+    return braidlark_poll_fresh(scene.poll, sizeof scene.poll, UNIT, PRIORITY);
+}
+
+static uint8_t call_poll_hear(void)
+{
+    return braidlark_poll_hear(scene.poll, sizeof scene.poll, scene.election, BRAIDLARK_LENGTH_ELECTION);
+}
+
+static uint8_t call_poll_winner(void)
+{
+    return braidlark_poll_winner(scene.poll, sizeof scene.poll, &scene.winner);
+}
+
 static uint8_t call_clock_step(void)
 {
     return braidlark_clock_step(&scene.offset, NOW, NETWORK, scene.beacon, BRAIDLARK_LENGTH_BEACON);
@@ -198,6 +213,9 @@ static const struct {
     {"state_fresh", call_state_fresh},
     {"state_event", call_state_event},
     {"state_tick", call_state_tick},
+    {"poll_fresh", call_poll_fresh},
+    {"poll_hear", call_poll_hear},
+    {"poll_winner", call_poll_winner},
     {"clock_step, a beacon", call_clock_step},
     {"clock_step, a short beacon", call_clock_step_short},
     {"follow, a beacon and a short one", call_follow},

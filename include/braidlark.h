@@ -9,8 +9,8 @@
  * alignment, and the numbers in it are little-endian. A buffer of numbers is an array of uint32_t, and its length
  * counts numbers, not bytes. Buffers and out parameters of one call must not overlap.
  *
- * Threads. Nothing is kept between calls: a table, a state, a plan and a book are bytes that the caller owns and hands
- * in again. Calls may run on any thread, also at the same time, if none is handed what another one writes to.
+ * Threads. Nothing is kept between calls: a table, a state, a poll, a plan and a book are bytes that the caller owns
+ * and hands in again. Calls may run on any thread, also at the same time, if none is handed what another one writes to.
  *
  * Linking. Of C's library the archive needs memcpy and memset alone.
  * The deepest call takes less than 3 KiB of stack; docs/MEASURES.md has each call's, and the size of the code.
@@ -54,7 +54,7 @@ extern "C" {
  * something is only added; docs/changes says what a caller has to change
  */
 #define BRAIDLARK_VERSION_MAJOR 6
-#define BRAIDLARK_VERSION_MINOR 0
+#define BRAIDLARK_VERSION_MINOR 1
 
 /* ---- refusals; braidlark_refusal_text says what each means */
 #define BRAIDLARK_ACCEPTED 0
@@ -91,7 +91,7 @@ static inline const char *braidlark_refusal_text(int number)
         "link quality under 40",
         "ttl 0 or 1 and not for this unit",
         "no usable route, or less time left on it than the caller names",
-        "every member row live",
+        "every member row live, or a poll with no room for one more unit",
         "not a live member, or the manager asked to leave",
         "plan, image, page, hop, superframe length, or a stored value, out of rule",
         "not the book's or the caller's network",
@@ -108,6 +108,7 @@ static inline const char *braidlark_refusal_text(int number)
 #define BRAIDLARK_MOST_FIELDS 15 /* numbers of the frame with the most, a long beacon: its type and 14 fields */
 #define BRAIDLARK_TABLE_SIZE 539
 #define BRAIDLARK_STATE_SIZE 13
+#define BRAIDLARK_POLL_SIZE 75
 #define BRAIDLARK_PLAN_SIZE 10
 #define BRAIDLARK_BOOK_SIZE 308
 #define BRAIDLARK_RESPONSES_SIZE 65 /* of a join or a slot request: five frames of 13 */
@@ -121,6 +122,7 @@ static inline const char *braidlark_refusal_text(int number)
 #define BRAIDLARK_LENGTH_SLOT_REQUEST 7
 #define BRAIDLARK_LENGTH_DISCOVERY_REQUEST 7
 #define BRAIDLARK_LENGTH_DISCOVERY_RESPONSE 13
+#define BRAIDLARK_LENGTH_ELECTION 5
 #define BRAIDLARK_LENGTH_UPDATE 9 /* and BRAIDLARK_ENTRY_SIZE for each entry */
 #define BRAIDLARK_LENGTH_BEACON 34
 #define BRAIDLARK_LENGTH_SHORT_BEACON 19
@@ -145,6 +147,9 @@ static inline const char *braidlark_refusal_text(int number)
 /* ---- members: at most so many, the manager among them, each with 1 to 4 data slots */
 #define BRAIDLARK_MOST_MEMBERS 21
 #define BRAIDLARK_MOST_HELD 4
+
+/* ---- polls: the units that one has room for, beside the unit whose it is */
+#define BRAIDLARK_MOST_POLLED 24
 
 /* ---- plans: at least so many member rows, and a data slot for each; at most so many data slots and slots in use */
 #define BRAIDLARK_FEWEST_ROWS 2
@@ -172,6 +177,7 @@ static inline const char *braidlark_refusal_text(int number)
 #define BRAIDLARK_TYPE_SLOT_REQUEST 0x23
 #define BRAIDLARK_TYPE_DISCOVERY_REQUEST 0x24
 #define BRAIDLARK_TYPE_DISCOVERY_RESPONSE 0x25
+#define BRAIDLARK_TYPE_ELECTION 0x26
 #define BRAIDLARK_TYPE_UPDATE 0x31
 #define BRAIDLARK_TYPE_BEACON 0x46 /* the long one, where two kinds have to be told apart */
 #define BRAIDLARK_TYPE_SHORT_BEACON 0x47
@@ -223,6 +229,11 @@ enum {
     BRAIDLARK_FIELD_DISCOVERY_RESPONSE_QUALITY,
     BRAIDLARK_FIELD_DISCOVERY_RESPONSE_UPTIME,
     BRAIDLARK_FIELDS_DISCOVERY_RESPONSE
+};
+enum {
+    BRAIDLARK_FIELD_ELECTION_NODE = 1,
+    BRAIDLARK_FIELD_ELECTION_PRIORITY, /* any byte; the highest wins */
+    BRAIDLARK_FIELDS_ELECTION
 };
 enum {
     BRAIDLARK_FIELD_UPDATE_ORIGIN = 1,
@@ -401,6 +412,26 @@ uint8_t braidlark_state_event(uint8_t *state, size_t state_length, uint8_t event
 /* A tick at a time, with the superframe's length, 1 to BRAIDLARK_LONGEST_SUPERFRAME_MS. A time that is over acts on a
  * tick alone, with one change at most; one tick a superframe will do. Refusals: 14 8 14 (the length). */
 uint8_t braidlark_state_tick(uint8_t *state, size_t state_length, uint32_t superframe_ms, uint32_t time);
+
+/* ---- a unit's poll, BRAIDLARK_POLL_SIZE bytes: which unit takes over from a manager that is gone */
+
+/* Makes the poll of a unit that has heard no other, with the priority of its own election message, which the firmware
+ * writes with braidlark_write and sends. There is no time and no network in a poll: the firmware makes a fresh one
+ * where a manager is lost. A unit whose own priority changes makes one too, and has to hear the others again.
+ * Refusals: 14 (the buffer's length) 4. */
+uint8_t braidlark_poll_fresh(uint8_t *poll, size_t poll_length, uint16_t own, uint8_t priority);
+
+/* Hears an election message. A unit's later message replaces its earlier one, also where the poll has no room left;
+ * there one more unit, which would be the 25th, is refused (12). Refusals: 14 1 2 1 3 4 6 12. */
+uint8_t braidlark_poll_hear(uint8_t *poll, size_t poll_length, const uint8_t *frame, size_t frame_length);
+
+/* Says who wins among the units heard and this one: the highest priority, then the lowest address. Polls in which each
+ * unit's last message is the same, their own units' included, name the same winner, in whatever order the messages came
+ * and whatever was refused in between; polls that differ may name two, so that the firmware sends its message more than
+ * once, and waits before it acts. A unit that is the winner then takes BRAIDLARK_EVENT_ELECTED, which is one of Normal
+ * alone: before a tick leaves that for want of beacons, more than three superframes after the last one. It makes its
+ * plan and a fresh book, and the others join it. Refusals: 14. */
+uint8_t braidlark_poll_winner(const uint8_t *poll, size_t poll_length, uint16_t *winner);
 
 /* ---- a unit's clock */
 

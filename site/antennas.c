@@ -18,8 +18,8 @@ static void check_followed(struct site *site, int unit, const struct on_air *fol
     }
 }
 
-/* The first beacons of a superframe are a choice between two ways from the office; the first such choice is told. Round
- * the middle relay there is one way alone, so that while it is gone nothing is left to choose. */
+/* The first beacons of a superframe are a choice between two ways from the manager; the first such choice is told.
+ * Round the middle relay there is one way alone, so that while it is gone nothing is left to choose. */
 static void note_choice(struct site *site, int unit, const struct on_air *followed, const struct on_air *other)
 {
     const char *name = site->units[unit].name, *followed_name = site->units[followed->sender].name;
@@ -39,7 +39,7 @@ static void note_choice(struct site *site, int unit, const struct on_air *follow
 }
 
 /* The one of two beacons to follow. Later in a superframe a unit hears its own beacon again, from those that passed it
- * on: there too it takes one, but that is no choice of a way. */
+ * on: there too it takes one, but that is no choice of a way. Nor is it for the manager, whose beacon it is. */
 static const struct on_air *follow(struct site *site, int unit, const struct on_air *first, const struct on_air *second)
 {
     uint8_t which = 0;
@@ -49,7 +49,7 @@ static const struct on_air *follow(struct site *site, int unit, const struct on_
     check_status(site, "braidlark_follow", status, 0);
     const struct on_air *followed = which == 0 ? first : second, *other = which == 0 ? second : first;
     check_followed(site, unit, followed, other);
-    if (!site->units[unit].beacon_heard) {
+    if (!site->units[unit].beacon_heard && !unit_manages(&site->units[unit])) {
         note_choice(site, unit, followed, other);
     }
     return followed;

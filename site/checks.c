@@ -120,7 +120,7 @@ void check_clocks(struct site *site)
         if (!site->units[unit].powered || !unit_sends(site, unit)) {
             continue;
         }
-        uint32_t ahead = unit_network_time(site, unit) - unit_time(site, OFFICE), behind = 0 - ahead;
+        uint32_t ahead = unit_network_time(site, unit) - manager_time(site), behind = 0 - ahead;
         uint32_t error = ahead < behind ? ahead : behind;
         if (error > tolerance) {
             fail(site, "the clock of %s is %u ms off", site->units[unit].name, (unsigned)error);
@@ -165,7 +165,7 @@ void check_turn(struct site *site, int unit)
  * time has to have begun again at 0 since. */
 void check_gone(struct site *site, int unit)
 {
-    uint64_t silence = site->now - site->manager.last_word[unit];
+    uint64_t silence = unit_wide_time(site, site->manager.unit) - site->manager.word_taken[unit];
     if (silence <= BRAIDLARK_LIVE_MS) {
         fail(site, "%s counts as gone, %u ms after its last word", site->units[unit].name, (unsigned)silence);
     }
@@ -177,22 +177,22 @@ void check_gone(struct site *site, int unit)
     }
 }
 
-/* An order reached its head, or a unit has no way for it. If that is within the time that the office's route had left
+/* An order reached its head, or a unit has no way for it. If that is within the time that the manager's route had left
  * when the order set out, that route has not grown too old: by the table of then it is still usable, and its next hop
  * was heard of lately enough. It may have been withdrawn; and the next hop's own route has an age of its own. */
 void check_lasts(struct site *site, int number, const struct order *order)
 {
     const struct departure *departure = &order->departure;
-    uint64_t passed = site->now - departure->time;
+    int manager = site->manager.unit;
+    uint64_t passed = unit_wide_time(site, manager) - departure->time;
     if (departure->time == 0 || passed > departure->route.left) {
         return;
     }
     struct route route;
-    bool lasts = routes_find_at(site, departure->table, site->units[order->head].address, unit_time(site, OFFICE),
-                                &route) &&
+    bool lasts = routes_find_at(site, departure->table, site->units[order->head].address, manager_time(site), &route) &&
                  route.next_hop == departure->route.next_hop && route.left == departure->route.left - passed;
     int next = layout_find(site, departure->route.next_hop);
-    uint64_t age = unit_wide_time(site, OFFICE) - site->units[OFFICE].update_taken[next];
+    uint64_t age = unit_wide_time(site, manager) - site->units[manager].update_taken[next];
     if (!lasts || age > BRAIDLARK_USABLE_MS) {
         fail(site, "order %d set out %u ms ago on a route with %u ms left, which has ended since", number,
              (unsigned)passed, (unsigned)departure->route.left);
@@ -263,7 +263,7 @@ static void check_orders(struct site *site)
     }
 }
 
-/* The office did hold an order back, which set out later. */
+/* The manager did hold an order back, which set out later. */
 static void check_held(struct site *site)
 {
     for (int number = 0; number < site->manager.order_count; number++) {
@@ -282,4 +282,5 @@ void check_end(struct site *site)
     check_choices(site);
     check_orders(site);
     check_held(site);
+    check_takeover(site);
 }

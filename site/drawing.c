@@ -1,7 +1,7 @@
 /*
  * The night as one picture (SVG, no script): a map of the links, then who held which data slot, who was next on the way
- * to each bench, and the orders; over the whole night, around the moment when the relay fell silent, and around the
- * power cut.
+ * to each bench, and the orders; over the whole night, around the moment when the relay fell silent, around the power
+ * cut, and from when the office was gone.
  */
 #include <string.h>
 
@@ -12,7 +12,7 @@ enum {
     MAP_TOP = 68,
     FIRST_TOP = 392,
     PANEL_STEP = PANEL_HEIGHT + 148,
-    PANELS = 3,
+    PANELS = 4,
     PICTURE_HEIGHT = FIRST_TOP + PANELS * PANEL_STEP - 96,
     TITLE_UP = 76, /* of a panel, above its top */
     MINUTE = 60000
@@ -54,6 +54,7 @@ static void draw_panel(const struct panel *panel)
     draw_axis(panel);
     drawing_bars(panel);
     drawing_no_power(panel);
+    drawing_nobody_manages(panel);
     drawing_moments(panel);
     drawing_ages(panel);
     drawing_bar_words(panel);
@@ -71,6 +72,13 @@ static uint64_t tick_for(uint64_t stretch)
         }
     }
     return 120 * MINUTE;
+}
+
+/* The same for a short stretch, where seconds do not matter. */
+static uint64_t close_tick_for(uint64_t stretch)
+{
+    uint64_t tick = tick_for(stretch);
+    return tick < 2 * MINUTE ? 2 * MINUTE : tick;
 }
 
 /* Words over lines have a rim, white or in the colour of their bar. */
@@ -92,19 +100,22 @@ void drawing_write(const struct site *site, FILE *file)
 {
     uint64_t unbolted = site->script.unbolted, end = site->script.end;
     uint64_t cut_from = site->script.power_fails - 3 * MINUTE, cut_to = site->script.settled;
-    uint64_t cut_tick = tick_for(cut_to - cut_from);
+    uint64_t dead_from = site->script.office_dies - 3 * MINUTE;
     const char *cut_title =
         site->cut.book_lost ? "The power cut in the office: routes and book are lost, every member joins anew"
                             : "The power cut in the office: the routes are lost and learned again, every slot is kept";
-    char relay_title[96];
+    char relay_title[96], dead_title[96];
     snprintf(relay_title, sizeof relay_title,
              "The relay is unbolted: its orders go round it, and bench 9 gets the row of %s",
              site->units[site->inheritance.from].name);
-    int first = FIRST_TOP, second = first + PANEL_STEP, third = second + PANEL_STEP;
+    snprintf(dead_title, sizeof dead_title, "The office is gone for good: %s is elected and begins with a fresh book",
+             site->units[site->takeover.winner].name);
     const struct panel panels[PANELS] = {
-        {site, file, first, "The whole night", 0, end, tick_for(end), false},
-        {site, file, second, relay_title, unbolted - 4 * MINUTE, unbolted + 11 * MINUTE, 2 * MINUTE, true},
-        {site, file, third, cut_title, cut_from, cut_to, cut_tick < 2 * MINUTE ? 2 * MINUTE : cut_tick, true},
+        {site, file, FIRST_TOP, "The whole night", 0, end, tick_for(end), false},
+        {site, file, FIRST_TOP + PANEL_STEP, relay_title, unbolted - 4 * MINUTE, unbolted + 11 * MINUTE, 2 * MINUTE,
+         true},
+        {site, file, FIRST_TOP + 2 * PANEL_STEP, cut_title, cut_from, cut_to, close_tick_for(cut_to - cut_from), true},
+        {site, file, FIRST_TOP + 3 * PANEL_STEP, dead_title, dead_from, end, close_tick_for(end - dead_from), true},
     };
     draw_head(site, file);
     for (int index = 0; index < PANELS; index++) {

@@ -56,9 +56,10 @@ void drawing_order_mark(FILE *file, double across, double down, enum order_mark 
 void drawing_order_line(FILE *file, double left, double right, double down, bool way_known);
 
 /* drawing_moments.c: stretches in which something is amiss, moments of the story, and ages that run out */
-extern const char DRAWING_RELAY_GONE[], DRAWING_NO_POWER[];
+extern const char DRAWING_RELAY_GONE[], DRAWING_NO_POWER[], DRAWING_NOBODY[];
 void drawing_relay_gone(const struct panel *panel);
 void drawing_no_power(const struct panel *panel);
+void drawing_nobody_manages(const struct panel *panel);
 void drawing_moments(const struct panel *panel);
 void drawing_ages(const struct panel *panel);
 

@@ -1,5 +1,5 @@
 /*
- * The bars of a panel: for each data slot who holds it, and for each bench who is next on the office's way to it. The
+ * The bars of a panel: for each data slot who holds it, and for each bench who is next on the manager's way to it. The
  * words on them come last, so that no line runs through them.
  */
 #include "drawing.h"

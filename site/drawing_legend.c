@@ -67,5 +67,6 @@ void drawing_legend(const struct panel *panel)
     int top = draw_colours(panel, panel->top);
     top = draw_box(panel, top, DRAWING_RELAY_GONE, "the middle relay is gone");
     top = draw_box(panel, top, DRAWING_NO_POWER, "the office has no power");
+    top = draw_box(panel, top, DRAWING_NOBODY, "it is gone: nobody manages");
     draw_order_marks(panel, top + GROUP_STEP);
 }

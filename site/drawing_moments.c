@@ -8,6 +8,7 @@ enum { MOMENT_WORDS = 11, MOMENT_ROWS = 3, MOMENT_ROW_HEIGHT = 13, MOMENTS_UP = 
 
 const char DRAWING_RELAY_GONE[] = "fill=\"#f4ecdc\" stroke=\"#d5c29a\"";
 const char DRAWING_NO_POWER[] = "fill=\"#000\" fill-opacity=\"0.22\"";
+const char DRAWING_NOBODY[] = "fill=\"#fff\" fill-opacity=\"0.6\" stroke=\"#111\" stroke-dasharray=\"2 2\"";
 
 struct moment {
     uint64_t time;
@@ -34,6 +35,12 @@ void drawing_relay_gone(const struct panel *panel)
 void drawing_no_power(const struct panel *panel)
 {
     draw_band(panel, panel->site->script.power_fails, panel->site->script.power_returns, DRAWING_NO_POWER);
+}
+
+/* Over them too, and so lightly that what was before the office died is still seen. */
+void drawing_nobody_manages(const struct panel *panel)
+{
+    draw_band(panel, panel->site->script.office_dies, panel->site->takeover.begun, DRAWING_NOBODY);
 }
 
 /* A line down through the rows, with a light rim that shows it on dark bars. */
@@ -68,6 +75,7 @@ void drawing_moments(const struct panel *panel)
 {
     const struct script *script = &panel->site->script;
     const struct cut *cut = &panel->site->cut;
+    const struct takeover *takeover = &panel->site->takeover;
     const struct moment last_word = {panel->site->silence.last_word, "the relay's last word", true};
     const struct moment unbolted = {script->unbolted, "relay unbolted", false};
     bool late = last_word.time > unbolted.time;
@@ -81,6 +89,10 @@ void drawing_moments(const struct panel *panel)
         {cut->recovered, cut->book_lost ? "all have joined anew" : "all have spoken again", true},
         {script->returned, "relay back", false},
         {script->taken_out, "bench 8 taken out", false},
+        {script->office_dies, "office gone", false},
+        {takeover->elected, "elected", true},
+        {takeover->begun, "a fresh book", true},
+        {takeover->recovered, "all have joined anew", true},
     };
     double free_until[MOMENT_ROWS];
     for (int row = 0; row < MOMENT_ROWS; row++) {
@@ -125,4 +137,6 @@ void drawing_ages(const struct panel *panel)
     } else {
         draw_age(panel, site->cut.restored, BRAIDLARK_LIVE_MS, 0, SLOTS_HEIGHT, "every member has to speak again");
     }
+    draw_age(panel, site->takeover.elected, BRAIDLARK_LIVE_MS, 0, SLOTS_HEIGHT,
+             "the winner waits until nobody counts on the lost book");
 }

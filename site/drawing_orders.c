@@ -1,6 +1,6 @@
 /*
  * The orders of a panel, on the row of their bench: a line from when an order was given until it arrived or was
- * replaced, dotted while the office knew no way, with each try that was lost and how long it took.
+ * replaced, dotted while the manager knew no way, with each try that was lost and how long it took.
  */
 #include "drawing.h"
 

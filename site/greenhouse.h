@@ -52,7 +52,7 @@ enum { RELAYS_FROM_MS = 60000, RELAYS_EVERY_MS = 60000, HEADS_FROM_MS = 300000, 
 enum {
     QUEUE_LENGTH = 24,
     MOST_IN_AIR = 64,
-    MOST_ORDERS = 96,
+    MOST_ORDERS = 160,
     MOST_CARRIERS = 8,
     MOST_CHANGES = 256,
     MOST_LOSSES = 96,
@@ -64,8 +64,8 @@ enum {
 /* What the payload of a data frame is, its first byte; the frames of a request or of its answer follow theirs. */
 enum { ORDER = 1, REPORT, REQUEST, ANSWER };
 
-/* The grower's desk, where orders are given. It is wired to the office and no unit of the mesh: the office relays what
- * comes from it. */
+/* The grower's desk, where orders are given. It is wired to the manager and no unit of the mesh: the manager relays
+ * what comes from it. */
 enum { DESK_ADDRESS = 0x0101 };
 
 /* What goes from one unit to another, or to all: a frame, or the responses to one request in a row. A slot has room
@@ -99,13 +99,40 @@ struct holding {
     uint32_t told;
 };
 
+/* What outlives a power cut at a manager: the image of its book that was stored last. */
+struct flash {
+    uint8_t image[BRAIDLARK_MOST_IMAGE];
+    uint32_t length; /* 0 before the first image */
+    uint32_t writes;
+};
+
+/* The last election message of another unit. */
+struct message {
+    int unit;
+    uint8_t priority;
+};
+
+/* What a unit does about a manager that may be gone. */
+struct election {
+    uint8_t poll[BRAIDLARK_POLL_SIZE];
+    struct message heard[UNITS]; /* what the poll took since the last beacon, in the order of the first messages */
+    int heard_count;
+    int missed; /* superframes in a row without a beacon */
+    int told;   /* messages that it has sent in the slot that runs */
+};
+
 struct unit {
     const char *name;
     uint16_t address;
     uint8_t wanted_slots;
+    uint8_t priority; /* of its election message; 0 if it is never to manage */
     bool two_antennas;
     bool powered;
-    uint64_t switched; /* when its power came or went */
+    uint64_t switched;      /* when its power came or went */
+    uint64_t listens_until; /* before which it does not begin to manage */
+    uint16_t manager;       /* whom it takes for the manager: at first the office, which its settings name */
+    struct election election;
+    struct flash flash; /* of a unit that manages */
     int32_t skew_ms;
     int32_t drift_ppm;
     bool began_again; /* its clock, at 0 */
@@ -140,11 +167,11 @@ struct route {
     uint32_t left; /* ms for which it stays usable */
 };
 
-/* How an order set out from the office, the last time that it did. */
+/* How an order set out from the manager, the last time that it did. */
 struct departure {
-    uint64_t time; /* 0 before */
+    uint64_t time; /* by the manager's clock, with its turns; 0 before */
     struct route route;
-    uint8_t table[BRAIDLARK_TABLE_SIZE]; /* the office's, as it then was */
+    uint8_t table[BRAIDLARK_TABLE_SIZE]; /* the manager's, as it then was */
 };
 
 struct order {
@@ -175,20 +202,16 @@ struct regions {
     int end;
 };
 
+/* The manager's side. Managing is a role: the office has it until it is gone, then the unit that was elected. */
 struct manager {
+    int unit; /* which one manages, or was the last to; its clock is the network's time */
     bool running;
     uint8_t book[BRAIDLARK_BOOK_SIZE];
     struct regions regions;
-    uint64_t last_word[UNITS]; /* when a frame of that unit came in last; 0 if none did since power came */
+    uint64_t last_word[UNITS];  /* when a frame of that unit came in last; 0 if none did since power came */
+    uint64_t word_taken[UNITS]; /* the same by the manager's clock, with its turns */
     struct order orders[MOST_ORDERS];
     int order_count;
-};
-
-/* What outlives a power cut at the office: the image of its book that was stored last. */
-struct flash {
-    uint8_t image[BRAIDLARK_MOST_IMAGE];
-    uint32_t length; /* 0 before the first image */
-    uint32_t writes;
 };
 
 /* The schedules of all units at one moment. */
@@ -205,6 +228,16 @@ struct cut {
     bool book_lost;     /* for ever, as there was no image of it */
     uint64_t restored;  /* when the office had its book again, or a fresh one where it was lost; 0 before */
     uint64_t recovered; /* when every member had spoken again, or had joined anew; 0 before */
+};
+
+/* How another unit takes over from the office. */
+struct takeover {
+    int winner;         /* NOBODY before it is elected */
+    uint64_t elected;   /* the moments, 0 before */
+    uint64_t begun;     /* with its fresh book */
+    uint64_t recovered; /* when all heirs had joined anew */
+    uint32_t heirs;     /* the units that there are links to from it, one bit each */
+    int members;        /* how many these are */
 };
 
 struct change {
@@ -247,10 +280,11 @@ struct script {
     uint64_t settled; /* what the power cut brought about is over */
     uint64_t returned;
     uint64_t taken_out;
+    uint64_t office_dies; /* for good; then, or soon after */
     uint64_t end;
 };
 
-/* The ways that there are from the office, known or not. */
+/* The ways that there are from the manager, known or not. */
 struct ways {
     uint32_t to;           /* whom there is one to, one bit each */
     uint64_t since[UNITS]; /* since when, or since when none of the others was lost */
@@ -283,7 +317,11 @@ struct tally {
     uint32_t packets;
     uint32_t beacons;
     uint32_t beacon_bytes;
-    uint32_t choices; /* superframes in which the back relay had two beacons to choose from */
+    uint32_t elections;  /* messages that relays sent, their own and those that they passed on */
+    uint32_t alarms;     /* times that a relay sent such while there was a manager, or would be again */
+    uint32_t named;      /* answers of polls */
+    uint32_t agreements; /* pairs of polls with the same messages */
+    uint32_t choices;    /* superframes in which the back relay had two beacons to choose from */
     uint32_t lost_on_links;
     uint32_t handed_over;
     uint32_t without_route;
@@ -306,8 +344,8 @@ struct site {
     struct unit units[UNITS];
     uint8_t quality[UNITS][UNITS]; /* of the link between two units, 0 where there is none */
     struct manager manager;
-    struct flash flash;
     struct cut cut;
+    struct takeover takeover;
     struct on_air air[MOST_IN_AIR];
     int air_count;
     bool live[UNITS];         /* as the schedules said last */

@@ -1,25 +1,25 @@
 /*
  * How long the routes of orders last. An order has several hops to go, and nobody would notice that it was lost for a
- * route that ended meanwhile: so the office lets none set out on a route that is about to end, but holds it back until
- * there is a better one.
+ * route that ended meanwhile: so the manager lets none set out on a route that is about to end, but holds it back
+ * until there is a better one.
  */
 #include <string.h>
 
 #include "greenhouse.h"
 
-/* What the office's lookup answers for the head of an order. */
+/* What the manager's lookup answers for the head of an order. */
 static bool find_route(struct site *site, const struct order *order, struct route *route)
 {
-    return routes_find(site, OFFICE, site->units[order->head].address, route);
+    return routes_find(site, site->manager.unit, site->units[order->head].address, route);
 }
 
 /* Notes how an order sets out, for what may become of it. */
 static void note_departure(struct site *site, struct order *order, const struct route *route)
 {
     struct departure *departure = &order->departure;
-    departure->time = site->now;
+    departure->time = unit_wide_time(site, site->manager.unit);
     departure->route = *route;
-    memcpy(departure->table, site->units[OFFICE].table, sizeof departure->table);
+    memcpy(departure->table, site->units[site->manager.unit].table, sizeof departure->table);
 }
 
 static void say_released(struct site *site, int number, const struct order *order)
@@ -30,7 +30,7 @@ static void say_released(struct site *site, int number, const struct order *orde
         (unsigned)(order->departure.route.left / 1000));
 }
 
-/* The office relays an order: on the route that a lookup answers, with as much time left, and that is enough. */
+/* The manager relays an order: on the route that a lookup answers, with as much time left, and that is enough. */
 void lasting_set_out(struct site *site, const struct packet *packet, uint32_t left)
 {
     int number;
@@ -65,7 +65,7 @@ static void hold_back(struct site *site, int number, struct order *order, const 
     }
 }
 
-/* A unit does not relay an order, for want of a route or of time left on it. The office tries again in the next
+/* A unit does not relay an order, for want of a route or of time left on it. The manager tries again in the next
  * superframe. */
 void lasting_refused(struct site *site, int unit, const struct packet *packet)
 {
@@ -75,10 +75,10 @@ void lasting_refused(struct site *site, int unit, const struct packet *packet)
     if (order == NULL) {
         return;
     }
-    if (unit == OFFICE) {
+    if (unit == site->manager.unit) {
         order->next_try = site->now;
     }
-    if (unit == OFFICE && find_route(site, order, &route)) {
+    if (unit == site->manager.unit && find_route(site, order, &route)) {
         hold_back(site, number, order, &route);
     } else {
         check_lasts(site, number, order);

@@ -10,32 +10,35 @@
  *                     benches 1, 2, 3
  *
  * The middle relay is the way of orders to the back, the shorter way to bench 4, and the only one to bench 5. The way
- * round it goes by the north relay. The back relay, which hears both, has two antennas.
+ * round it goes by the north relay. The back relay, which hears both, has two antennas. It is the one to take over if
+ * the office is gone: only benches 6, 7 and 8 are then cut off.
  */
 #include <string.h>
 
 #include "greenhouse.h"
 
+/* One with a priority may manage where the office is gone. */
 struct place {
     const char *name;
     uint16_t address;
     uint8_t wanted_slots;
+    uint8_t priority;
 };
 
 static const struct place PLACES[UNITS] = {
-    [OFFICE] = {"the office", 0x0100, 1},
-    [MIDDLE_RELAY] = {"the middle relay", 0x0201, 3},
-    [NORTH_RELAY] = {"the north relay", 0x0202, 3},
-    [BACK_RELAY] = {"the back relay", 0x0203, 3},
-    [BENCH_1] = {"bench 1", 0x0301, 1},
-    [BENCH_2] = {"bench 2", 0x0302, 1},
-    [BENCH_3] = {"bench 3", 0x0303, 1},
-    [BENCH_4] = {"bench 4", 0x0304, 1},
-    [BENCH_5] = {"bench 5", 0x0305, 1},
-    [BENCH_6] = {"bench 6", 0x0306, 1},
-    [BENCH_7] = {"bench 7", 0x0307, 1},
-    [BENCH_8] = {"bench 8", 0x0308, 1},
-    [BENCH_9] = {"bench 9", 0x0309, 2},
+    [OFFICE] = {"the office", 0x0100, 1, 0},
+    [MIDDLE_RELAY] = {"the middle relay", 0x0201, 3, 50},
+    [NORTH_RELAY] = {"the north relay", 0x0202, 3, 50},
+    [BACK_RELAY] = {"the back relay", 0x0203, 3, 70},
+    [BENCH_1] = {"bench 1", 0x0301, 1, 0},
+    [BENCH_2] = {"bench 2", 0x0302, 1, 0},
+    [BENCH_3] = {"bench 3", 0x0303, 1, 0},
+    [BENCH_4] = {"bench 4", 0x0304, 1, 0},
+    [BENCH_5] = {"bench 5", 0x0305, 1, 0},
+    [BENCH_6] = {"bench 6", 0x0306, 1, 0},
+    [BENCH_7] = {"bench 7", 0x0307, 1, 0},
+    [BENCH_8] = {"bench 8", 0x0308, 1, 0},
+    [BENCH_9] = {"bench 9", 0x0309, 2, 0},
 };
 
 struct link {
@@ -65,7 +68,7 @@ enum { MINUTE = 60000, SKEW_STEP_MS = MINUTE / (UNITS - 1) };
  * book, the routes by it, and the slots that bench 5 counts on. */
 static void set_script(struct script *script, const struct plan *plan, uint32_t length_ms)
 {
-    enum { LAST_HEAD_MS = HEADS_FROM_MS + (BENCH_8 - BENCH_1) * HEADS_EVERY_MS, CUT_SLOT = 25 };
+    enum { LAST_HEAD_MS = HEADS_FROM_MS + (BENCH_8 - BENCH_1) * HEADS_EVERY_MS, CUT_SLOT = 25, SLEEP_SLOT = 45 };
     uint64_t superframe_ms = plan->superframe_ms;
     uint64_t joining_ms = plan_has_image(plan) ? 0 : BRAIDLARK_LIVE_MS + 12 * superframe_ms;
     script->orders_begin = LAST_HEAD_MS + 10 * superframe_ms;
@@ -78,7 +81,8 @@ static void set_script(struct script *script, const struct plan *plan, uint32_t 
     script->power_fails = half_way / superframe_ms * superframe_ms + CUT_SLOT * plan->slot_ms;
     script->power_returns = script->power_fails + MINUTE;
     script->settled = script->power_fails + 9 * MINUTE + joining_ms;
-    script->end = length_ms;
+    script->office_dies = length_ms / superframe_ms * superframe_ms + SLEEP_SLOT * plan->slot_ms;
+    script->end = script->office_dies + 9 * MINUTE + BRAIDLARK_LIVE_MS + 30 * superframe_ms;
 }
 
 void layout_set(struct site *site, uint32_t seed, uint32_t length_ms, bool short_beacons)
@@ -86,6 +90,8 @@ void layout_set(struct site *site, uint32_t seed, uint32_t length_ms, bool short
     memset(site, 0, sizeof *site);
     site->random = seed;
     site->inheritance.from = NOBODY;
+    site->manager.unit = OFFICE;
+    site->takeover.winner = NOBODY;
     for (int row = 0; row < MEMBER_ROWS; row++) {
         site->holders[row] = NOBODY;
     }
@@ -96,6 +102,7 @@ void layout_set(struct site *site, uint32_t seed, uint32_t length_ms, bool short
         unit->name = PLACES[index].name;
         unit->address = PLACES[index].address;
         unit->wanted_slots = PLACES[index].wanted_slots;
+        unit->priority = PLACES[index].priority;
         unit->two_antennas = index == BACK_RELAY;
         /* Every crystal but the manager's, which is the network's time, is off and runs off, some fast, some slow. */
         int sign = index % 2 ? 1 : -1;

@@ -1,15 +1,23 @@
 /*
  * The manager's side: the plan, the book, and the answers to requests. Of the book it knows only what the calls answer.
  */
+#include <string.h>
+
 #include "greenhouse.h"
+
+/* What the manager's clock shows, which is the network's time. */
+uint32_t manager_time(const struct site *site)
+{
+    return unit_time(site, site->manager.unit);
+}
 
 static uint8_t plan_with(const struct site *site, uint32_t beacon, uint8_t plan[BRAIDLARK_PLAN_SIZE])
 {
-    return braidlark_plan(plan, BRAIDLARK_PLAN_SIZE, NETWORK, site->units[OFFICE].address, MOST_HOPS, MEMBER_ROWS,
-                          DATA_SLOTS, site->plan.slot_ms, beacon);
+    return braidlark_plan(plan, BRAIDLARK_PLAN_SIZE, NETWORK, site->units[site->manager.unit].address, MOST_HOPS,
+                          MEMBER_ROWS, DATA_SLOTS, site->plan.slot_ms, beacon);
 }
 
-/* The plan is made of the numbers that the site was built with, after a power cut too. With long beacons it is one
+/* The plan is made of the numbers that the site was built with, whoever manages. With long beacons it is one
  * exactly if they can say how long its superframe is. */
 static void make_plan(struct site *site, uint8_t plan[BRAIDLARK_PLAN_SIZE])
 {
@@ -62,16 +70,8 @@ static void take_own_slots(const uint8_t *kinds, struct holding *holding)
     }
 }
 
-static void make_book(struct site *site, const uint8_t plan[BRAIDLARK_PLAN_SIZE])
+static void say_first_book(struct site *site)
 {
-    struct manager *manager = &site->manager;
-    uint8_t status = braidlark_book_fresh(manager->book, sizeof manager->book, plan, BRAIDLARK_PLAN_SIZE,
-                                          unit_time(site, OFFICE));
-    check_status(site, "braidlark_book_fresh", status, 0);
-    if (site->cut.book_lost) {
-        power_begin_anew(site);
-        return;
-    }
     say(site, "the office heard no other manager for %u s and manages: %d slots of %u ms, room for %d members",
         (unsigned)(plan_listening_ms(&site->plan) / 1000), BRAIDLARK_MOST_SLOTS, (unsigned)site->plan.slot_ms,
         MEMBER_ROWS);
@@ -81,36 +81,65 @@ static void make_book(struct site *site, const uint8_t plan[BRAIDLARK_PLAN_SIZE]
     }
 }
 
-/* The office becomes the manager: with the book of its stored image, or with a fresh one if nothing is stored. */
-static void start(struct site *site)
+static void make_book(struct site *site, const uint8_t plan[BRAIDLARK_PLAN_SIZE])
 {
+    struct manager *manager = &site->manager;
+    uint8_t status =
+        braidlark_book_fresh(manager->book, sizeof manager->book, plan, BRAIDLARK_PLAN_SIZE, manager_time(site));
+    check_status(site, "braidlark_book_fresh", status, 0);
+    if (manager->unit == site->takeover.winner) {
+        takeover_begin(site);
+    } else if (site->cut.book_lost) {
+        power_begin_anew(site);
+    } else {
+        say_first_book(site);
+    }
+}
+
+/* A unit becomes the manager: with the book of its stored image, or with a fresh one if nothing is stored. Its clock is
+ * the network's time from now on. */
+static void start(struct site *site, int unit)
+{
+    struct unit *self = &site->units[unit];
     uint8_t plan[BRAIDLARK_PLAN_SIZE], kinds[BRAIDLARK_MOST_SLOTS];
+    site->manager.unit = unit;
+    self->offset = 0;
     make_plan(site, plan);
     find_regions(site, plan);
-    if (site->flash.length > 0) {
+    if (self->flash.length > 0) {
         power_restore(site);
     } else {
         make_book(site, plan);
     }
-    schedule_of(site, OFFICE, 0, kinds);
+    schedule_of(site, unit, 0, kinds);
     check_regions(site, kinds);
-    take_own_slots(kinds, &site->units[OFFICE].holding);
+    take_own_slots(kinds, &self->holding);
     site->manager.running = true;
 }
 
-/* The start of a superframe: the first time a book, every time a beacon in slot 0. Before there is a book the office
- * listens for its time. */
-void manager_begin(struct site *site)
+/* The start of a superframe: the first time a book, every time a beacon in slot 0. Before there is a book the unit that
+ * is to manage listens for its time. */
+void manager_begin(struct site *site, int unit)
 {
-    struct unit *office = &site->units[OFFICE];
+    struct unit *self = &site->units[unit];
     if (!site->manager.running) {
-        if (site->now - office->switched < plan_listening_ms(&site->plan)) {
+        if (site->now < self->listens_until) {
             return;
         }
-        start(site);
+        start(site, unit);
     }
-    beacons_write(site, &office->beacon);
-    office->beacon_slot = 0;
+    beacons_write(site, &self->beacon);
+    self->beacon_slot = 0;
+}
+
+/* The manager has no power any more: its memory is lost. */
+void manager_end(struct site *site)
+{
+    struct manager *manager = &site->manager;
+    manager->running = false;
+    memset(manager->book, 0, sizeof manager->book);
+    memset(manager->last_word, 0, sizeof manager->last_word);
+    routes_watch(site);
 }
 
 /* The response that says no. */
@@ -121,7 +150,7 @@ static size_t write_denial(struct site *site, uint32_t node, uint8_t *out, size_
         [BRAIDLARK_FIELD_JOIN_RESPONSE_NODE] = node,
         [BRAIDLARK_FIELD_JOIN_RESPONSE_STATUS] = BRAIDLARK_STATUS_REFUSED,
         [BRAIDLARK_FIELD_JOIN_RESPONSE_SLOT] = BRAIDLARK_NO_SLOT,
-        [BRAIDLARK_FIELD_JOIN_RESPONSE_SUPERFRAME_TIME] = unit_time(site, OFFICE),
+        [BRAIDLARK_FIELD_JOIN_RESPONSE_SUPERFRAME_TIME] = manager_time(site),
         [BRAIDLARK_FIELD_JOIN_RESPONSE_NETWORK] = NETWORK,
     };
     uint32_t written = 0;
@@ -146,6 +175,12 @@ static void note_refusal(struct site *site, int unit, uint8_t status)
     asker->was_refused = true;
 }
 
+static void note_word(struct site *site, int unit)
+{
+    site->manager.last_word[unit] = site->now;
+    site->manager.word_taken[unit] = unit_wide_time(site, site->manager.unit);
+}
+
 /* Answers a join or slot request: the bytes of the responses, and how many. The book is stored before they go out. */
 size_t manager_answer(struct site *site, const uint8_t *request, size_t length, uint8_t *out, size_t room)
 {
@@ -154,7 +189,7 @@ size_t manager_answer(struct site *site, const uint8_t *request, size_t length, 
     frame_read(site, request, length, &frame);
     bool joins = frame.fields[BRAIDLARK_FIELD_TYPE] == BRAIDLARK_TYPE_JOIN_REQUEST;
     uint32_t node = frame.fields[joins ? BRAIDLARK_FIELD_JOIN_REQUEST_NODE : BRAIDLARK_FIELD_SLOT_REQUEST_NODE];
-    uint32_t time = unit_time(site, OFFICE), written = 0;
+    uint32_t time = manager_time(site), written = 0;
     int unit = layout_find(site, (uint16_t)node);
     uint8_t status;
     if (joins) {
@@ -169,7 +204,7 @@ size_t manager_answer(struct site *site, const uint8_t *request, size_t length, 
         note_refusal(site, unit, status);
         return write_denial(site, node, out, room);
     }
-    manager->last_word[unit] = site->now;
+    note_word(site, unit);
     power_store(site);
     check_schedules(site);
     return written;
@@ -179,21 +214,21 @@ size_t manager_answer(struct site *site, const uint8_t *request, size_t length, 
 void manager_hears(struct site *site, uint16_t address)
 {
     struct manager *manager = &site->manager;
-    uint8_t status = braidlark_heard(manager->book, sizeof manager->book, address, unit_time(site, OFFICE));
+    uint8_t status = braidlark_heard(manager->book, sizeof manager->book, address, manager_time(site));
     check_status(site, "braidlark_heard", status, REFUSAL(BRAIDLARK_NO_MEMBER));
-    manager->last_word[layout_find(site, address)] = site->now;
+    note_word(site, layout_find(site, address));
 }
 
 /* A unit is taken out with a word to the manager: its row and slots are free at once, and so are the routes. */
 void manager_takes_out(struct site *site, int unit)
 {
     struct manager *manager = &site->manager;
-    struct unit *office = &site->units[OFFICE];
+    struct unit *self = &site->units[manager->unit];
     uint16_t address = site->units[unit].address;
-    uint8_t status = braidlark_leave(manager->book, sizeof manager->book, address, unit_time(site, OFFICE));
+    uint8_t status = braidlark_leave(manager->book, sizeof manager->book, address, manager_time(site));
     check_status(site, "braidlark_leave", status, 0);
     site->live[unit] = false;
-    status = braidlark_forget(office->table, sizeof office->table, address, unit_time(site, OFFICE));
+    status = braidlark_forget(self->table, sizeof self->table, address, manager_time(site));
     check_status(site, "braidlark_forget", status, 0);
     unit_power_off(site, unit);
     power_store(site);

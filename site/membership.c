@@ -24,13 +24,20 @@ void membership_drop(struct unit *unit)
     unit->control.count = 0;
 }
 
-/* Whether a unit may still count on what it was told. The manager keeps its own place for ever. */
-bool membership_counts(const struct site *site, int unit)
+/* Whether a unit may count on what it was told for so many ms more, if it is told nothing else. The manager keeps its
+ * own place for ever. */
+bool membership_lasts(const struct site *site, int unit, uint32_t for_ms)
 {
     const struct holding *holding = &site->units[unit].holding;
     uint32_t end = holding->told + BRAIDLARK_LIVE_MS - GUARD_MS - site->plan.slot_ms;
-    bool in_time = !holding->denied && time_before(unit_network_time(site, unit), end);
-    return holding->held && (unit == OFFICE || in_time);
+    bool in_time = !holding->denied && time_before(unit_network_time(site, unit) + for_ms, end);
+    return holding->held && (unit_manages(&site->units[unit]) || in_time);
+}
+
+/* Whether it may now. */
+bool membership_counts(const struct site *site, int unit)
+{
+    return membership_lasts(site, unit, 0);
 }
 
 static void write_join_request(struct site *site, const struct unit *unit, struct packet *packet)
@@ -55,7 +62,7 @@ static void write_slot_request(struct site *site, const struct unit *unit, struc
 void membership_begin(struct site *site, int unit)
 {
     struct unit *self = &site->units[unit];
-    if (unit == OFFICE || site->now < self->next_request) {
+    if (unit_manages(self) || site->now < self->next_request) {
         return;
     }
     struct packet packet;
@@ -80,14 +87,14 @@ void membership_ask(struct site *site, int unit, struct packet *packet)
 void membership_sponsor(struct site *site, int unit, const struct packet *packet, uint16_t node)
 {
     struct unit *self = &site->units[unit];
-    if (unit == OFFICE) {
+    if (unit_manages(self)) {
         uint8_t answer[BRAIDLARK_RESPONSES_SIZE];
         size_t written = manager_answer(site, packet->bytes, packet->length, answer, sizeof answer);
         struct packet responses;
         packet_set(&responses, node, answer, written, BRAIDLARK_LENGTH_JOIN_RESPONSE);
         queue_put(&self->control, &responses);
     } else if (unit_sends(site, unit)) {
-        traffic_send(site, unit, site->units[OFFICE].address, REQUEST, packet->bytes, packet->length);
+        traffic_send(site, unit, self->manager, REQUEST, packet->bytes, packet->length);
     }
 }
 

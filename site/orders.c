@@ -39,7 +39,7 @@ static void try_order(struct site *site, int number)
     struct route route;
     order->next_try = site->now + TRY_EVERY_MS;
     order->fair_tries += ways_settled(site, order->head);
-    if (!routes_find(site, OFFICE, head->address, &route)) {
+    if (!routes_find(site, site->manager.unit, head->address, &route)) {
         check_lasts(site, number + 1, order);
         if (!order->waits_for_route && !order->arrived) {
             say(site, "order %d waits: there is no way to %s", number + 1, head->name);
@@ -48,7 +48,7 @@ static void try_order(struct site *site, int number)
         return;
     }
     uint8_t words[] = {(uint8_t)(number + 1), (uint8_t)((number + 1) >> 8), order->setting};
-    traffic_send(site, OFFICE, head->address, ORDER, words, sizeof words);
+    traffic_send(site, site->manager.unit, head->address, ORDER, words, sizeof words);
 }
 
 void orders_repeat(struct site *site)
@@ -149,7 +149,7 @@ void orders_carried(struct site *site, int carrier, const struct packet *packet)
     if (order == NULL || order->arrived) {
         return;
     }
-    order->carrier_count = carrier == OFFICE ? 0 : order->carrier_count;
+    order->carrier_count = carrier == site->manager.unit ? 0 : order->carrier_count;
     if (order->carrier_count < MOST_CARRIERS) {
         order->carriers[order->carrier_count++] = carrier;
     }

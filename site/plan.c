@@ -25,6 +25,13 @@ bool plan_is_slow(const struct plan *plan)
     return 5 * plan->superframe_ms > BRAIDLARK_LIVE_MS;
 }
 
+/* How many superframes without a beacon a unit bears before it is elected: as many as leave it in its Normal state or,
+ * where superframes are long, in its place. */
+int plan_patience(const struct plan *plan)
+{
+    return plan_is_slow(plan) ? 2 : 3;
+}
+
 /* How long the office listens before it manages: for another manager or, where no image tells it who holds what, until
  * nobody counts any more on slots that it may have granted. */
 uint32_t plan_listening_ms(const struct plan *plan)

@@ -10,15 +10,15 @@
 
 /* Stores the image of the book, if the plan has one and it is another than the stored one: flash wears out. Whoever
  * changes the book calls this before it tells anybody, so that no unit ever counts on a slot that a power cut would
- * make the office forget. */
+ * make the manager forget. */
 void power_store(struct site *site)
 {
     const struct manager *manager = &site->manager;
-    struct flash *flash = &site->flash;
+    struct flash *flash = &site->units[manager->unit].flash;
     uint8_t image[BRAIDLARK_MOST_IMAGE];
     uint32_t length = 0;
-    uint8_t status = braidlark_image(manager->book, sizeof manager->book, unit_time(site, OFFICE), image, sizeof image,
-                                     &length);
+    uint8_t status =
+        braidlark_image(manager->book, sizeof manager->book, manager_time(site), image, sizeof image, &length);
     if (!plan_has_image(&site->plan)) {
         if (status != BRAIDLARK_OUT_OF_RULE) {
             fail(site, "braidlark_image answered %d for a plan with short beacons", status);
@@ -37,31 +37,28 @@ void power_store(struct site *site)
 /* What of the book outlives the cut. */
 static void say_what_is_left(struct site *site)
 {
+    const struct flash *flash = &site->units[OFFICE].flash;
     if (site->cut.book_lost) {
         say(site, "nothing of the book is in its flash: with short beacons its image is refused, with number %d",
             BRAIDLARK_OUT_OF_RULE);
     } else {
         say(site, "the last image of the book is in its flash: %u bytes, written %u times since the evening",
-            (unsigned)site->flash.length, (unsigned)site->flash.writes);
+            (unsigned)flash->length, (unsigned)flash->writes);
     }
 }
 
 /* The office's memory is lost, and bench 8, which hangs on the same line, is dark too. */
 void power_fails(struct site *site)
 {
-    struct manager *manager = &site->manager;
     struct cut *cut = &site->cut;
     schedules_copy(site, &cut->before);
     for (int unit = OFFICE + 1; unit < UNITS; unit++) {
         cut->members += cut->before.live[unit];
     }
-    cut->book_lost = site->flash.length == 0;
+    cut->book_lost = site->units[OFFICE].flash.length == 0;
     unit_power_off(site, OFFICE);
     unit_power_off(site, BENCH_8);
-    manager->running = false;
-    memset(manager->book, 0, sizeof manager->book);
-    memset(manager->last_word, 0, sizeof manager->last_word);
-    routes_watch(site);
+    manager_end(site);
     say(site, "THE POWER FAILS IN THE OFFICE: its book of %d members and its routes are lost; bench 8 is dark too",
         cut->members);
     say_what_is_left(site);
@@ -102,10 +99,10 @@ static void check_agreement(struct site *site)
 void power_restore(struct site *site)
 {
     struct manager *manager = &site->manager;
-    struct flash *flash = &site->flash;
+    struct flash *flash = &site->units[manager->unit].flash;
     uint32_t writes = flash->writes;
-    uint8_t status = braidlark_restore(manager->book, sizeof manager->book, flash->image, flash->length,
-                                       unit_time(site, OFFICE));
+    uint8_t status =
+        braidlark_restore(manager->book, sizeof manager->book, flash->image, flash->length, manager_time(site));
     check_status(site, "braidlark_restore", status, 0);
     power_store(site);
     if (flash->writes != writes) {
@@ -116,15 +113,10 @@ void power_restore(struct site *site)
     say(site, "the office has its book again: every member has its row and its slots, every schedule is as before");
 }
 
-/* Begins with a fresh book in place of the lost one, on whose slots nobody may count any more. */
+/* Begins with a fresh book in place of the lost one. */
 void power_begin_anew(struct site *site)
 {
-    for (int unit = OFFICE + 1; unit < UNITS; unit++) {
-        if (site->units[unit].powered && membership_counts(site, unit)) {
-            fail(site, "%s still counts on slots of the lost book", site->units[unit].name);
-        }
-        site->live[unit] = false;
-    }
+    schedules_forget(site);
     site->cut.restored = site->now;
     say(site, "the office begins with a fresh book: all %d members have to join anew", site->cut.members);
 }

@@ -1,5 +1,5 @@
 /*
- * The ways that units know, and the office's over the night: kept for the picture, and told when they change for a
+ * The ways that units know, and the manager's over the night: kept for the picture, and told when they change for a
  * bench.
  */
 #include "greenhouse.h"
@@ -20,11 +20,12 @@ bool routes_find(struct site *site, int unit, uint16_t destination, struct route
     return routes_find_at(site, site->units[unit].table, destination, unit_time(site, unit), route);
 }
 
-/* The office's next hop to a unit, or NOBODY. */
+/* The manager's next hop to a unit, or NOBODY. */
 static int next_hop_to(struct site *site, int unit)
 {
+    int manager = site->manager.unit;
     struct route route;
-    bool known = site->units[OFFICE].powered && routes_find(site, OFFICE, site->units[unit].address, &route);
+    bool known = site->units[manager].powered && routes_find(site, manager, site->units[unit].address, &route);
     return known ? layout_find(site, route.next_hop) : NOBODY;
 }
 
@@ -38,28 +39,29 @@ static void say_way(struct site *site, int next, uint32_t benches)
         return;
     }
     if (next == NOBODY) {
-        say(site, "the office knows no way to %s %s any more", plural, words);
-    } else if (next == OFFICE) {
+        say(site, "%s knows no way to %s %s any more", site->units[site->manager.unit].name, plural, words);
+    } else if (next == site->manager.unit) {
         say(site, "orders for %s %s now go straight", plural, words);
     } else {
         say(site, "orders for %s %s now go by %s", plural, words, site->units[next].name);
     }
 }
 
-/* Keeps the office's next hop to each unit, and tells of changes for a bench that is there. */
+/* Keeps the manager's next hop to each unit, and tells of changes for a bench that is there. */
 void routes_watch(struct site *site)
 {
     uint32_t changed[UNITS + 1] = {0};
-    for (int unit = 1; unit < UNITS; unit++) {
+    int manager = site->manager.unit;
+    for (int unit = 0; unit < UNITS; unit++) {
         int next = next_hop_to(site, unit);
         int changes = site->next_hops[unit].count;
         record_note(&site->next_hops[unit], site->now, next);
         if (site->next_hops[unit].count > changes && unit >= BENCH_1 && site->units[unit].powered) {
-            int by = next == unit ? OFFICE : next;
+            int by = next == unit ? manager : next;
             changed[by + 1] |= 1u << (unit - BENCH_1 + 1);
         }
     }
-    bool told = site->units[OFFICE].powered && site->now >= site->script.orders_begin;
+    bool told = site->units[manager].powered && site->now >= site->script.orders_begin;
     for (int by = NOBODY; by < UNITS && told; by++) {
         say_way(site, by, changed[by + 1]);
     }

@@ -8,10 +8,10 @@
 static uint8_t hop_of(struct site *site, int unit)
 {
     struct route route;
-    if (unit == OFFICE) {
+    if (unit == site->manager.unit) {
         return 0;
     }
-    bool known = routes_find(site, OFFICE, site->units[unit].address, &route);
+    bool known = routes_find(site, site->manager.unit, site->units[unit].address, &route);
     return known && route.hops <= MOST_HOPS ? route.hops : MOST_HOPS;
 }
 
@@ -21,8 +21,8 @@ bool schedule_of(struct site *site, int unit, uint8_t hop, uint8_t kinds[BRAIDLA
     const struct manager *manager = &site->manager;
     uint32_t slots = 0;
     uint8_t status = braidlark_schedule(manager->book, sizeof manager->book, site->units[unit].address, hop,
-                                        unit_time(site, OFFICE), kinds, BRAIDLARK_MOST_SLOTS, &slots);
-    check_status(site, "braidlark_schedule", status, unit == OFFICE ? 0 : REFUSAL(BRAIDLARK_NO_MEMBER));
+                                        manager_time(site), kinds, BRAIDLARK_MOST_SLOTS, &slots);
+    check_status(site, "braidlark_schedule", status, unit == site->manager.unit ? 0 : REFUSAL(BRAIDLARK_NO_MEMBER));
     if (status == BRAIDLARK_ACCEPTED && slots * site->plan.slot_ms != site->plan.superframe_ms) {
         fail(site, "a schedule has %u slots, and the site counts on %d", (unsigned)slots, BRAIDLARK_MOST_SLOTS);
     }
@@ -114,12 +114,12 @@ static void note_live(struct site *site, int unit, bool live, uint32_t held_befo
 {
     char slots[80];
     number_words(site->held[unit], slots);
-    bool joined = live && !site->live[unit];
+    bool joined = live && !site->live[unit], is_manager = unit == site->manager.unit;
     const char *plural = (site->held[unit] & (site->held[unit] - 1)) != 0 ? "s" : "";
-    if (joined && unit != OFFICE) {
+    if (joined && !is_manager) {
         say(site, "%s joins: row %d of the book, data slot%s %s", site->units[unit].name, site->row[unit], plural,
             slots);
-    } else if (live && unit != OFFICE && site->held[unit] != held_before) {
+    } else if (live && !is_manager && site->held[unit] != held_before) {
         say(site, "%s now holds data slot%s %s", site->units[unit].name, plural, slots);
     } else if (!live && site->live[unit]) {
         note_gone(site, unit);
@@ -149,6 +149,18 @@ void check_schedules(struct site *site)
     }
     for (int slot = 0; slot < DATA_SLOTS; slot++) {
         record_note(&site->slot_holders[slot], site->now, senders[site->manager.regions.data + slot]);
+    }
+}
+
+/* A book is lost, and a fresh one begins: all members of the lost one, on whose slots nobody may count any more, have
+ * to join anew. */
+void schedules_forget(struct site *site)
+{
+    for (int unit = 0; unit < UNITS; unit++) {
+        if (site->units[unit].powered && membership_counts(site, unit)) {
+            fail(site, "%s still counts on slots of the lost book", site->units[unit].name);
+        }
+        site->live[unit] = false;
     }
 }
 

@@ -1,6 +1,6 @@
 /*
  * What happens when: the units are switched on, the night's orders begin, a head too many comes, the middle relay is
- * unbolted, the power fails in the office, and in the end the relay is back.
+ * unbolted, the power fails in the office, the relay is back, and in the morning the office dies.
  */
 #include "greenhouse.h"
 
@@ -60,7 +60,7 @@ static void order_late(struct site *site)
 {
     struct route route;
     bool awaited = site->silence.begun && !site->silence.late_order && site->manager.running;
-    if (awaited && routes_find(site, OFFICE, site->units[BENCH_4].address, &route) &&
+    if (awaited && routes_find(site, site->manager.unit, site->units[BENCH_4].address, &route) &&
         route.next_hop == site->units[MIDDLE_RELAY].address && route.left < LEAST_LEFT_MS) {
         site->silence.late_order = true;
         orders_give(site, BENCH_4, 35);
@@ -93,6 +93,13 @@ static void cut_power(struct site *site)
     }
 }
 
+static void end_office(struct site *site)
+{
+    if (due(site, site->script.office_dies)) {
+        takeover_office_dies(site);
+    }
+}
+
 /* What happens to units in the slot that begins now. */
 void story_slot(struct site *site)
 {
@@ -101,9 +108,10 @@ void story_slot(struct site *site)
     order_late(site);
     cut_power(site);
     bring_back(site);
+    end_office(site);
 }
 
-/* Whether the relay's going and coming and the power cut are all some time away. */
+/* Whether the relay's going, the power cut and the relay's coming, behind which much follows, are some time away. */
 bool story_is_quiet(const struct site *site)
 {
     const struct script *script = &site->script;
@@ -112,7 +120,7 @@ bool story_is_quiet(const struct site *site)
 }
 
 /* Orders come every 20 minutes, and more often while there is something to see. A head that is new, or that has to join
- * anew since the book was lost, gets none before it is in the book. */
+ * anew since the book was lost, gets none before it is in the book; the desk of a manager that is gone gives none. */
 void story_orders(struct site *site)
 {
     static const int HEADS[] = {BENCH_1, BENCH_4, BENCH_6, BENCH_5, BENCH_2, BENCH_3, BENCH_7, BENCH_9, BENCH_8};
@@ -125,7 +133,7 @@ void story_orders(struct site *site)
     int head = HEADS[site->orders_given % count];
     int setting = 20 + 10 * (site->orders_given % 7);
     site->orders_given++;
-    bool has_to_join = head == BENCH_9 || site->cut.book_lost;
+    bool has_to_join = head == BENCH_9 || site->cut.book_lost || site->takeover.begun > 0;
     if (site->units[head].powered && (!has_to_join || site->live[head])) {
         orders_give(site, head, (uint8_t)setting);
     }

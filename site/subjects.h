@@ -8,6 +8,7 @@
 void plan_set(struct plan *plan, bool short_beacons);
 bool plan_has_image(const struct plan *plan);
 bool plan_is_slow(const struct plan *plan);
+int plan_patience(const struct plan *plan);
 uint32_t plan_listening_ms(const struct plan *plan);
 uint32_t plan_clock_tolerance_ms(const struct plan *plan);
 
@@ -43,6 +44,7 @@ void clocks_watch(struct site *site);
 /* beacons.c: beacons of either kind, written, forwarded and in the air */
 bool packet_is_beacon(const struct packet *packet);
 int beacon_hop(struct site *site, const struct packet *packet);
+uint16_t beacon_manager(struct site *site, int unit, const struct packet *packet);
 void beacons_write(struct site *site, struct packet *packet);
 void beacons_forward(struct site *site, int unit, const struct packet *packet);
 void beacons_note(struct site *site, int sender, const struct packet *packet);
@@ -50,6 +52,7 @@ void beacons_note(struct site *site, int sender, const struct packet *packet);
 /* unit.c: a unit's power, state, clock step and routing updates */
 void unit_power_on(struct site *site, int unit);
 void unit_power_off(struct site *site, int unit);
+bool unit_manages(const struct unit *unit);
 bool unit_sends(const struct site *site, int unit);
 void unit_tell(struct site *site, int unit, uint8_t event);
 void unit_begin(struct site *site, int unit);
@@ -57,8 +60,26 @@ void unit_tick(struct site *site, int unit);
 bool unit_turn(struct site *site, int unit, int slot, size_t room, struct packet *packet);
 void unit_hear(struct site *site, int unit, int sender, uint8_t quality, const struct packet *packet);
 
+/* election.c: the poll of a unit, its election messages, and whom it takes for the manager */
+void election_fresh(struct site *site, int unit);
+int election_winner(struct site *site, int unit);
+bool election_turn(struct site *site, int unit, size_t room, struct packet *packet);
+void election_hear(struct site *site, int unit, const struct packet *packet, const struct frame *frame);
+void election_tick(struct site *site, int unit);
+void check_polls(struct site *site);
+
+/* takeover.c: the office dies, and the unit that was elected takes over */
+void takeover_office_dies(struct site *site);
+void takeover_note(struct site *site, int unit, int winner);
+void takeover_begin(struct site *site);
+void takeover_watch(struct site *site);
+int takeover_orders(const struct site *site);
+void check_managers(struct site *site);
+void check_takeover(struct site *site);
+
 /* membership.c: asking for a place in the book, carrying such requests for others, and what was granted */
 void membership_drop(struct unit *unit);
+bool membership_lasts(const struct site *site, int unit, uint32_t for_ms);
 bool membership_counts(const struct site *site, int unit);
 void membership_begin(struct site *site, int unit);
 void membership_ask(struct site *site, int unit, struct packet *packet);
@@ -72,7 +93,9 @@ void traffic_hear(struct site *site, int unit, const struct packet *packet, cons
 void traffic_report(struct site *site, int unit);
 
 /* manager.c: the plan, the book and the answers */
-void manager_begin(struct site *site);
+uint32_t manager_time(const struct site *site);
+void manager_begin(struct site *site, int unit);
+void manager_end(struct site *site);
 size_t manager_answer(struct site *site, const uint8_t *request, size_t length, uint8_t *out, size_t room);
 void manager_hears(struct site *site, uint16_t address);
 void manager_takes_out(struct site *site, int unit);
@@ -89,6 +112,7 @@ void power_watch(struct site *site);
 bool schedule_of(struct site *site, int unit, uint8_t hop, uint8_t kinds[BRAIDLARK_MOST_SLOTS]);
 void schedules_copy(struct site *site, struct schedules *copy);
 void check_schedules(struct site *site);
+void schedules_forget(struct site *site);
 void check_full(struct site *site);
 void check_holdings(struct site *site);
 
@@ -105,13 +129,14 @@ void orders_carried(struct site *site, int carrier, const struct packet *packet)
 void lasting_set_out(struct site *site, const struct packet *packet, uint32_t left);
 void lasting_refused(struct site *site, int unit, const struct packet *packet);
 
-/* routes.c: the ways that units know, and the office's over the night */
+/* routes.c: the ways that units know, and the manager's over the night */
 bool routes_find_at(struct site *site, const uint8_t table[BRAIDLARK_TABLE_SIZE], uint16_t destination, uint32_t time,
                     struct route *route);
 bool routes_find(struct site *site, int unit, uint16_t destination, struct route *route);
 void routes_watch(struct site *site);
 
 /* ways.c: the ways that there are, known or not */
+uint32_t ways_find(const struct site *site, int from, bool (*carries)(const struct site *site, int unit));
 void ways_watch(struct site *site);
 bool ways_settled(const struct site *site, int unit);
 

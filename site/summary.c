@@ -53,17 +53,18 @@ static void print_orders(const struct site *site)
 {
     struct outcome outcome = count_orders(site);
     int given = site->manager.order_count;
-    printf("  orders     %d given; arrived: %d, replaced by a later one for the same bench: %d, withdrawn: %d, still on "
-           "their way: %d\n",
-           given, outcome.arrived, outcome.replaced, outcome.withdrawn,
-           given - outcome.arrived - outcome.replaced - outcome.withdrawn);
+    printf(
+        "  orders     %d given; arrived: %d, replaced by a later one for the same bench: %d, withdrawn: %d, still on "
+        "their way: %d\n",
+        given, outcome.arrived, outcome.replaced, outcome.withdrawn,
+        given - outcome.arrived - outcome.replaced - outcome.withdrawn);
     const struct order *slowest = &site->manager.orders[outcome.slowest];
     printf(
         "             the slowest was order %d, which %s followed after %u s; %d that arrived had waited for a way\n",
         outcome.slowest + 1, site->units[slowest->head].name, (unsigned)(outcome.slowest_ms / 1000), outcome.waited);
-    printf("             held back, as the office's route had less than %d s left: %d, for %u s at most\n",
+    printf("             held back, as the manager's route had less than %d s left: %d, for %u s at most\n",
            LEAST_LEFT_MS / 1000, outcome.held_back, (unsigned)(outcome.longest_held_ms / 1000));
-    printf("             for none that set out did the office's route grow too old before its time\n");
+    printf("             for none that set out did the manager's route grow too old before its time\n");
     printf("  the relay  %d tries were lost at it; orders late for that: %d, the slowest of them after %u s\n",
            outcome.lost_tries, outcome.late, (unsigned)(outcome.latest_ms / 1000));
     printf("             no frame went to a unit gone for more than %d s; the last to one that was gone, after %u s\n",
@@ -81,8 +82,30 @@ static void print_power(const struct site *site)
         printf("  the power  %d members kept rows, slots and schedules; all had spoken again %u s after the power was "
                "back\n",
                cut->members, took_s);
-        printf("             the flash was written %u times in the night\n", (unsigned)site->flash.writes);
+        printf("             the flash was written %u times in the night\n",
+               (unsigned)site->units[OFFICE].flash.writes);
     }
+}
+
+static void print_takeover(const struct site *site)
+{
+    const struct takeover *takeover = &site->takeover;
+    const struct tally *tally = &site->tally;
+    uint64_t died = site->script.office_dies;
+    char words[9];
+    clock_words(died, words);
+    printf("  the office died at %s; %s was elected %u s later, and its book began after %u s\n", words,
+           site->units[takeover->winner].name, (unsigned)((takeover->elected - died) / 1000),
+           (unsigned)((takeover->begun - died) / 1000));
+    printf("             all %d members were in it after %u s; %d orders given since arrived and were reported\n",
+           takeover->members, (unsigned)((takeover->recovered - died) / 1000), takeover_orders(site));
+    printf("             %u election messages were sent; polls named a winner %u times, %u pairs with the same "
+           "messages one\n",
+           (unsigned)tally->elections, (unsigned)tally->named, (unsigned)tally->agreements);
+    printf(
+        "             never did two units manage at once; %u times before or since a relay missed beacons: nobody took "
+        "over\n",
+        (unsigned)tally->alarms);
 }
 
 static void print_joining(const struct site *site)
@@ -126,6 +149,7 @@ void summary_print(struct site *site)
     scene(site, "The night in numbers");
     print_orders(site);
     print_power(site);
+    print_takeover(site);
     printf("  routes     %u looked at: none outlives the last update of its next hop by more than %d ms\n",
            (unsigned)tally->routes, BRAIDLARK_USABLE_MS);
     printf("             %u frames handed to a next hop, whose last update was at most %u ms old; %u had no way that "

@@ -9,6 +9,7 @@ static void begin_managing(struct site *site)
     power_store(site);
     check_schedules(site);
     power_watch(site);
+    takeover_watch(site);
     story_orders(site);
     orders_repeat(site);
 }
@@ -37,17 +38,17 @@ static bool runs_out(const struct site *site, uint64_t age, uint64_t limit)
     return age > limit && age - limit <= site->plan.slot_ms;
 }
 
-/* Within a superframe too the office looks at its book or its routes when one of them has just grown too old: so the
+/* Within a superframe too the manager looks at its book or its routes when one of them has just grown too old: so the
  * record of the night has the moment. */
 static void look_at_ages(struct site *site)
 {
-    const struct unit *office = &site->units[OFFICE];
-    uint64_t time = unit_wide_time(site, OFFICE);
+    const struct unit *manager = &site->units[site->manager.unit];
+    uint64_t time = unit_wide_time(site, site->manager.unit);
     bool book = false, routes = false;
-    for (int unit = OFFICE + 1; unit < UNITS && site->manager.running; unit++) {
-        uint64_t update_age = time - office->update_taken[unit];
+    for (int unit = 0; unit < UNITS && site->manager.running; unit++) {
+        uint64_t update_age = time - manager->update_taken[unit];
         book = book || runs_out(site, site->now - site->manager.last_word[unit], BRAIDLARK_LIVE_MS);
-        routes = routes || (office->was_told[unit] && runs_out(site, update_age, BRAIDLARK_USABLE_MS));
+        routes = routes || (manager->was_told[unit] && runs_out(site, update_age, BRAIDLARK_USABLE_MS));
     }
     if (routes) {
         routes_watch(site);
@@ -64,6 +65,8 @@ static void tick_units(struct site *site)
             unit_tick(site, unit);
         }
     }
+    check_managers(site);
+    check_polls(site);
 }
 
 /* Each unit fills the slot as far as it may send in it; then all others have heard it. */

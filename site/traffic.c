@@ -9,7 +9,7 @@
 enum { TIME_TO_LIVE = 8 };
 
 /* Puts a frame in the queue: what its payload is, and the rest of it. It is the unit's own, but for an order: that
- * comes from the desk, and the office has it to relay as if it had heard it. */
+ * comes from the desk, and the manager has it to relay as if it had heard it. */
 void traffic_send(struct site *site, int unit, uint16_t destination, uint8_t kind, const uint8_t *rest, size_t length)
 {
     struct unit *self = &site->units[unit];
@@ -32,7 +32,7 @@ void traffic_report(struct site *site, int unit)
 {
     const struct unit *self = &site->units[unit];
     uint8_t report[] = {(uint8_t)self->last_order, (uint8_t)(self->last_order >> 8), self->setting};
-    traffic_send(site, unit, site->units[OFFICE].address, REPORT, report, sizeof report);
+    traffic_send(site, unit, self->manager, REPORT, report, sizeof report);
 }
 
 /* Chooses the way of a frame of the unit's own, if there is one. */
@@ -47,7 +47,7 @@ static bool route_own(struct site *site, int unit, const struct packet *waiting,
     return known;
 }
 
-/* Chooses the way of a frame from elsewhere, with its time to live one less, if there is one. The office, which has
+/* Chooses the way of a frame from elsewhere, with its time to live one less, if there is one. The manager, which has
  * only orders to relay, names the time that a route must last; relays name none, as what is under way is better carried
  * on than dropped. */
 static bool route_other(struct site *site, int unit, const struct packet *waiting, struct packet *packet)
@@ -55,10 +55,9 @@ static bool route_other(struct site *site, int unit, const struct packet *waitin
     const struct unit *self = &site->units[unit];
     uint16_t next_hop = 0;
     uint32_t place = 0, length = 0, left = 0;
-    uint8_t status =
-        braidlark_relay(self->table, sizeof self->table, waiting->bytes, waiting->length, unit_time(site, unit),
-                        unit == OFFICE ? LEAST_LEFT_MS : 0, packet->bytes, sizeof packet->bytes, &next_hop, &place,
-                        &length, &left);
+    uint8_t status = braidlark_relay(self->table, sizeof self->table, waiting->bytes, waiting->length,
+                                     unit_time(site, unit), unit == site->manager.unit ? LEAST_LEFT_MS : 0,
+                                     packet->bytes, sizeof packet->bytes, &next_hop, &place, &length, &left);
     check_status(site, "braidlark_relay", status,
                  REFUSAL(BRAIDLARK_OWN_UNIT) | REFUSAL(BRAIDLARK_TTL_OVER) | REFUSAL(BRAIDLARK_NO_ROUTE));
     if (status == BRAIDLARK_ACCEPTED) {
@@ -67,7 +66,7 @@ static bool route_other(struct site *site, int unit, const struct packet *waitin
     }
     if (status == BRAIDLARK_NO_ROUTE) {
         lasting_refused(site, unit, waiting);
-    } else if (status == BRAIDLARK_ACCEPTED && unit == OFFICE) {
+    } else if (status == BRAIDLARK_ACCEPTED && unit == site->manager.unit) {
         lasting_set_out(site, packet, left);
     }
     return status == BRAIDLARK_ACCEPTED;
@@ -125,7 +124,7 @@ void traffic_hear(struct site *site, int unit, const struct packet *packet, cons
                                      unit_time(site, unit), 0, NULL, 0, &next_hop, &place, &length, &left);
     check_status(site, "braidlark_relay", status, 0);
     uint16_t source = (uint16_t)frame->fields[BRAIDLARK_FIELD_DATA_SOURCE];
-    if (unit == OFFICE) {
+    if (unit == site->manager.unit) {
         manager_hears(site, source);
     }
     take_payload(site, unit, source, packet->bytes + place, length);

@@ -29,11 +29,14 @@ static void start_over(struct site *site, int unit)
     membership_drop(self);
 }
 
+/* A unit knows nothing but its settings, which name the office as the manager. */
 void unit_power_on(struct site *site, int unit)
 {
     struct unit *self = &site->units[unit];
     self->powered = true;
     self->switched = site->now;
+    self->listens_until = site->now + plan_listening_ms(&site->plan);
+    self->manager = site->units[OFFICE].address;
     self->offset = 0;
     self->sponsor = 0;
     self->was_refused = false;
@@ -42,6 +45,7 @@ void unit_power_on(struct site *site, int unit)
     memset(self->was_told, 0, sizeof self->was_told);
     uint8_t status = braidlark_table_fresh(self->table, sizeof self->table, self->address, unit_time(site, unit));
     check_status(site, "braidlark_table_fresh", status, 0);
+    election_fresh(site, unit);
     start_over(site, unit);
 }
 
@@ -50,6 +54,12 @@ void unit_power_off(struct site *site, int unit)
     site->units[unit].powered = false;
     site->units[unit].switched = site->now;
     membership_drop(&site->units[unit]);
+}
+
+/* Whether a unit is the manager, or is to be when it has listened for its time. */
+bool unit_manages(const struct unit *unit)
+{
+    return unit->manager == unit->address;
 }
 
 /* Whether a unit uses its slots: it may count on them, and the beacons it hears keep its clock. */
@@ -85,18 +95,19 @@ static void do_chores(struct site *site, int unit)
         self->next_update = site->now + UPDATE_EVERY_MS;
         queue_update(site, unit);
     }
-    if (unit != OFFICE && site->now >= self->next_report) {
+    if (!unit_manages(self) && site->now >= self->next_report) {
         self->next_report = site->now + REPORT_EVERY_MS;
         traffic_report(site, unit);
     }
 }
 
 /* A unit that recovers looks for the network again; what it holds it keeps, until its time is over. One that the table
- * of states calls a manager because it was alone for 30 s declines: on this site only the office manages. */
+ * of states calls a manager because it was alone for 30 s declines: on this site only the office manages, or who was
+ * elected. */
 static void look_again(struct site *site, int unit)
 {
     struct unit *self = &site->units[unit];
-    if (self->state[0] == BRAIDLARK_MANAGER && unit != OFFICE) {
+    if (self->state[0] == BRAIDLARK_MANAGER && !unit_manages(self)) {
         unit_tell(site, unit, BRAIDLARK_EVENT_FAULT);
     }
     if (self->state[0] == BRAIDLARK_RECOVERY) {
@@ -113,8 +124,8 @@ void unit_begin(struct site *site, int unit)
     self->beacon_heard = false;
     self->beacon_slot = NOBODY;
     self->asks_in_slot = NOBODY;
-    if (unit == OFFICE && self->state[0] == BRAIDLARK_MANAGER) {
-        manager_begin(site);
+    if (unit_manages(self) && self->state[0] == BRAIDLARK_MANAGER) {
+        manager_begin(site, unit);
     }
     if (self->holding.held && !membership_counts(site, unit)) {
         site->tally.started_over++;
@@ -128,10 +139,12 @@ void unit_begin(struct site *site, int unit)
     }
 }
 
-/* The tick, in the middle of the superframe: a fast clock then does not count a beacon as missing that is only due. */
+/* The tick, in the middle of the superframe: a fast clock then does not count a beacon as missing that is only due. Who
+ * is elected has to be so before it, as it may end Normal. */
 void unit_tick(struct site *site, int unit)
 {
     struct unit *self = &site->units[unit];
+    election_tick(site, unit);
     uint8_t before = self->state[0];
     uint8_t status =
         braidlark_state_tick(self->state, sizeof self->state, site->plan.superframe_ms, unit_time(site, unit));
@@ -152,16 +165,18 @@ static bool holds_slot(const struct unit *unit, int slot)
 }
 
 /* The next packet that a unit sends in a slot of its own, if any: what controls in a control slot, data in a data slot,
- * and where superframes are long either in both. Of the discovery slots, which are the manager's to send in, it uses
- * the first as one for control; in the others units ask. */
+ * and where superframes are long either in both; then election messages. Of the discovery slots, which are the
+ * manager's to send in, it uses the first as one for control; in the others units ask. */
 static bool own_turn(struct site *site, int unit, int slot, size_t room, struct packet *packet)
 {
     struct unit *self = &site->units[unit];
-    bool controls = slot == self->holding.control_slot || (unit == OFFICE && slot == site->manager.regions.discovery);
+    bool controls =
+        slot == self->holding.control_slot || (unit_manages(self) && slot == site->manager.regions.discovery);
     bool carries = holds_slot(self, slot);
     bool either = plan_is_slow(&site->plan) && (controls || carries);
     return ((controls || either) && queue_take(&self->control, room, packet)) ||
-           ((carries || either) && traffic_turn(site, unit, room, packet));
+           ((carries || either) && traffic_turn(site, unit, room, packet)) ||
+           ((controls || carries) && election_turn(site, unit, room, packet));
 }
 
 /* The next packet that a unit sends in a slot with room for so many more bytes, if any. */
@@ -184,13 +199,15 @@ bool unit_turn(struct site *site, int unit, int slot, size_t room, struct packet
 static void hear_beacon(struct site *site, int unit, int sender, const struct packet *packet)
 {
     struct unit *self = &site->units[unit];
-    if (unit == OFFICE) {
+    if (unit_manages(self)) {
         return;
     }
     uint8_t status = braidlark_clock_step(&self->offset, unit_time(site, unit), NETWORK, packet->bytes, packet->length);
     check_status(site, "braidlark_clock_step", status, 0);
+    self->manager = beacon_manager(site, unit, packet);
     if (!self->beacon_heard) {
         self->beacon_heard = true;
+        election_fresh(site, unit);
         self->sponsor = site->units[sender].address;
     }
     unit_tell(site, unit, BRAIDLARK_EVENT_BEACON_HEARD);
@@ -215,15 +232,15 @@ static void hear_update(struct site *site, int unit, int sender, uint8_t quality
     check_merge(site, unit, packet, compared);
     self->was_told[sender] = true;
     self->update_taken[sender] = unit_wide_time(site, unit);
-    if (unit == OFFICE) {
+    if (unit == site->manager.unit) {
         manager_hears(site, site->units[sender].address);
     }
 }
 
-/* The office listens from when it manages: before, it has no book that it could answer from. */
+/* A manager listens from when it has its book: before, there is none that it could answer from. */
 void unit_hear(struct site *site, int unit, int sender, uint8_t quality, const struct packet *packet)
 {
-    if (unit == OFFICE && !site->manager.running) {
+    if (unit_manages(&site->units[unit]) && !site->manager.running) {
         return;
     }
     struct frame frame;
@@ -247,6 +264,9 @@ void unit_hear(struct site *site, int unit, int sender, uint8_t quality, const s
         break;
     case BRAIDLARK_TYPE_JOIN_RESPONSE:
         membership_answer(site, unit, packet->bytes, packet->length);
+        break;
+    case BRAIDLARK_TYPE_ELECTION:
+        election_hear(site, unit, packet, &frame);
         break;
     }
 }

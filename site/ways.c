@@ -1,5 +1,5 @@
 /*
- * The ways that there are from the office, whether any unit knows them or not: over links, from one unit that sends to
+ * The ways that there are from the manager, whether any unit knows them or not: over links, from one unit that sends to
  * the next. An order can be expected to arrive where there has been one for some time.
  */
 #include "greenhouse.h"
@@ -15,14 +15,14 @@ static bool is_linked(const struct site *site, int unit, uint32_t others)
     return false;
 }
 
-/* Whom there is a way to, one bit each. */
-static uint32_t find_all(const struct site *site)
+/* Whom there is a way to from a unit over units that carry on, one bit each, itself included. */
+uint32_t ways_find(const struct site *site, int from, bool (*carries)(const struct site *site, int unit))
 {
-    uint32_t found = unit_sends(site, OFFICE) ? 1u << OFFICE : 0, before = 0;
+    uint32_t found = carries(site, from) ? 1u << from : 0, before = 0;
     while (found != before) {
         before = found;
         for (int unit = 0; unit < UNITS; unit++) {
-            if (unit_sends(site, unit) && is_linked(site, unit, before)) {
+            if (carries(site, unit) && is_linked(site, unit, before)) {
                 found |= 1u << unit;
             }
         }
@@ -34,7 +34,7 @@ static uint32_t find_all(const struct site *site)
 void ways_watch(struct site *site)
 {
     struct ways *ways = &site->ways;
-    uint32_t found = find_all(site), lost = ways->to & ~found;
+    uint32_t found = ways_find(site, site->manager.unit, unit_sends), lost = ways->to & ~found;
     for (int unit = 0; unit < UNITS; unit++) {
         if (lost != 0 || (ways->to >> unit & 1) == 0) {
             ways->since[unit] = site->now;

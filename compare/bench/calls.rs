@@ -23,7 +23,7 @@ const HOP: u32 = 1;
 /// What one call is given and what it leaves; each call uses its part of it.
 #[derive(Clone, Debug, Default, PartialEq, Eq)]
 pub struct Buffers {
-    /// The bytes of a table or of a book.
+    /// The bytes of a table, of a book or of a poll.
     pub kept: Vec<u8>,
     /// What `kept` has to be before each call, where one call would make the next another. The copy is measured with it.
     pub before: Option<Vec<u8>>,
@@ -41,6 +41,7 @@ pub struct Buffers {
     pub skipped: u8,
     pub compared: u16,
     pub which: u8,
+    pub winner: u16,
     pub place: u32,
     pub length: u32,
     pub left: u32,
@@ -64,6 +65,7 @@ pub mod library {
     use crate::book::calls::{braidlark_join, braidlark_schedule};
     use crate::follow::calls::braidlark_follow;
     use crate::image::calls::{braidlark_image, braidlark_restore};
+    use crate::poll::calls::{braidlark_poll_hear, braidlark_poll_winner};
     use crate::routes::calls::{
         braidlark_forget, braidlark_forward, braidlark_lookup, braidlark_merge, braidlark_page, braidlark_relay,
     };
@@ -121,6 +123,18 @@ pub mod library {
         }
     }
 
+    pub fn hear(buffers: &mut Buffers) -> u8 {
+        let Buffers { kept, input, .. } = buffers;
+        // SAFETY: as above.
+        unsafe { braidlark_poll_hear(kept.as_mut_ptr(), kept.len(), input.as_ptr(), input.len()) }
+    }
+
+    pub fn winner(buffers: &mut Buffers) -> u8 {
+        let Buffers { kept, winner, .. } = buffers;
+        // SAFETY: as above.
+        unsafe { braidlark_poll_winner(kept.as_ptr(), kept.len(), winner) }
+    }
+
     pub fn join(buffers: &mut Buffers) -> u8 {
         let Buffers { kept, input, out, length, .. } = buffers;
         // SAFETY: as above.
@@ -153,6 +167,7 @@ pub mod independent {
     use super::*;
     use crate::book::members::Book;
     use crate::follow::choice::{self, Heard};
+    use crate::poll::election::Poll;
     use crate::routes::direct;
     use crate::routes::table::Table;
 
@@ -211,6 +226,18 @@ pub mod independent {
         let first = Heard { frame: &buffers.input, quality: QUALITY };
         let second = Heard { frame: &buffers.second, quality: BETTER_QUALITY };
         buffers.which = choice::follow(first, second, NETWORK)?.number();
+        Ok(())
+    }
+
+    pub fn hear(buffers: &mut Buffers) -> Result<(), Refusal> {
+        let mut poll = Poll::from_bytes(&buffers.kept)?;
+        poll.hear(&buffers.input)?;
+        poll.to_bytes(&mut buffers.kept);
+        Ok(())
+    }
+
+    pub fn winner(buffers: &mut Buffers) -> Result<(), Refusal> {
+        buffers.winner = Poll::from_bytes(&buffers.kept)?.winner();
         Ok(())
     }
 

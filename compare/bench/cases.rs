@@ -6,6 +6,8 @@ use crate::book::drafts::{book_bytes, join_request};
 use crate::book::members::Row as Member;
 use crate::frames::kinds::{kind_of_type, BEACON, DATA, MOST_BEACON_HOPS, SHORT_BEACON};
 use crate::image::files::full_book;
+use crate::poll::drafts::{election, others_from, poll_bytes};
+use crate::poll::election::MOST_OTHERS;
 use crate::routes::drafts::{beacon, data, update, Entry};
 use crate::routes::table::{Row, Table, MOST_ROWS};
 use crate::shared::random::Random;
@@ -35,14 +37,16 @@ const PAGE: Call = Call { library: library::page, independent: independent::page
 const FORGET: Call = Call { library: library::forget, independent: independent::forget };
 const FORWARD: Call = Call { library: library::forward, independent: independent::forward };
 const FOLLOW: Call = Call { library: library::follow, independent: independent::follow };
+const HEAR: Call = Call { library: library::hear, independent: independent::hear };
+const WINNER: Call = Call { library: library::winner, independent: independent::winner };
 const JOIN: Call = Call { library: library::join, independent: independent::join };
 const SCHEDULE: Call = Call { library: library::schedule, independent: independent::schedule };
 const IMAGE: Call = Call { library: library::image, independent: independent::image };
 const RESTORE: Call = Call { library: library::restore, independent: independent::restore };
 
-/// Tables are full where the name does not end in their rows. With `compared` in it, it ends in how many rows are
-/// compared. With `trusting`, the library judges the table as always, and Rust does not.
-pub const CASES: [Case; 31] = [
+/// Tables are full where the name does not end in their rows, and polls are full. With `compared` in it, it ends in how
+/// many rows are compared. With `trusting`, the library judges the table as always, and Rust does not.
+pub const CASES: [Case; 33] = [
     Case { name: "relay-10", call: RELAY, buffers: || relaying(10, MOST_ROWS), answer: ACCEPTED },
     Case { name: "relay-100", call: RELAY, buffers: || relaying(100, MOST_ROWS), answer: ACCEPTED },
     Case { name: "relay-255", call: RELAY, buffers: || relaying(255, MOST_ROWS), answer: ACCEPTED },
@@ -55,6 +59,8 @@ pub const CASES: [Case; 31] = [
     Case { name: "forward", call: FORWARD, buffers: || forwarding(BEACON), answer: ACCEPTED },
     Case { name: "forward-short", call: FORWARD, buffers: || forwarding(SHORT_BEACON), answer: ACCEPTED },
     Case { name: "follow", call: FOLLOW, buffers: following, answer: ACCEPTED },
+    Case { name: "hear", call: HEAR, buffers: polling, answer: ACCEPTED },
+    Case { name: "winner", call: WINNER, buffers: polling, answer: ACCEPTED },
     Case { name: "relay-100-0", call: RELAY, buffers: || relaying(100, 0), answer: NO_ROUTE },
     Case { name: "relay-100-12", call: RELAY, buffers: || relaying(100, 12), answer: ACCEPTED },
     Case { name: "relay-100-24", call: RELAY, buffers: || relaying(100, 24), answer: ACCEPTED },
@@ -88,6 +94,8 @@ const ENTRIES: usize = 24;
 const ROOM_FOR_STRANGERS: u16 = 0x0100;
 /// The hops of every row.
 const HOPS: u8 = 3;
+/// The priority of every unit in a poll but the last.
+const PRIORITY: u8 = 100;
 /// What a beacon holds besides the fields that are set does not matter, but is always the same.
 const BEACON_SEED: u64 = 1;
 
@@ -194,6 +202,15 @@ fn forwarding(code: u8) -> Buffers {
 fn following() -> Buffers {
     let frame = forwarded(BEACON);
     Buffers { second: frame.clone(), ..Buffers::new(Vec::new(), frame, OWN) }
+}
+
+/// A full poll, and the message of the unit in its last place, which is in it already and wins.
+fn polling() -> Buffers {
+    let mut others = others_from(FIRST, MOST_OTHERS, PRIORITY);
+    let last = &mut others[MOST_OTHERS - 1];
+    last.1 += 1;
+    let frame = election(last.0, last.1);
+    Buffers::new(poll_bytes((OWN, PRIORITY), &others), frame, OWN)
 }
 
 /// A newcomer, to a site where half of the rows are taken.

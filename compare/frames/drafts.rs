@@ -97,6 +97,7 @@ fn numbers(kind: &Kind, count: u32, random: &mut Random) -> Vec<u32> {
         DISCOVERY_RESPONSE => {
             vec![code, unit(random), network(random), byte(random), byte(random), byte(random), long(random)]
         }
+        ELECTION => vec![code, unit(random), byte(random)],
         ROUTING_UPDATE => vec![code, unit(random), count, long(random)],
         BEACON => beacon(random),
         _ => short_beacon(random),

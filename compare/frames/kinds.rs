@@ -1,5 +1,5 @@
-//! The nine kinds of frames, eight from the paper's table and the short beacon from request 101 of document 02: their
-//! fields, their variable parts, and how both lie in bytes.
+//! The ten kinds of frames, eight from the paper's table, the short beacon from request 101 of document 02 and the
+//! election message from its request 109: their fields, their variable parts, and how both lie in bytes.
 
 use crate::frames::rules::*;
 
@@ -11,6 +11,7 @@ pub const JOIN_RESPONSE: u8 = 0x22;
 pub const SLOT_REQUEST: u8 = 0x23;
 pub const DISCOVERY_REQUEST: u8 = 0x24;
 pub const DISCOVERY_RESPONSE: u8 = 0x25;
+pub const ELECTION: u8 = 0x26;
 pub const ROUTING_UPDATE: u8 = 0x31;
 pub const BEACON: u8 = 0x46;
 pub const SHORT_BEACON: u8 = 0x47;
@@ -58,8 +59,8 @@ pub struct Kind {
     rule: fn(&[u32]) -> bool,
 }
 
-/// The nine kinds, in the paper's order.
-pub static KINDS: [Kind; 9] = [
+/// The ten kinds, ascending by type, as the paper has its own.
+pub static KINDS: [Kind; 10] = [
     Kind {
         code: DATA,
         fields: &[
@@ -118,6 +119,7 @@ pub static KINDS: [Kind; 9] = [
         part: None,
         rule: discovery_response_rule,
     },
+    Kind { code: ELECTION, fields: &[TYPE, field("node", 2), field("priority", 1)], part: None, rule: election_rule },
     Kind {
         code: ROUTING_UPDATE,
         fields: &[TYPE, field("origin", 2), field("k", 1), field("time", 4)],
@@ -181,9 +183,9 @@ pub fn kind_of(code: u32) -> Option<&'static Kind> {
     KINDS.iter().find(|kind| u32::from(kind.code) == code)
 }
 
-/// The kind with this type, which is one of the nine.
+/// The kind with this type, which is one of the ten.
 pub fn kind_of_type(code: u8) -> &'static Kind {
-    kind_of(u32::from(code)).expect("one of the nine kinds")
+    kind_of(u32::from(code)).expect("one of the ten kinds")
 }
 
 impl Kind {

@@ -19,6 +19,7 @@ const DRAFTS_FOR_EVERY_ROOM: usize = 4;
 pub fn check(check: &mut Check) -> Agreement {
     example_of_the_paper(check)?;
     example_of_a_short_beacon(check)?;
+    example_of_an_election_message(check)?;
     short_inputs_of_every_type(check)?;
     no_numbers(check)?;
     for kind in &KINDS {
@@ -54,6 +55,15 @@ fn example_of_a_short_beacon(check: &mut Check) -> Agreement {
     ];
     assert_eq!(independent::write(&numbers, &[], 19).as_deref(), Ok(&frame[..]), "a short beacon");
     assert_eq!(independent::write(&numbers, &[], 18), Err(Refusal::Room), "it has 19 bytes");
+    read(check, &frame, numbers.len())
+}
+
+/// "Use type 0x26 with node 2, priority 1, checksum, 5 bytes": the node's low byte comes first.
+fn example_of_an_election_message(check: &mut Check) -> Agreement {
+    let numbers = [0x26, 0x0201, 7];
+    let frame = [0x26, 0x01, 0x02, 0x07, 0x22];
+    assert_eq!(independent::write(&numbers, &[], 5).as_deref(), Ok(&frame[..]), "an election message");
+    assert_eq!(independent::write(&numbers, &[], 4), Err(Refusal::Room), "it has 5 bytes");
     read(check, &frame, numbers.len())
 }
 

@@ -61,6 +61,14 @@ pub fn discovery_response_rule(numbers: &[u32]) -> bool {
     }
 }
 
+/// Any priority will do.
+pub fn election_rule(numbers: &[u32]) -> bool {
+    match *numbers {
+        [_type, node, _priority] => is_unit(node),
+        _ => false,
+    }
+}
+
 pub fn routing_update_rule(numbers: &[u32]) -> bool {
     match *numbers {
         [_type, origin, _k, _time] => is_unit(origin),

@@ -28,12 +28,12 @@ pub enum Refusal {
     Ttl = 10,
     /// There is no usable route, or it has less time left than the caller names.
     NoRoute = 11,
-    /// Every member row is live.
+    /// Every member row is live, or a poll has no room for another unit.
     Full = 12,
     /// The unit is not a live member, or is the manager and asked to leave.
     NotMember = 13,
-    /// A plan, image, page, hop or superframe's length, or a table, book or state handed in, is out of rule; or the plan
-    /// has no image.
+    /// A plan, image, page, hop or superframe's length, or a table, book, state or poll handed in, is out of rule; or the
+    /// plan has no image.
     OutOfRule = 14,
     /// The network is not the book's or the caller's.
     Network = 15,

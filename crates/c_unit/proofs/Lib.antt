@@ -1,3 +1,4 @@
 pub mod ClockCallLaws
 pub mod FollowCallLaws
+pub mod PollCallLaws
 pub mod StateCallLaws

@@ -8,6 +8,7 @@ use frame_kinds::judging::refused;
 use frame_kinds::judging::unknown;
 use frame_requests::DiscoveryRequest;
 use frame_requests::DiscoveryResponse;
+use frame_requests::Election;
 use frame_requests::JoinRequest;
 use frame_requests::JoinResponse;
 use frame_requests::SlotRequest;
@@ -28,6 +29,7 @@ pub fn wanted(s: &[u8], code: u8) -> u8
         0x23 => SlotRequest::refusal(s),
         0x24 => refused(s, 0x24, 7, DiscoveryRequest::of(s).good()),
         0x25 => refused(s, 0x25, 13, DiscoveryResponse::of(s).good()),
+        0x26 => Election::refusal(s),
         0x31 => UpdateHeader::refusal(s),
         0x46 => Beacon::refusal(s),
         0x47 => ShortBeacon::refusal(s),
@@ -54,6 +56,7 @@ pub fn read(s: &[u8]) -> Frame
         0x23 => Frame::SlotRequest(SlotRequest::of(s)).unless(wanted(s, 0x23)),
         0x24 => Frame::DiscoveryRequest(DiscoveryRequest::of(s)).unless(wanted(s, 0x24)),
         0x25 => Frame::DiscoveryResponse(DiscoveryResponse::of(s)).unless(wanted(s, 0x25)),
+        0x26 => Frame::Election(Election::of(s)).unless(wanted(s, 0x26)),
         0x31 => Frame::Update(UpdateHeader::of(s)).unless(wanted(s, 0x31)),
         0x46 => Frame::Beacon(Beacon::of(s)).unless(wanted(s, 0x46)),
         0x47 => Frame::ShortBeacon(ShortBeacon::of(s)).unless(wanted(s, 0x47)),

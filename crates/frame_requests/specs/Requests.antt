@@ -1,4 +1,4 @@
--- The requests and responses between a unit and the manager: document 01's table and field rules, a line each.
+-- The requests and responses between a unit and the manager: document 01's table and field rules, a line each; and document 02's election message.
 -- Of each kind: the values of its record in the paper's order, the record with given values where a definition needs it, and its fields. A name of the code that
 -- has a `_` stands in « ».
 -- Assumes nothing.
@@ -14,6 +14,7 @@ use Rattle.frame_requests.specs.declared.JoinResponse.{JoinResponse}
 use Rattle.frame_requests.specs.declared.SlotRequest.{SlotRequest}
 use Rattle.frame_requests.specs.declared.DiscoveryRequest.{DiscoveryRequest}
 use Rattle.frame_requests.specs.declared.DiscoveryResponse.{DiscoveryResponse}
+use Rattle.frame_requests.specs.declared.Election.{Election}
 
 -- ---- 0x21 join request: node, capabilities, network, slots; its network may be 0, for any
 abbrev pub joinRequestValues : JoinRequest → List ℕ
@@ -61,3 +62,13 @@ discoveryResponseValues f = f .manager ∷ f .network ∷ f .size ∷ f .free �
 
 abbrev pub discoveryResponse : Kind
 discoveryResponse = fixed 0x25 (unit ∷ net ∷ byte ∷ byte ∷ byte ∷ word ∷ [])
+
+-- ---- 0x26 election message: node, priority
+abbrev pub electionValues : Election → List ℕ
+electionValues f = f .node ∷ f .priority ∷ []
+
+abbrev pub electionFrom : List ℕ → Election
+electionFrom vs = record { node = getD vs 0 0; priority = getD vs 1 0 }
+
+abbrev pub election : Kind
+election = fixed 0x26 (unit ∷ byte ∷ [])

@@ -1,10 +1,10 @@
-// The five kinds that a unit and the manager send each other. Of each: its record, the record of a frame's bytes, whether it keeps its rules, and
-// its numbers, the type first; and what refuses its bytes, where a call wants the kind alone.
+// The five kinds that a unit and the manager send each other, and the one by which units choose a manager. Of each: its record, the record of a
+// frame's bytes, whether it keeps its rules, and its numbers, the type first; and what refuses its bytes, where a call wants the kind alone.
 ghost use mathlib.Core.Path.{_≡_};
 ghost use mathlib.Core.List.{[], _∷_};
 ghost use lib.Seq.{sets};
 ghost use Rattle.octets.specs.Layouts.{bytes};
-ghost use Rattle.frame_requests.specs.Requests.{joinRequest, joinRequestValues, joinResponse, joinResponseValues, slotRequest, slotRequestValues, discoveryRequest, discoveryRequestValues, discoveryResponse, discoveryResponseValues};
+ghost use Rattle.frame_requests.specs.Requests.{joinRequest, joinRequestValues, joinResponse, joinResponseValues, slotRequest, slotRequestValues, discoveryRequest, discoveryRequestValues, discoveryResponse, discoveryResponseValues, election, electionValues};
 ghost use Rattle.frame_kinds.specs.Reading.{refusalAs};
 ghost use Rattle.frame_kinds.specs.Shape.{valuesIn};
 use frame_kinds::judging::refused;
@@ -244,5 +244,40 @@ impl DiscoveryResponse {
             self.quality as u32,
             self.uptime,
         ]
+    }
+}
+
+// 0x26, the election message: a unit stands for manager, at its priority.
+pub struct Election {
+    pub node: u16,
+    pub priority: u8,
+}
+
+impl Election {
+    pub fn of(s: &[u8]) -> Election
+        ensures { λ r. ⌜ electionValues r ≡ valuesIn election (now (s .entry)) ⌝ }
+    {
+        Election {
+            node: number16(s, 1),
+            priority: number8(s, 3),
+        }
+    }
+
+    pub fn good(self) -> bool
+        ensures { λ r. ⌜ r ≡ election .rule (electionValues self) [] ⌝ }
+    {
+        is_address(self.node)
+    }
+
+    pub fn refusal(s: &[u8]) -> u8
+        ensures { λ r. ⌜ r ≡ refusalAs election (now (s .entry)) ⌝ }
+    {
+        refused(s, 0x26, 5, Election::of(s).good())
+    }
+
+    pub fn numbers(self) -> [u32; 3]
+        ensures { λ r. ⌜ r ≡ election .code ∷ electionValues self ⌝ }
+    {
+        [0x26, self.node as u32, self.priority as u32]
     }
 }

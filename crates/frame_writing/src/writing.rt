@@ -22,6 +22,7 @@ pub fn write(frame: Frame, part: &[u8], out: &mut [u8]) -> Written
         Frame::SlotRequest(f) => write_as(0x23, 0, f.good(), &f.numbers(), part, out),
         Frame::DiscoveryRequest(f) => write_as(0x24, 0, f.good(), &f.numbers(), part, out),
         Frame::DiscoveryResponse(f) => write_as(0x25, 0, f.good(), &f.numbers(), part, out),
+        Frame::Election(f) => write_as(0x26, 0, f.good(), &f.numbers(), part, out),
         Frame::Update(f) => write_as(
             0x31,
             10 * (f.count as usize),

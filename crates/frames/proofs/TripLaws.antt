@@ -78,7 +78,7 @@ module _ (k : Kind) (vs part : List ℕ) (small : k .code < 256) (f : Fit (k .wi
       (in-order (length frame) (lengthOf k (k .extent vs)) (k .rule vs part) _
       (λ e. ap (k .rule vs) (frame-part (omega (arith, frame-length)))))
 
--- ---- over the nine kinds
+-- ---- over the ten kinds
 module _ (k : Kind) (m : List·Memᴰ k kinds) (s : List ℕ) where
   -- bytes of a kind's type are read as that kind
   as-known : num 1 s 0 ≡ k .code → readFrame s ≡ readAs k s

@@ -6,7 +6,7 @@ use Rattle.octets.specs.Answers.{Said, accepted, refused}
 use Rattle.octets.specs.Told.{Wrote}
 use Rattle.frames.specs.declared.answers.Frame.{Frame}
 use Rattle.frame_traffic.specs.Traffic.{dataKind, dataValues, update, updateValues}
-use Rattle.frame_requests.specs.Requests.{joinRequest, joinRequestValues, joinResponse, joinResponseValues, slotRequest, slotRequestValues, discoveryRequest, discoveryRequestValues, discoveryResponse, discoveryResponseValues}
+use Rattle.frame_requests.specs.Requests.{joinRequest, joinRequestValues, joinResponse, joinResponseValues, slotRequest, slotRequestValues, discoveryRequest, discoveryRequestValues, discoveryResponse, discoveryResponseValues, election, electionValues}
 use Rattle.frame_beacons.specs.Beacons.{beacon, beaconValues}
 use Rattle.frame_beacons.specs.ShortBeacons.{shortBeacon, shortBeaconValues}
 use Rattle.frame_kinds.specs.Shape.{Kind}
@@ -20,6 +20,7 @@ saidOf (Frame.JoinResponse f) frame none = frame joinResponse (joinResponseValue
 saidOf (Frame.SlotRequest f) frame none = frame slotRequest (slotRequestValues f)
 saidOf (Frame.DiscoveryRequest f) frame none = frame discoveryRequest (discoveryRequestValues f)
 saidOf (Frame.DiscoveryResponse f) frame none = frame discoveryResponse (discoveryResponseValues f)
+saidOf (Frame.Election f) frame none = frame election (electionValues f)
 saidOf (Frame.Update f) frame none = frame update (updateValues f)
 saidOf (Frame.Beacon f) frame none = frame beacon (beaconValues f)
 saidOf (Frame.ShortBeacon f) frame none = frame shortBeacon (shortBeaconValues f)

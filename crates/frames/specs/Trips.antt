@@ -1,4 +1,4 @@
--- What holds of reading and writing together, over all nine kinds.
+-- What holds of reading and writing together, over all ten kinds.
 -- Assumes nothing.
 use mathlib.Core.Path.{_≡_}
 use mathlib.Core.List.{List, _∷_, List·Memᴰ}

@@ -12,6 +12,7 @@ pub enum Frame {
     SlotRequest(frame_requests::SlotRequest),
     DiscoveryRequest(frame_requests::DiscoveryRequest),
     DiscoveryResponse(frame_requests::DiscoveryResponse),
+    Election(frame_requests::Election),
     Update(frame_traffic::update::UpdateHeader),
     Beacon(frame_beacons::beacon::Beacon),
     ShortBeacon(frame_beacons::short::ShortBeacon),

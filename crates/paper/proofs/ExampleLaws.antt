@@ -13,10 +13,11 @@ use Rattle.site_plan.specs.Plans.{slotsIn, planOf}
 use Rattle.moments.specs.Moments.{ageAt, inOrder}
 use Rattle.frame_beacons.specs.EitherBeacons.{eitherRefusal, eitherIn, refusalFor}
 use Rattle.unit_choice.specs.Choices.{rankOf, chosenOf}
+use Rattle.unit_poll.specs.Polls.{hearRefusal}
 use Rattle.unit_clock.specs.Clock.{signed, wrapped, drift, halved, correction, corrected}
 use Rattle.paper.specs.Examples.{examplesWith, allSame, AsInThePaper}
 use Rattle.paper.proofs.StoryLaws.{story-told}
 
 pub as-in-the-paper : AsInThePaper
-unfolding readFrame readRefusal isSealed sealed num digits xors planOf slotsIn ageAt inOrder signed wrapped drift halved correction corrected eitherRefusal eitherIn refusalFor rankOf chosenOf every pad withinRule lookupOf
+unfolding readFrame readRefusal isSealed sealed num digits xors planOf slotsIn ageAt inOrder signed wrapped drift halved correction corrected eitherRefusal eitherIn refusalFor rankOf chosenOf every pad withinRule lookupOf hearRefusal
 as-in-the-paper = ap (λ (told : List (List ℕ)). allSame (examplesWith told)) story-told ∙ refl

@@ -6,7 +6,7 @@ use Rattle.octets.specs.Told.{Wrote, toldWritten}
 use Rattle.slot_sets.specs.Sets.{slotsOf, maskOf}
 use Rattle.slot_sets.proofs.MaskLaws.{mask-back}
 use Rattle.frame_traffic.specs.Traffic.{dataFrom, updateFrom}
-use Rattle.frame_requests.specs.Requests.{joinRequestFrom, joinResponseFrom, slotRequestFrom}
+use Rattle.frame_requests.specs.Requests.{joinRequestFrom, joinResponseFrom, slotRequestFrom, electionFrom}
 use Rattle.frame_beacons.specs.Beacons.{beaconFrom}
 use Rattle.frame_beacons.specs.ShortBeacons.{shortBeaconFrom}
 use Rattle.octets.proofs.ToldLaws.{told-written-one}
@@ -71,6 +71,7 @@ views-tell-apart =
       slotRequests = undone any _ slotRequestFrom (λ a p. refl);
       discoveryRequests = λ a a′ p p′ e. cc (told-one (Frame.DiscoveryRequest a) (Frame.DiscoveryRequest a′) (ap (λ (vs : List ℕ). accepted (0x24 ∷ vs)) e));
       discoveryResponses = λ a a′ p p′ e. cc (told-one (Frame.DiscoveryResponse a) (Frame.DiscoveryResponse a′) (ap (λ (vs : List ℕ). accepted (0x25 ∷ vs)) e));
+      elections = undone any _ electionFrom (λ a p. refl);
       beacons = undone any _ beaconFrom (λ a p. refl);
       shortBeacons = undone any _ shortBeaconFrom (λ a p. refl);
       frames = λ a a′ p p′ e. told-one a a′ e;
@@ -102,6 +103,8 @@ views-tell-apart =
       states = undone any _ (λ l. (l .status, l .state)) (λ a p. refl);
       clocks = undone any _ (λ l. (l .status, l .offset)) (λ a p. refl);
       follows = undone any _ (λ l. (l .status, l .which)) (λ a p. refl);
+      polls = undone any _ (λ l. (l .status, l .poll)) (λ a p. refl);
+      winners = undone any _ (λ l. (l .status, l .winner)) (λ a p. refl);
       bookCalls = undone any _ (λ l. (l .status, l .book)) (λ a p. refl);
       planNumberings = undone any _ (λ l. (l .status, l .numbers)) (λ a p. refl);
       requests = undone any _ (λ l. (l .status, l .book, l .out, l .written)) (λ a p. refl);

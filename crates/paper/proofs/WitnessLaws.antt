@@ -1,4 +1,4 @@
--- The frames of the nine kinds, read by computing.
+-- The frames of the ten kinds, read by computing.
 -- Assumes nothing.
 use mathlib.Core.Path.{refl}
 use Rattle.octets.specs.Lists.{tab, every}

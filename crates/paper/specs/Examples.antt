@@ -10,7 +10,7 @@ use lib.ListN.{length, getD}
 use lib.IntN.{ℤ, pos, negsuc}
 use Rattle.octets.specs.Answers.{Said}
 use Rattle.moments.specs.Moments.{ageAt, inOrder}
-use Rattle.frame_requests.specs.Requests.{joinRequest, joinRequestValues}
+use Rattle.frame_requests.specs.Requests.{joinRequest, joinRequestValues, election}
 use Rattle.frames.specs.Frames.{readFrame}
 use Rattle.frame_kinds.specs.Shape.{frameOf}
 use Rattle.book_image.specs.Forms.{same}
@@ -23,6 +23,7 @@ use Rattle.paper.specs.Story.{story}
 use Rattle.frame_beacons.specs.Beacons.{beacon}
 use Rattle.frame_beacons.specs.ShortBeacons.{shortBeacon}
 use Rattle.unit_choice.specs.Choices.{Heard, heard, chosenOf}
+use Rattle.unit_poll.specs.Polls.{freshPoll, heardBy, winnerOf}
 use Rattle.unit_clock.specs.Clock.{drift, corrected}
 
 pub record Example : Type 0 where
@@ -80,6 +81,12 @@ looked time = let f = lookupOf routes 9 time in f .refused ∷ f .«next_hop» �
 -- data from 0x0201 to 0x0300, sequence 77, a payload of two bytes, with this ttl and this checksum
 abbrev pub dataBytes : ℕ → ℕ → List ℕ
 dataBytes ttl sum = 0x11 ∷ 0x01 ∷ 0x02 ∷ 0x00 ∷ 0x03 ∷ ttl ∷ 0x4D ∷ 0x00 ∷ 0x02 ∷ 0x15 ∷ 0x05 ∷ sum ∷ []
+
+-- ---- document 02's election: unit 5 with priority 70 has heard unit 9 with this priority, and then with this one
+abbrev pub winnerAfter : ℕ → ℕ → ℕ
+winnerAfter first later =
+    let message : ℕ → List ℕ = λ priority. frameOf election (9 ∷ priority ∷ []) [] in
+    winnerOf (heardBy (heardBy (freshPoll 5 70) (message first)) (message later))
 
 -- ---- what a drift leaves
 -- a number with its sign as a list: 1 below zero and else 0, then the magnitude
@@ -141,6 +148,9 @@ examplesWith told =
     -- where neither will do, the first's own number
     record { computed = chosen 2 (heard (shortAt 1) 60) (heard joinBytes 60); paper = 15 ∷ 0 ∷ [] } ∷
     record { computed = chosen 2 (heard joinBytes 60) (heard (shortAt 1) 60); paper = 2 ∷ 0 ∷ [] } ∷
+    -- 5 bytes; the highest priority wins, then the lowest address, and a later message replaces an earlier one
+    record { computed = frameOf election (0x0201 ∷ 70 ∷ []) []; paper = 0x26 ∷ 0x01 ∷ 0x02 ∷ 0x46 ∷ 0x63 ∷ [] } ∷
+    record { computed = winnerAfter 71 71 ∷ winnerAfter 70 70 ∷ winnerAfter 71 69 ∷ winnerAfter 69 71 ∷ []; paper = 9 ∷ 5 ∷ 5 ∷ 9 ∷ [] } ∷
     -- of a copy with ttl 7 for 8 the checksum differs by the XOR of the two, 0x0F
     record { computed = copyOf (dataBytes 8 0x46); paper = dataBytes 7 0x49 } ∷
     -- at age 0 a route has 300,000 ms left, at 299,999 one, at 300,000 none and is still answered; then it is 11

@@ -13,7 +13,7 @@ use Rattle.octets.specs.declared.answers.Written.{Written}
 use Rattle.octets.specs.Told.{wrote}
 use Rattle.slot_sets.specs.Sets.{Slots, slotsOf}
 use Rattle.frame_traffic.specs.Traffic.{dataValues, updateValues}
-use Rattle.frame_requests.specs.Requests.{joinRequestValues, joinResponseValues, slotRequestValues, discoveryRequestValues, discoveryResponseValues}
+use Rattle.frame_requests.specs.Requests.{joinRequestValues, joinResponseValues, slotRequestValues, discoveryRequestValues, discoveryResponseValues, electionValues}
 use Rattle.frame_beacons.specs.Beacons.{beaconValues}
 use Rattle.frame_beacons.specs.ShortBeacons.{shortBeaconValues}
 use Rattle.frames.specs.Told.{told}
@@ -35,6 +35,7 @@ use Rattle.book_joins.specs.declared.grants.Granted.{Granted}
 use Rattle.book_joins.specs.Joins.{answeredBy}
 use Rattle.c_unit.specs.ClockCalls.{clockLeft}
 use Rattle.c_unit.specs.FollowCalls.{followLeft}
+use Rattle.unit_poll.specs.PollBytes.{pollLeft, winnerLeft}
 use Rattle.c_frames.specs.EntryCalls.{entryLeft}
 use Rattle.c_frames.specs.FrameCalls.{readLeft}
 use Rattle.c_unit.specs.StateCalls.{stateLeft}
@@ -86,7 +87,7 @@ maskBook b = maskRows (b .rows)
 pub record ViewsTellApart : Type 1 where
   -- most contracts say `answer ≡ definition`, of the result, of a buffer, or of each
   pub itself : {A : Type 0} → TellsApart any (λ (a : A). a)
-  -- the values of a record of fields: `of` of the nine kinds
+  -- the values of a record of fields: `of` of the ten kinds
   pub dataHeaders : TellsApart any dataValues
   pub updateHeaders : TellsApart any updateValues
   pub joinRequests : TellsApart any joinRequestValues
@@ -94,6 +95,7 @@ pub record ViewsTellApart : Type 1 where
   pub slotRequests : TellsApart any slotRequestValues
   pub discoveryRequests : TellsApart any discoveryRequestValues
   pub discoveryResponses : TellsApart any discoveryResponseValues
+  pub elections : TellsApart any electionValues
   pub beacons : TellsApart any beaconValues
   pub shortBeacons : TellsApart any shortBeaconValues
   -- what an enum says, alone and with a buffer
@@ -128,6 +130,8 @@ pub record ViewsTellApart : Type 1 where
   pub states : TellsApart any (λ (a : ℕ × List ℕ). stateLeft (a .0) (a .1))
   pub clocks : TellsApart any (λ (a : ℕ × ℕ). clockLeft (a .0) (a .1))
   pub follows : TellsApart any (λ (a : ℕ × ℕ). followLeft (a .0) (a .1))
+  pub polls : TellsApart any (λ (a : ℕ × List ℕ). pollLeft (a .0) (a .1))
+  pub winners : TellsApart any (λ (a : ℕ × ℕ). winnerLeft (a .0) (a .1))
   pub bookCalls : TellsApart any (λ (a : ℕ × List ℕ). bookLeft (a .0) (a .1))
   pub planNumberings : TellsApart any (λ (a : ℕ × List ℕ). numbersLeft (a .0) (a .1))
   pub requests : TellsApart any (λ (a : ℕ × List ℕ × List ℕ × ℕ). requestLeft (a .0) (a .1) (a .2) (a .3))

@@ -1,4 +1,4 @@
--- The theorems speak of frames that there are: one of each of the nine kinds, in the papers' order, byte by byte, and what reading says of it. One
+-- The theorems speak of frames that there are: one of each of the ten kinds, in the papers' order, byte by byte, and what reading says of it. One
 -- statement covers the table.
 -- Assumes nothing.
 use mathlib.Core.Path.{_≡_}
@@ -29,6 +29,8 @@ kindsRead =
     -- manager 0x0100 answers for network 1
     reads (0x25 ∷ 0x00 ∷ 0x01 ∷ 0x01 ∷ 0x00 ∷ 0x04 ∷ 0x02 ∷ 0xC8 ∷ 0x40 ∷ 0x42 ∷ 0x0F ∷ 0x00 ∷ 0xE6 ∷ [])
     (0 ∷ 0x25 ∷ 0x0100 ∷ 1 ∷ 4 ∷ 2 ∷ 200 ∷ 1000000 ∷ []) ∷
+    -- 0x0201 stands for manager, with priority 70
+    reads (0x26 ∷ 0x01 ∷ 0x02 ∷ 0x46 ∷ 0x63 ∷ []) (0 ∷ 0x26 ∷ 0x0201 ∷ 70 ∷ []) ∷
     -- an update of 0x0100 with one entry: 0x0300 is one hop away
     reads (0x31 ∷ 0x00 ∷ 0x01 ∷ 0x01 ∷ 0x40 ∷ 0x42 ∷ 0x0F ∷ 0x00 ∷ 0x00 ∷ 0x03 ∷ 0x01 ∷ 0xC8 ∷ 0x00 ∷ 0x03 ∷ 0x58 ∷ 0x3E ∷ 0x0F ∷ 0x00 ∷ 0x9C ∷ [])
     (0 ∷ 0x31 ∷ 0x0100 ∷ 1 ∷ 1000000 ∷ []) ∷

@@ -1,0 +1,5 @@
+pub mod LoopLaws
+pub mod PlaceLaws
+pub mod PollLaws
+pub mod SiftLaws
+pub mod TripLaws

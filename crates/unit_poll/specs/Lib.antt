@@ -1,0 +1,4 @@
+pub mod Places
+pub mod PollBytes
+pub mod Polls
+pub mod Voters

@@ -1,0 +1,13 @@
+pub mod CheckLaws
+pub mod FindLaws
+pub mod JudgeLaws
+pub mod LinkLaws
+pub mod NearLaws
+pub mod NeighbourLaws
+pub mod PlaceLaws
+pub mod RefusalLaws
+pub mod RowLaws
+pub mod RuleLaws
+pub mod SendingLaws
+pub mod ToldLaws
+pub mod VerdictLaws

@@ -1,6 +1,6 @@
 -- The loops that look for who offends: of two the first, and a row more from the end of the sheet on.
 -- Assumes nothing.
-use Rattle.octets.proofs.Words.{_≡_, refl, sym, ap, ap₂, _∙_, Bool, true, false, not, _&&_, _||_, cond, false≢true, List, [], _∷_, _++_, ℕ, _-_, _/_, _<_, _≤_, leb, ltb, length, getD, drop}
+use Rattle.octets.proofs.Words.{_≡_, refl, sym, ap, ap₂, _∙_, Bool, true, false, not, _&&_, _||_, cond, and-false, and-true, false≢true, List, [], _∷_, _++_, ℕ, _-_, _/_, _<_, _≤_, not-true, not-false, leb, ltb, length, getD, drop}
 use Rattle.slot_sets.specs.Sets.{slotsOf, has, count, isEmpty, minus, firsts, disjoint}
 use Rattle.site_sheet.specs.declared.rows.Row.{Row}
 use Rattle.site_sheet.specs.declared.judging.Known.{Known}
@@ -15,24 +15,23 @@ pub rule-as : (d m low rest : ℕ) (a b : Bool) → a ≡ (leb 1 (count (slotsOf
     → (a && b) ≡ (leb 1 (count (slotsOf m)) && leb (count (slotsOf m)) 4 && isEmpty (minus (slotsOf m) (firsts d)))
 rule-as d m low rest a b p q r s = ap₂ _&&_ p (s ∙ ap isEmpty (r ∙ ap (minus (slotsOf m)) q))
 
-pub clash-as : (g h : Known) (x y z : Bool) → x ≡ disjoint (slotsOf (g .row .slots)) (slotsOf (h .row .slots))
-    → y ≡ has (slotsOf (g .neighbours)) (h .place) → z ≡ disjoint (slotsOf (g .neighbours)) (slotsOf (h .neighbours))
-    → (ltb (g .row .unit) (h .row .unit) && not x && (y || not z)) ≡ clashing g h
-clash-as g h x y z p q r = rw (p, q, r)
+module _ (g h : Known) (x : Bool) (p : x ≡ disjoint (slotsOf (g .row .slots)) (slotsOf (h .row .slots))) where
+  pub clash-not : x ≡ true → false ≡ clashing g h
+  clash-not t = sym (rw (← p, t, and-false (ltb (g .row .unit) (h .row .unit))))
+
+  pub clash-as : x ≡ false → (y z : Bool) → y ≡ has (slotsOf (g .neighbours)) (h .place) → z ≡ disjoint (slotsOf (g .neighbours)) (slotsOf (h .neighbours))
+      → (ltb (g .row .unit) (h .row .unit) && (y || not z)) ≡ clashing g h
+  clash-as t y z q r = sym (rw (← p, t, and-true (ltb (g .row .unit) (h .row .unit)), ← q, ← r))
 
 -- ---- one more that may be the first
 module _ (b c u v : ℕ) where
-  pub take-first : (any holds : Bool) → (holds && (not any || upTo (both u v) (both b c))) ≡ true
-      → found (both u v) ≡ cond holds (found (sooner (both u v) (foundIf any b c))) (foundIf any b c)
-  take-first any false e = absurd (false≢true e)
-  take-first false true e = refl
-  take-first true true e = rw e
+  pub take-first : (any : Bool) → (not any || upTo (both u v) (both b c)) ≡ true → found (both u v) ≡ found (sooner (both u v) (foundIf any b c))
+  take-first false e = refl
+  take-first true e = rw e
 
-  pub keep-first : (any holds : Bool) → (holds && (not any || upTo (both u v) (both b c))) ≡ false
-      → foundIf any b c ≡ cond holds (found (sooner (both u v) (foundIf any b c))) (foundIf any b c)
-  keep-first any false e = refl
-  keep-first false true e = absurd (false≢true (sym e))
-  keep-first true true e = rw e
+  pub keep-first : (any : Bool) → (not any || upTo (both u v) (both b c)) ≡ false → foundIf any b c ≡ found (sooner (both u v) (foundIf any b c))
+  keep-first false e = absurd (false≢true (sym e))
+  keep-first true e = rw e
 
 -- ---- the units from the end on
 one-or-not : (t : Bool) (n : Named) (l : List Named) → soonest (only t n ++ l) ≡ cond t (found (sooner n (soonest l))) (soonest l)
@@ -45,7 +44,7 @@ module _ (d : ℕ) (s : List ℕ) (i : ℕ) where
   unfolding sheetIn badUnits gather soonest
   none-bad e = none-left (length s / rowSize) (proposedAt s) (λ l. soonest (badUnits d l)) i e
 
-  pub unit-turn : (row : Row) (good : Bool) (b r : Found) → 0 < i → i ≤ length s / rowSize → b ≡ soonest (badUnits d (drop i (sheetIn s)))
+  unit-turn : (row : Row) (good : Bool) (b r : Found) → 0 < i → i ≤ length s / rowSize → b ≡ soonest (badUnits d (drop i (sheetIn s)))
       → row ≡ rowAt s (i - 1) → good ≡ unitRule d (record { unit = row .unit; slots = slotsOf (row .slots) })
       → r ≡ cond (not good) (found (sooner (alone (row .unit)) b)) b → r ≡ soonest (badUnits d (drop (i - 1) (sheetIn s)))
   unfolding sheetIn badUnits gather
@@ -55,6 +54,14 @@ module _ (d : ℕ) (s : List ℕ) (i : ℕ) where
       one-more (length s / rowSize) (proposedAt s) (λ l. soonest (badUnits d l)) i r z h
       (er ∙ (rw (rule, e) (sym (one-or-not (not (unitRule d (record { unit = row .unit; slots = slotsOf (row .slots) }))) (alone (row .unit)) rest))
       ∙ ap (λ (x : Row). soonest (bad x ++ rest)) at))
+
+  module _ (row : Row) (good : Bool) (b : Found) (z : 0 < i) (h : i ≤ length s / rowSize) (e : b ≡ soonest (badUnits d (drop i (sheetIn s)))) (at : row ≡ rowAt s (i - 1))
+      (rule : good ≡ unitRule d (record { unit = row .unit; slots = slotsOf (row .slots) })) where
+    pub unit-passed : good ≡ true → b ≡ soonest (badUnits d (drop (i - 1) (sheetIn s)))
+    unit-passed t = unit-turn row good b b z h e at rule (rw t)
+
+    pub unit-taken : good ≡ false → (r : Found) → r ≡ found (sooner (alone (row .unit)) b) → r ≡ soonest (badUnits d (drop (i - 1) (sheetIn s)))
+    unit-taken t r er = unit-turn row good b r z h e at rule (er ∙ rw t)
 
 -- ---- the pairs from the end on
 with-or-not : (t : Bool) (n : Named) (l : List Named) (f : Found) → soonestWith (only t n ++ l) f ≡ cond t (found (sooner n (soonestWith l f))) (soonestWith l f)
@@ -73,7 +80,7 @@ module _ (s masks : List ℕ) (i : ℕ) where
     unfolding knownIn gather soonestWith
     none-with e = none-left (length s / rowSize) (knownAt s masks) (λ l. soonestWith (pairsWith clashing knownUnit one l) f) i e
 
-    pub with-turn : (row : Row) (holds : Bool) (b r : Found) → 0 < i → i ≤ length s / rowSize
+    with-turn : (row : Row) (holds : Bool) (b r : Found) → 0 < i → i ≤ length s / rowSize
         → b ≡ soonestWith (pairsWith clashing knownUnit one (drop i (knownIn s masks))) f → row ≡ rowAt s (i - 1)
         → holds ≡ clashing one (record { row = row; place = i - 1; neighbours = getD masks (i - 1) 0 })
         → r ≡ cond holds (found (sooner (both (one .row .unit) (row .unit)) b)) b
@@ -85,6 +92,16 @@ module _ (s masks : List ℕ) (i : ℕ) where
         one-more (length s / rowSize) (knownAt s masks) (λ l. soonestWith (pairsWith clashing knownUnit one l) f) i r z h
         (er ∙ (rw (ec, e) (sym (with-or-not (clashing one (known row)) (both (one .row .unit) (row .unit)) rest f))
         ∙ ap (λ (x : Row). soonestWith (only (clashing one (known x)) (both (one .row .unit) (x .unit)) ++ rest) f) at))
+
+    module _ (row : Row) (holds : Bool) (b : Found) (z : 0 < i) (h : i ≤ length s / rowSize)
+        (e : b ≡ soonestWith (pairsWith clashing knownUnit one (drop i (knownIn s masks))) f) (at : row ≡ rowAt s (i - 1))
+        (ec : holds ≡ clashing one (record { row = row; place = i - 1; neighbours = getD masks (i - 1) 0 })) where
+      pub with-passed : not holds ≡ true → b ≡ soonestWith (pairsWith clashing knownUnit one (drop (i - 1) (knownIn s masks))) f
+      with-passed t = with-turn row holds b b z h e at ec (rw (not-true holds t))
+
+      pub with-taken : not holds ≡ false → (r : Found) → r ≡ found (sooner (both (one .row .unit) (row .unit)) b)
+          → r ≡ soonestWith (pairsWith clashing knownUnit one (drop (i - 1) (knownIn s masks))) f
+      with-taken t r er = with-turn row holds b r z h e at ec (er ∙ rw (not-false holds t))
 
   pub none-paired : i ≡ length s / rowSize → nobody ≡ soonest (gather (λ g. pairsWith clashing knownUnit g (knownIn s masks)) (drop i (knownIn s masks)))
   unfolding knownIn gather soonest

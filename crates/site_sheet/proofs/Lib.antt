@@ -10,4 +10,5 @@ pub mod RowLaws
 pub mod RuleLaws
 pub mod SendingLaws
 pub mod ToldLaws
+pub mod TripLaws
 pub mod VerdictLaws

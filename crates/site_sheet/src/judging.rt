@@ -1,6 +1,5 @@
 // Who offends: the lowest unit, and the first pair.
 ghost use mathlib.Core.Path.{_≡_};
-ghost use mathlib.Core.Bool.{cond};
 ghost use Prim.Native.Nat.{_/_, _<_, _≤_};
 ghost use lib.ListN.{length};
 ghost use Rattle.slot_sets.specs.Sets.{slotsOf};
@@ -32,14 +31,16 @@ pub(crate) struct Known {
 }
 
 impl Known {
-    // Whether this one and another, the lower first, share a slot and are near.
+    // Whether this one and another, the lower first, share a slot and are near. Most pairs share none, and it is seen first.
     fn clashes(self, other: Known) -> bool
         ensures { λ r. ⌜ r ≡ clashing self other ⌝ }
     {
-        let shared = !apart(self.row.slots, other.row.slots);
+        if apart(self.row.slots, other.row.slots) {
+            return false;
+        }
         let linked = holds(self.neighbours, other.place);
         let common = !apart(self.neighbours, other.neighbours);
-        (self.row.unit < other.row.unit) & shared & (linked | common)
+        (self.row.unit < other.row.unit) & (linked | common)
     }
 }
 
@@ -53,12 +54,12 @@ impl Row {
 }
 
 impl First {
-    // The first of this and of one more, which counts where `holds` says so.
-    fn or(self, holds: bool, lower: u16, higher: u16) -> First
-        ensures { λ r. ⌜ foundFirst r ≡ cond holds (found (sooner (both lower higher) (foundFirst self))) (foundFirst self) ⌝ }
+    // The first of this and of one more.
+    fn or(self, lower: u16, higher: u16) -> First
+        ensures { λ r. ⌜ foundFirst r ≡ found (sooner (both lower higher) (foundFirst self)) ⌝ }
     {
         let up_to = (lower < self.lower) | ((lower == self.lower) & (higher <= self.higher));
-        if holds & (!self.any | up_to) {
+        if !self.any | up_to {
             return First {
                 any: true,
                 lower,
@@ -83,7 +84,10 @@ pub(crate) fn first_unit(data_slots: u8, sheet: &[u8], count: usize) -> First
     while 0 < i {
         i -= 1;
         let row = row_at(sheet, i);
-        best = best.or(!row.good(data_slots), row.unit, 0);
+        if row.good(data_slots) {
+            continue;
+        }
+        best = best.or(row.unit, 0);
     }
     best
 }
@@ -102,7 +106,10 @@ fn first_with(sheet: &[u8], count: usize, masks: [u64; 21], one: Known, before: 
             place: i as u32,
             neighbours: masks[i],
         };
-        best = best.or(one.clashes(other), one.row.unit, other.row.unit);
+        if !one.clashes(other) {
+            continue;
+        }
+        best = best.or(one.row.unit, other.row.unit);
     }
     best
 }

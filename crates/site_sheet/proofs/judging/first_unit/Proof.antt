@@ -4,7 +4,7 @@ use Rattle.octets.proofs.Words.{_≡_, _≤_, _/_, arith, needs, length, drop}
 use Rattle.site_sheet.specs.Seen.{foundFirst}
 use Rattle.site_sheet.specs.SheetBytes.{rowSize, sheetIn}
 use Rattle.site_sheet.specs.Verdicts.{badUnits, soonest}
-use Rattle.site_sheet.proofs.JudgeLaws.{none-bad, unit-turn}
+use Rattle.site_sheet.proofs.JudgeLaws.{none-bad, unit-passed, unit-taken}
 use Rattle.site_sheet.proofs.judging.first_unit.Statement.{statement}
 use Rattle.site_sheet.proofs.judging.first_unit.Tie as tie
 
@@ -16,4 +16,4 @@ abbrev μ-loop : tie.MeasureT-loop
 
 pub first-unit-spec : {M : Type 1} → statement M
 first-unit-spec =
-    tie.close (tie.spec Inv-loop μ-loop (λ c. (search needs, search (needs, none-bad))) (λ c. search needs) (λ c κs. search needs) (λ c κs. search needs) (λ c κs. search needs) (λ c. search needs) (λ c. (search needs, search (needs, unit-turn))) (λ c. let l = c .before .loop in let none : l .i ≡ 0 = omega arith in rw none at (l .inv .1)))
+    tie.close (tie.spec Inv-loop μ-loop (λ c. (search needs, search (needs, none-bad))) (λ c. search needs) (λ c κs. search needs) (λ c κs. search needs) (λ c. search needs) (λ c. (search needs, search (needs, unit-passed))) (λ c κs. search needs) (λ c. search needs) (λ c. (search needs, search (needs, unit-taken))) (λ c. let l = c .before .loop in let none : l .i ≡ 0 = omega arith in rw none at (l .inv .1)))

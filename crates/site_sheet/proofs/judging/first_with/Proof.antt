@@ -4,7 +4,7 @@ use Rattle.octets.proofs.Words.{_≡_, _≤_, _/_, arith, needs, length, drop}
 use Rattle.site_sheet.specs.Seen.{knownIn, clashing, knownUnit, foundFirst, soonestWith}
 use Rattle.site_sheet.specs.SheetBytes.{rowSize}
 use Rattle.site_sheet.specs.Verdicts.{pairsWith}
-use Rattle.site_sheet.proofs.JudgeLaws.{none-with, with-turn}
+use Rattle.site_sheet.proofs.JudgeLaws.{none-with, with-passed, with-taken}
 use Rattle.site_sheet.proofs.judging.first_with.Statement.{statement}
 use Rattle.site_sheet.proofs.judging.first_with.Tie as tie
 
@@ -17,4 +17,4 @@ abbrev μ-loop : tie.MeasureT-loop
 
 pub first-with-spec : {M : Type 1} → statement M
 first-with-spec =
-    tie.close (tie.spec Inv-loop μ-loop (λ c. (search needs, search (needs, none-with))) (λ c. search needs) (λ c κs. search needs) (λ c. search needs) (λ c. search needs) (λ c. search needs) (λ c κs. search needs) (λ c κs. search needs) (λ c. search needs) (λ c. (search needs, search (needs, with-turn))) (λ c. let l = c .before .loop in let none : l .i ≡ 0 = omega arith in rw none at (l .inv .1)))
+    tie.close (tie.spec Inv-loop μ-loop (λ c. (search needs, search (needs, none-with))) (λ c. search needs) (λ c κs. search needs) (λ c. search needs) (λ c. search needs) (λ c. search needs) (λ c κs. search needs) (λ c. search needs) (λ c. (search needs, search (needs, with-passed))) (λ c κs. search needs) (λ c. search needs) (λ c. (search needs, search (needs, with-taken))) (λ c. let l = c .before .loop in let none : l .i ≡ 0 = omega arith in rw none at (l .inv .1)))

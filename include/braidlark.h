@@ -524,8 +524,8 @@ uint8_t braidlark_restore(uint8_t *book, size_t book_length, const uint8_t *imag
 /* Checks a sheet against the plan of its site and the links between its units, and says how many units it names:
  * BRAIDLARK_SHEET_FINE, BRAIDLARK_SHEET_UNIT or BRAIDLARK_SHEET_PAIR. 0 is returned for a sheet that offends as well:
  * only one that names nobody may be used, and for such a site only, where slots come from the sheet and not from a
- * book. Then no unit that sends in a data slot hears a second sender in it, and at no receiver linked to it does it meet
- * one that is the receiver or is linked to it.
+ * book. Then in a data slot in which a unit sends, no unit does that is linked to it or has a neighbour in common with
+ * it, so that whoever is linked to the sender receives it alone.
  *
  * A sheet is BRAIDLARK_SHEET_ROW_SIZE bytes for each unit: its address (2), and its data slots as a mask (8) whose bit
  * i is data slot i, counted from 0. Links are BRAIDLARK_LINK_SIZE bytes each: the addresses of two units that hear each
@@ -534,8 +534,8 @@ uint8_t braidlark_restore(uint8_t *book, size_t book_length, const uint8_t *imag
  *
  * A unit offends that has no slot, more than BRAIDLARK_MOST_HELD, or one that the plan does not have: the lowest of
  * these is named, in `lower`. Else a pair offends that shares a slot and is linked, or has a unit that is linked to
- * both: the one with the lowest lower unit is named, and of these the one with the lowest higher unit. What names nobody
- * is 0.
+ * both: the one with the lowest lower unit is named, and of these the one with the lowest higher unit. A unit that is
+ * not named is 0.
  * Refusals: 14 (the plan's length, or bytes that are no whole number of rows or of links) 4 (an address on the sheet or
  * in a link) 14 (the plan; more units than it has rows; a unit listed twice; a link that names a unit that is not on
  * the sheet, or one unit twice). */

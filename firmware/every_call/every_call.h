@@ -7,8 +7,8 @@
 
 #include "braidlark.h"
 
-#if BRAIDLARK_VERSION_MAJOR != 6 || BRAIDLARK_VERSION_MINOR < 1
-#error "these are the calls of version 6.1"
+#if BRAIDLARK_VERSION_MAJOR != 6 || BRAIDLARK_VERSION_MINOR < 2
+#error "these are the calls of version 6.2"
 #endif
 
 enum { NETWORK = 1, MANAGER = 0x0100, UNIT = 0x0201, NEAR_UNIT = 0x0250, FAR_UNIT = 0x0300, STRANGER = 0x0400 };
@@ -33,6 +33,10 @@ void try_frames(void);
 void try_book(void);
 void try_requests(uint8_t *book);
 void try_image(uint8_t *book);
+
+/* sheets.c and sheet_refusals.c: checking the planners' sheets */
+void try_sheets(void);
+void try_sheet_refusals(void);
 
 /* routes.c: a table, which goes through relays.c and beacons.c as well; a lookup by the manager, heard of at a time */
 void look_up(const uint8_t *table, uint16_t destination, uint8_t expected_hops, uint32_t heard);

@@ -23,6 +23,8 @@ int main(void)
     try_numbers();
     try_frames();
     try_book();
+    try_sheets();
+    try_sheet_refusals();
     try_routes();
     try_merges();
     try_state();

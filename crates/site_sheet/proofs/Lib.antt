@@ -8,6 +8,7 @@ pub mod PlaceLaws
 pub mod RefusalLaws
 pub mod RowLaws
 pub mod RuleLaws
+pub mod SameLaws
 pub mod SendingLaws
 pub mod ToldLaws
 pub mod TripLaws

@@ -2,7 +2,7 @@
 -- Assumes nothing.
 use mathlib.Core.Path.{_≡_}
 use mathlib.Core.Bool.{true, false, _&&_}
-use mathlib.Core.List.{List, List·Memᴰ}
+use mathlib.Core.List.{List, _∷_, List·Memᴰ}
 use mathlib.Core.Logic.{_⊎_}
 use Prim.Native.Nat.{ℕ, _<_, _≤_}
 use Rattle.octets.specs.Answers.{accepted, first, OneToOne}
@@ -11,7 +11,7 @@ use Rattle.site_plan.specs.declared.plan.Plan.{Plan}
 use Rattle.site_plan.specs.Schedules.{sends, inData, kindOf}
 use Rattle.site_plan.specs.Laws.{SendsInOwn}
 use Rattle.site_sheet.specs.Sheets.{Proposed, Link, slotsFor, linked, reasons}
-use Rattle.site_sheet.specs.Verdicts.{Verdict, fine, unit, pair, verdictValues, checkSheet, toldChecked}
+use Rattle.site_sheet.specs.Verdicts.{Verdict, fine, unit, pair, verdict, verdictValues, checkSheet, toldChecked}
 
 -- the check is made, and its verdict is this one
 abbrev pub Says : Plan → List Link → List Proposed → Verdict → Type 0
@@ -67,7 +67,20 @@ NamesFirst =
     → ((u : ℕ) → Says p links sheet (unit u) → FirstUnit (p .«data_slots») sheet u)
     × ((u v : ℕ) → Says p links sheet (pair u v) → FirstPair (p .«data_slots») links sheet u v)
 
--- what answers say tells them apart
+-- ---- how links may be given
+-- the verdict depends on who is linked, and on nothing else of the links; ..
+abbrev pub ByWhoIsLinked : Type 0
+ByWhoIsLinked =
+    (d : ℕ) (links links′ : List Link) (sheet : List Proposed) → ((u v : ℕ) → linked links u v ≡ linked links′ u v)
+    → verdict d links sheet ≡ verdict d links′ sheet
+
+-- .. and a link that is given once more, or from its other end, changes nothing of that
+abbrev pub LinkAgain : Type 0
+LinkAgain =
+    (l : Link) (links : List Link) (u v : ℕ)
+    → (linked (l ∷ l ∷ links) u v ≡ linked (l ∷ links) u v) × (linked (record { one = l .other; other = l .one } ∷ links) u v ≡ linked (l ∷ links) u v)
+
+-- ---- what answers say tells them apart
 abbrev pub CheckedOneToOne : Type 0
 CheckedOneToOne = OneToOne toldChecked
 

@@ -1,5 +1,5 @@
--- Document 01's examples marked P, in its order: what the definitions compute, and what the paper says. Then what document 02 says of times that pass their
--- top: drifts, steps and an age. One statement covers the table.
+-- Document 01's examples marked P, in its order: what the definitions compute, and what the paper says. Then those of document 02's requests. One
+-- statement covers the table.
 -- Assumes nothing.
 use mathlib.Core.Path.{_≡_}
 use mathlib.Core.Bool.{Bool, true, false, _&&_, cond}

@@ -1,5 +1,19 @@
-# Sourced by run: refuses, before anything is built, the options that the programs of site/ and converge/ would not take.
-# They take and refuse the same: scripts/check tries it.
+# Sourced by run: refuses, before anything is built, a FILE that cannot be read and the options that the programs of site/
+# and converge/ would not take. They take and refuse the same: scripts/check tries it.
+
+check_file() { # [FILE | -]
+    case $#:${1-} in
+    0: | 1:-) ;;
+    1:) refuse "the name of FILE is empty" ;;
+    1:-*) refuse "there is no option '$1'" ;;
+    1:*)
+        [ -e "$1" ] || fail "there is no file $1"
+        [ -r "$1" ] || fail "the file $1 cannot be read"
+        [ ! -d "$1" ] || fail "the file $1 could not be read: it is a folder"
+        ;;
+    *) refuse "one FILE at most, not $# arguments" ;;
+    esac
+}
 
 range_of() { # PROGRAM OPTION
     case "$1 $2" in

@@ -3,8 +3,8 @@
 //!
 //! The paper is document 01, with beacons, plans and images as request 101 of document 02 has them, what lookups and
 //! relays say and ask of a route's time as its request 102, times and the clock as its request 104 (`shared::moments`),
-//! and what a merge reports as its request 110. Following is its request 112, polls are its request 109, and
-//! `routes::direct` is the relay that its request 111 has the library measured against.
+//! and what a merge reports as its request 110. Following is its request 112, polls are its request 109, sheets its
+//! request 114, and `routes::direct` is the relay that its request 111 has the library measured against.
 
 #![deny(warnings)]
 
@@ -18,6 +18,7 @@ mod life;
 mod poll;
 mod routes;
 mod shared;
+mod sheet;
 
 use shared::check::{Agreement, Check, Kinds};
 use shared::progress::Progress;
@@ -25,7 +26,7 @@ use std::process::ExitCode;
 
 const USAGE: &str = "\
 usage: compare [--seed N] [--frames N] [--routes N] [--steps N] [--books N]
-               [--images N] [--times N] [--quiet] [--help]
+               [--images N] [--sheets N] [--times N] [--quiet] [--help]
        compare bench [names | CASE WHO TIMES]
        compare images FOLDER
 
@@ -39,6 +40,7 @@ Compares the library, call by call, with an independent implementation.
               hear each other's election messages (1000000)
   --books N   random calls on member books to compare (2100000)
   --images N  random stored images to compare, each in several calls (520000)
+  --sheets N  random sheets of planners to compare (300000)
   --times N   each of these numbers so many times as large (1)
   --quiet     no progress on standard error
   --help      this text
@@ -66,6 +68,7 @@ pub struct Options {
     pub steps: u64,
     pub books: u64,
     pub images: u64,
+    pub sheets: u64,
     pub quiet: bool,
     pub help: bool,
 }
@@ -86,6 +89,7 @@ const SUBJECTS: &[Subject] = &[
     Subject { name: "polls", calls: &poll::calls::CALLS, check: poll::check::check },
     Subject { name: "books", calls: &book::calls::CALLS, check: book::check::check },
     Subject { name: "images", calls: &image::calls::CALLS, check: image::check::check },
+    Subject { name: "sheets", calls: &sheet::calls::CALLS, check: sheet::check::check },
 ];
 
 fn main() -> ExitCode {
@@ -113,8 +117,9 @@ fn obey(options: &Options) -> u8 {
 }
 
 fn parse(mut arguments: impl Iterator<Item = String>) -> Result<Options, String> {
-    let (frames, routes, steps, books, images) = (300_000, 2_100_000, 1_000_000, 2_100_000, 520_000);
-    let mut options = Options { seed: 1, frames, routes, steps, books, images, quiet: false, help: false };
+    let (frames, routes, steps) = (300_000, 2_100_000, 1_000_000);
+    let (books, images, sheets) = (2_100_000, 520_000, 300_000);
+    let mut options = Options { seed: 1, frames, routes, steps, books, images, sheets, quiet: false, help: false };
     let mut times: u64 = 1;
     while let Some(argument) = arguments.next() {
         match argument.as_str() {
@@ -124,14 +129,15 @@ fn parse(mut arguments: impl Iterator<Item = String>) -> Result<Options, String>
             "--steps" => options.steps = number(&argument, arguments.next())?,
             "--books" => options.books = number(&argument, arguments.next())?,
             "--images" => options.images = number(&argument, arguments.next())?,
+            "--sheets" => options.sheets = number(&argument, arguments.next())?,
             "--times" => times = number(&argument, arguments.next())?,
             "--quiet" => options.quiet = true,
             "--help" => options.help = true,
             _ => return Err(format!("unknown argument '{}'", argument)),
         }
     }
-    let Options { frames, routes, steps, books, images, .. } = &mut options;
-    for count in [frames, routes, steps, books, images] {
+    let Options { frames, routes, steps, books, images, sheets, .. } = &mut options;
+    for count in [frames, routes, steps, books, images, sheets] {
         *count = count.saturating_mul(times);
     }
     Ok(options)

@@ -143,11 +143,34 @@ static void make_poll(struct scene *made, int mixed)
     write_election(made->election, mixed ? NEWCOMER : FIRST_MEMBER + others - 1);
 }
 
+static void add_link(struct scene *made, uint32_t one, uint32_t other)
+{
+    put(made->links + made->links_length, 2, one);
+    put(made->links + made->links_length + 2, 2, other);
+    made->links_length += BRAIDLARK_LINK_SIZE;
+}
+
+/* For the book's plan. Full: 21 units that all hear each other, with a slot each. Mixed: 20 in a line that take turns
+ * with three slots, but the last takes that of the one before it. */
+static void make_sheet(struct scene *made, int mixed)
+{
+    uint32_t units = mixed ? 20 : BRAIDLARK_MOST_MEMBERS;
+    for (uint32_t unit = 0; unit < units; unit++) {
+        uint32_t turn = unit < units - 1 ? unit % 3 : (unit - 1) % 3;
+        put(made->sheet + made->sheet_length, 2, FIRST_MEMBER + unit);
+        put(made->sheet + made->sheet_length + 2, 4, (uint32_t)1 << (mixed ? turn : unit));
+        made->sheet_length += BRAIDLARK_SHEET_ROW_SIZE;
+        for (uint32_t other = mixed && unit > 0 ? unit - 1 : 0; other < unit; other++)
+            add_link(made, FIRST_MEMBER + other, FIRST_MEMBER + unit);
+    }
+}
+
 void make_scene(struct scene *made, int mixed)
 {
     make_table(made, mixed);
     make_frames(made);
     make_book(made, mixed);
     make_poll(made, mixed);
+    make_sheet(made, mixed);
     need(braidlark_state_fresh(made->state, sizeof made->state, NOW), "a state");
 }

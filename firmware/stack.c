@@ -193,6 +193,12 @@ static uint8_t call_restore(void)
     return braidlark_restore(scene.book, sizeof scene.book, scene.image, scene.image_length, NOW);
 }
 
+static uint8_t call_check_sheet(void)
+{
+    return braidlark_check_sheet(scene.plan, sizeof scene.plan, scene.links, scene.links_length, scene.sheet,
+                                 scene.sheet_length, &scene.named, &scene.lower, &scene.higher);
+}
+
 static const struct {
     const char *name;
     uint8_t (*make)(void);
@@ -229,6 +235,7 @@ static const struct {
     {"schedule", call_schedule},
     {"image", call_image},
     {"restore", call_restore},
+    {"check_sheet", call_check_sheet},
 };
 
 /* ---- the measure */

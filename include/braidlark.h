@@ -54,7 +54,7 @@ extern "C" {
  * something is only added; docs/changes says what a caller has to change
  */
 #define BRAIDLARK_VERSION_MAJOR 6
-#define BRAIDLARK_VERSION_MINOR 1
+#define BRAIDLARK_VERSION_MINOR 2
 
 /* ---- refusals; braidlark_refusal_text says what each means */
 #define BRAIDLARK_ACCEPTED 0
@@ -93,7 +93,7 @@ static inline const char *braidlark_refusal_text(int number)
         "no usable route, or less time left on it than the caller names",
         "every member row live, or a poll with no room for one more unit",
         "not a live member, or the manager asked to leave",
-        "plan, image, page, hop, superframe length, or a stored value, out of rule",
+        "plan, sheet, image, page, hop, superframe length, or a stored value, out of rule",
         "not the book's or the caller's network",
         "beacon not ours to forward",
     };
@@ -114,6 +114,8 @@ static inline const char *braidlark_refusal_text(int number)
 #define BRAIDLARK_RESPONSES_SIZE 65 /* of a join or a slot request: five frames of 13 */
 #define BRAIDLARK_MOST_SLOTS 100    /* slots of a superframe, which are the bytes of a schedule */
 #define BRAIDLARK_MOST_IMAGE 230
+#define BRAIDLARK_SHEET_ROW_SIZE 10 /* of one unit of a sheet */
+#define BRAIDLARK_LINK_SIZE 4
 
 /* ---- lengths of frames, in bytes; two kinds have more behind their fields */
 #define BRAIDLARK_LENGTH_DATA 10 /* and the payload */
@@ -314,6 +316,9 @@ enum {
     BRAIDLARK_SLOT_SLEEP
 };
 
+/* ---- what the check of a sheet names: as many units as the number says */
+enum { BRAIDLARK_SHEET_FINE, BRAIDLARK_SHEET_UNIT, BRAIDLARK_SHEET_PAIR };
+
 /* ---- where each number of a plan stands among those that braidlark_plan_numbers tells, and how many there are */
 enum {
     BRAIDLARK_FIELD_PLAN_ACTIVE,        /* slots in use: beacon, control, data and discovery */
@@ -513,6 +518,30 @@ uint8_t braidlark_image(const uint8_t *book, size_t book_length, uint32_t time, 
 /* Makes the book of an image, every time the given one: each member is live for BRAIDLARK_LIVE_MS from then on. The
  * plan of the book has long beacons. Refusals: 14 (the buffer's length, or the image). */
 uint8_t braidlark_restore(uint8_t *book, size_t book_length, const uint8_t *image, size_t image_length, uint32_t time);
+
+/* ---- a sheet, on which planners let distant units share data slots */
+
+/* Checks a sheet against the plan of its site and the links between its units, and says how many units it names:
+ * BRAIDLARK_SHEET_FINE, BRAIDLARK_SHEET_UNIT or BRAIDLARK_SHEET_PAIR. 0 is returned for a sheet that offends as well:
+ * only one that names nobody may be used, and for such a site only, where slots come from the sheet and not from a
+ * book. Then in a data slot in which a unit sends, no unit does that is linked to it or has a neighbour in common with
+ * it, so that whoever is linked to the sender receives it alone.
+ *
+ * A sheet is BRAIDLARK_SHEET_ROW_SIZE bytes for each unit: its address (2), and its data slots as a mask (8) whose bit
+ * i is data slot i, counted from 0. Links are BRAIDLARK_LINK_SIZE bytes each: the addresses of two units that hear each
+ * other (2 and 2). Both may stand in any order and be empty, and a link may be given twice and from either end. The
+ * manager need not be on the sheet; who is not on it sends in no data slot.
+ *
+ * A unit offends that has no slot, more than BRAIDLARK_MOST_HELD, or one that the plan does not have: the lowest of
+ * these is named, in `lower`. Else a pair offends that shares a slot and is linked, or has a unit that is linked to
+ * both: the one with the lowest lower unit is named, and of these the one with the lowest higher unit. A unit that is
+ * not named is 0.
+ * Refusals: 14 (the plan's length, or bytes that are no whole number of rows or of links) 4 (an address on the sheet or
+ * in a link) 14 (the plan; more units than it has rows; a unit listed twice; a link that names a unit that is not on
+ * the sheet, or one unit twice). */
+uint8_t braidlark_check_sheet(const uint8_t *plan, size_t plan_length, const uint8_t *links, size_t links_length,
+                              const uint8_t *sheet, size_t sheet_length, uint8_t *named, uint16_t *lower,
+                              uint16_t *higher);
 
 #ifdef __cplusplus
 }

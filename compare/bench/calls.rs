@@ -4,6 +4,7 @@
 
 use crate::shared::moments::Moment;
 use crate::shared::refusal::Refusal;
+use crate::sheet::verdict::Named;
 
 /// When every call comes.
 pub const NOW: Moment = Moment(100_000);
@@ -23,13 +24,13 @@ const HOP: u32 = 1;
 /// What one call is given and what it leaves; each call uses its part of it.
 #[derive(Clone, Debug, Default, PartialEq, Eq)]
 pub struct Buffers {
-    /// The bytes of a table, of a book or of a poll.
+    /// The bytes of a table, of a book, of a poll or of a plan.
     pub kept: Vec<u8>,
     /// What `kept` has to be before each call, where one call would make the next another. The copy is measured with it.
     pub before: Option<Vec<u8>>,
-    /// The bytes of a frame or of an image.
+    /// The bytes of a frame, of an image or of links.
     pub input: Vec<u8>,
-    /// The bytes of the second frame, where there are two.
+    /// The bytes of the second frame, where there are two, or of a sheet.
     pub second: Vec<u8>,
     /// Whom a lookup or a schedule is for, who is forgotten, or the manager that a beacon is forwarded with.
     pub unit: u16,
@@ -42,6 +43,7 @@ pub struct Buffers {
     pub compared: u16,
     pub which: u8,
     pub winner: u16,
+    pub named: Named,
     pub place: u32,
     pub length: u32,
     pub left: u32,
@@ -69,6 +71,7 @@ pub mod library {
     use crate::routes::calls::{
         braidlark_forget, braidlark_forward, braidlark_lookup, braidlark_merge, braidlark_page, braidlark_relay,
     };
+    use crate::sheet::calls::braidlark_check_sheet;
 
     pub fn relay(buffers: &mut Buffers) -> u8 {
         let Buffers { kept, input, least_left, out, next_hop, place, length, left, .. } = buffers;
@@ -161,6 +164,15 @@ pub mod library {
         // SAFETY: as above.
         unsafe { braidlark_restore(kept.as_mut_ptr(), kept.len(), input.as_ptr(), input.len(), NOW) }
     }
+
+    pub fn check_sheet(buffers: &mut Buffers) -> u8 {
+        let Buffers { kept, input, second, named: Named { units, lower, higher }, .. } = buffers;
+        // SAFETY: as above.
+        unsafe {
+            braidlark_check_sheet(kept.as_ptr(), kept.len(), input.as_ptr(), input.len(), second.as_ptr(), second.len(),
+                                  units, lower, higher)
+        }
+    }
 }
 
 pub mod independent {
@@ -170,6 +182,7 @@ pub mod independent {
     use crate::poll::election::Poll;
     use crate::routes::direct;
     use crate::routes::table::Table;
+    use crate::sheet;
 
     pub fn relay(buffers: &mut Buffers) -> Result<(), Refusal> {
         let Buffers { kept, input, least_left, out, .. } = buffers;
@@ -266,6 +279,11 @@ pub mod independent {
             return Err(Refusal::OutOfRule);
         }
         Book::restore(&buffers.input, NOW)?.to_bytes(&mut buffers.kept);
+        Ok(())
+    }
+
+    pub fn check_sheet(buffers: &mut Buffers) -> Result<(), Refusal> {
+        buffers.named = sheet::direct::check(&buffers.kept, &buffers.input, &buffers.second)?;
         Ok(())
     }
 }

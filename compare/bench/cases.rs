@@ -12,6 +12,8 @@ use crate::routes::drafts::{beacon, data, update, Entry};
 use crate::routes::table::{Row, Table, MOST_ROWS};
 use crate::shared::random::Random;
 use crate::shared::refusal::{Refusal, ACCEPTED};
+use crate::sheet::drafts::{complete, largest_plan, line, links_of, proposal, Places};
+use crate::sheet::verdict::ROW_LENGTH;
 
 /// A call by the library, which answers its status, and by the independent implementation.
 pub struct Call {
@@ -28,6 +30,7 @@ pub struct Case {
 }
 
 const NO_ROUTE: u8 = Refusal::NoRoute as u8;
+const BAD_FIELD: u8 = Refusal::Field as u8;
 
 const RELAY: Call = Call { library: library::relay, independent: independent::relay };
 const TRUSTING: Call = Call { library: library::relay, independent: independent::relay_trusting };
@@ -43,10 +46,12 @@ const JOIN: Call = Call { library: library::join, independent: independent::join
 const SCHEDULE: Call = Call { library: library::schedule, independent: independent::schedule };
 const IMAGE: Call = Call { library: library::image, independent: independent::image };
 const RESTORE: Call = Call { library: library::restore, independent: independent::restore };
+const SHEET: Call = Call { library: library::check_sheet, independent: independent::check_sheet };
 
-/// Tables are full where the name does not end in their rows, and polls are full. With `compared` in it, it ends in how
-/// many rows are compared. With `trusting`, the library judges the table as always, and Rust does not.
-pub const CASES: [Case; 33] = [
+/// Tables are full where the name does not end in their rows, and polls and sheets are full. With `compared` in it, it
+/// ends in how many rows are compared. With `trusting`, the library judges the table as always, and Rust does not. The
+/// number behind `sheet` is that of the links, and a word behind it says what is found where the sheet is not fine.
+pub const CASES: [Case; 38] = [
     Case { name: "relay-10", call: RELAY, buffers: || relaying(10, MOST_ROWS), answer: ACCEPTED },
     Case { name: "relay-100", call: RELAY, buffers: || relaying(100, MOST_ROWS), answer: ACCEPTED },
     Case { name: "relay-255", call: RELAY, buffers: || relaying(255, MOST_ROWS), answer: ACCEPTED },
@@ -77,6 +82,11 @@ pub const CASES: [Case; 33] = [
     Case { name: "schedule", call: SCHEDULE, buffers: scheduling, answer: ACCEPTED },
     Case { name: "image", call: IMAGE, buffers: storing, answer: ACCEPTED },
     Case { name: "restore", call: RESTORE, buffers: restoring, answer: ACCEPTED },
+    Case { name: "sheet-20", call: SHEET, buffers: checking_a_line, answer: ACCEPTED },
+    Case { name: "sheet-60", call: SHEET, buffers: checking_60_links, answer: ACCEPTED },
+    Case { name: "sheet-210", call: SHEET, buffers: checking_all_links, answer: ACCEPTED },
+    Case { name: "sheet-210-pair", call: SHEET, buffers: checking_a_pair, answer: ACCEPTED },
+    Case { name: "sheet-60-refused", call: SHEET, buffers: checking_an_address, answer: BAD_FIELD },
     Case { name: "relay-10-trusting", call: TRUSTING, buffers: || relaying(10, MOST_ROWS), answer: ACCEPTED },
     Case { name: "relay-100-trusting", call: TRUSTING, buffers: || relaying(100, MOST_ROWS), answer: ACCEPTED },
     Case { name: "relay-255-trusting", call: TRUSTING, buffers: || relaying(255, MOST_ROWS), answer: ACCEPTED },
@@ -98,11 +108,17 @@ const HOPS: u8 = 3;
 const PRIORITY: u8 = 100;
 /// What a beacon holds besides the fields that are set does not matter, but is always the same.
 const BEACON_SEED: u64 = 1;
+/// Which slots are drawn does not matter much either.
+const SLOTS_SEED: u64 = 1;
 
 /// A site of 20 rows with 100 slots, and room for a newcomer to be granted all four that it asks for.
 const SITE: (u8, u8, u8) = (1, 20, 23);
 const MEMBERS: usize = 10;
 const NEWCOMER: u16 = 0x0300;
+
+/// The units of a sheet, as many as the largest plan has rows, and how many data slots that has.
+const SHEET_UNITS: usize = 21;
+const SHEET_SLOTS: usize = 22;
 
 /// The destination of the row at a place.
 const fn destination(place: usize) -> u16 {
@@ -238,4 +254,55 @@ fn storing() -> Buffers {
 fn restoring() -> Buffers {
     let (max_hops, rows, data_slots) = SITE;
     Buffers::new(joining().kept, full_book(max_hops, rows, data_slots).to_image(), OWN)
+}
+
+/// A sheet of 21 units, ascending, with these links, where the unit at a place has these slots.
+fn checking(shape: &[Places], slots: impl Fn(usize) -> u64) -> Buffers {
+    let units: Vec<u16> = (0..SHEET_UNITS).map(destination).collect();
+    let rows: Vec<(u16, u64)> = units.iter().enumerate().map(|(place, unit)| (*unit, slots(place))).collect();
+    let proposal = proposal(largest_plan(), &links_of(&units, shape), &rows);
+    Buffers { second: proposal.sheet, ..Buffers::new(proposal.plan, proposal.links, OWN) }
+}
+
+/// So many slots, each as far from the next.
+fn every(step: usize, first: usize, count: usize) -> u64 {
+    (0..count).fold(0, |slots, place| slots | 1 << (first + step * place))
+}
+
+/// The units of a line: every third one has the same four slots, and the sheet is fine.
+fn checking_a_line() -> Buffers {
+    checking(&line(SHEET_UNITS), |place| every(3, place % 3, 4))
+}
+
+/// Each unit is linked to the next three, and three units also to the fourth: 60 links. Every eleventh has the same two
+/// slots, and the sheet is fine.
+fn checking_60_links() -> Buffers {
+    let nearest = complete(SHEET_UNITS).into_iter().filter(|(lower, higher)| higher - lower <= 3);
+    let shape: Vec<Places> = nearest.chain((0..3).map(|place| (place, place + 4))).collect();
+    assert_eq!(shape.len(), 60, "the links of a sheet");
+    checking(&shape, |place| every(11, place % 11, 2))
+}
+
+/// Each unit is linked to each and has a slot of its own, so that all pairs are looked at and the sheet is fine.
+fn checking_all_links() -> Buffers {
+    checking(&complete(SHEET_UNITS), |place| 1 << place)
+}
+
+/// Each unit is linked to each and has any four slots.
+fn checking_a_pair() -> Buffers {
+    let mut random = Random::new(SLOTS_SEED);
+    let slots = (0..SHEET_UNITS).map(|_| {
+        let any = random.shuffled((0..SHEET_SLOTS).collect());
+        any[..4].iter().fold(0, |slots, slot| slots | 1 << slot)
+    });
+    let slots: Vec<u64> = slots.collect();
+    checking(&complete(SHEET_UNITS), |place| slots[place])
+}
+
+/// The last unit's address is none.
+fn checking_an_address() -> Buffers {
+    let mut buffers = checking_60_links();
+    let last = buffers.second.len() - ROW_LENGTH;
+    buffers.second[last..last + 2].fill(0xFF);
+    buffers
 }

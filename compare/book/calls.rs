@@ -84,16 +84,16 @@ pub enum Ask {
     Schedule { unit: u16, hop: u32, time: Moment, room: usize },
 }
 
-/// The calls by name, in the order of `Ask`, each with the refusals that it can give.
+/// The calls by name, in the order of `Ask`, each with the numbers that it is answered with.
 pub const CALLS: [(&str, &[u8]); 8] = [
-    ("plan", &[14]),
-    ("plan numbers", &[14, 5]),
-    ("fresh", &[14]),
-    ("join", &[14, 1, 2, 3, 4, 6, 15, 8, 12, 5]),
-    ("slot request", &[14, 1, 2, 3, 4, 6, 8, 13, 5]),
-    ("heard", &[14, 4, 8, 13]),
-    ("leave", &[14, 4, 8, 13]),
-    ("schedule", &[14, 4, 8, 13, 5]),
+    ("plan", &[0, 14]),
+    ("plan numbers", &[0, 14, 5]),
+    ("fresh", &[0, 14]),
+    ("join", &[0, 14, 1, 2, 3, 4, 6, 15, 8, 12, 5]),
+    ("slot request", &[0, 14, 1, 2, 3, 4, 6, 8, 13, 5]),
+    ("heard", &[0, 14, 4, 8, 13]),
+    ("leave", &[0, 14, 4, 8, 13]),
+    ("schedule", &[0, 14, 4, 8, 13, 5]),
 ];
 
 impl Ask {

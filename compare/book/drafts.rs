@@ -47,7 +47,7 @@ fn most_data_slots(max_hops: u8, rows: u8) -> u8 {
 }
 
 /// A plan within rule whose manager sends such beacons, small or full as often as any other.
-fn random_plan(beacon: u8, random: &mut Random) -> Plan {
+pub fn random_plan(beacon: u8, random: &mut Random) -> Plan {
     let any_hops = random.within(1, 10) as u8;
     let mut most_rows = LEAST_ROWS;
     while most_data_slots(any_hops, most_rows + 1) > most_rows {

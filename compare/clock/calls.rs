@@ -18,8 +18,8 @@ extern "C" {
     ) -> u8;
 }
 
-/// The one call, with the refusals that it can give.
-pub const CALLS: [(&str, &[u8]); 1] = [("step of the clock", &[1, 2, 3, 4, 15])];
+/// The one call, with the numbers that it is answered with.
+pub const CALLS: [(&str, &[u8]); 1] = [("step of the clock", &[0, 1, 2, 3, 4, 15])];
 
 /// `braidlark_clock_step` with this offset.
 pub struct Step<'a> {

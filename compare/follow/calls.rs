@@ -20,8 +20,8 @@ extern "C" {
     ) -> u8;
 }
 
-/// The one call, with the refusals that it can give.
-pub const CALLS: [(&str, &[u8]); 1] = [("choice of a beacon", &[1, 2, 3, 4, 15])];
+/// The one call, with the numbers that it is answered with.
+pub const CALLS: [(&str, &[u8]); 1] = [("choice of a beacon", &[0, 1, 2, 3, 4, 15])];
 
 /// `braidlark_follow` with this in `which`.
 pub struct Follow<'a> {

@@ -38,8 +38,8 @@ extern "C" {
     ) -> u8;
 }
 
-/// All calls are counted together, with the refusals that they can give.
-pub const CALLS: [(&str, &[u8]); 1] = [("call on a frame", &[1, 2, 3, 4, 5])];
+/// All calls are counted together, with the numbers that they are answered with.
+pub const CALLS: [(&str, &[u8]); 1] = [("call on a frame", &[0, 1, 2, 3, 4, 5])];
 
 /// `braidlark_read` with `places` places for the fields.
 pub struct Read<'a> {

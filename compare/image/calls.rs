@@ -39,8 +39,8 @@ pub enum Ask {
     Restore { image: Vec<u8>, time: Moment },
 }
 
-/// The calls by name, in the order of `Ask`, each with the refusals that it can give.
-pub const CALLS: [(&str, &[u8]); 2] = [("image", &[14, 8, 5]), ("restore", &[14])];
+/// The calls by name, in the order of `Ask`, each with the numbers that it is answered with.
+pub const CALLS: [(&str, &[u8]); 2] = [("image", &[0, 14, 8, 5]), ("restore", &[0, 14])];
 
 impl Ask {
     /// The bytes that are handed in beside the book.

@@ -16,8 +16,8 @@ extern "C" {
     fn braidlark_state_tick(state: *mut u8, state_length: usize, superframe_ms: u32, time: Moment) -> u8;
 }
 
-/// All calls are counted together, with the refusals that they can give.
-pub const CALLS: [(&str, &[u8]); 1] = [("call on a state", &[7, 8, 14])];
+/// All calls are counted together, with the numbers that they are answered with.
+pub const CALLS: [(&str, &[u8]); 1] = [("call on a state", &[0, 7, 8, 14])];
 
 /// What a unit is asked: to begin, an event by its number, or a tick that names the superframe's ms.
 #[derive(Clone, Copy, Debug)]

@@ -27,8 +27,9 @@ pub enum Ask {
     Winner { winner: u16 },
 }
 
-/// The calls by name, in the order of `Ask`, each with the refusals that it can give.
-pub const CALLS: [(&str, &[u8]); 3] = [("fresh", &[14, 4]), ("hear", &[14, 1, 2, 3, 4, 6, 12]), ("winner", &[14])];
+/// The calls by name, in the order of `Ask`, each with the numbers that it is answered with.
+pub const CALLS: [(&str, &[u8]); 3] =
+    [("fresh", &[0, 14, 4]), ("hear", &[0, 14, 1, 2, 3, 4, 6, 12]), ("winner", &[0, 14])];
 
 impl Ask {
     fn frame(&self) -> &[u8] {

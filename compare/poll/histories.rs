@@ -8,9 +8,10 @@ use crate::poll::calls::Ask;
 use crate::poll::drafts::*;
 use crate::poll::election::{Poll, MOST_OTHERS};
 use crate::shared::check::{Agreement, Check, Difference};
-use crate::shared::numbers::{is_unit, word};
+use crate::shared::numbers::word;
 use crate::shared::random::Random;
 use crate::shared::refusal::ACCEPTED;
+use crate::shared::units::different_units;
 use std::collections::BTreeMap;
 
 /// The last message of each unit: its priority.
@@ -210,20 +211,6 @@ impl History {
             _ => frame,
         }
     }
-}
-
-/// So many addresses, often next to each other or at a limit.
-fn different_units(count: usize, random: &mut Random) -> Vec<u16> {
-    let near = random.within(1, 0xFF00) as u16;
-    let mut units = Vec::new();
-    while units.len() < count {
-        let (anyone, neighbour) = (random.within(1, 0xFFFE) as u16, near + random.below(0x40) as u16);
-        let unit = random.one_of(&[anyone, neighbour, neighbour, neighbour, near ^ 0x8000, 0x0100, 0x00FF]);
-        if is_unit(unit) && !units.contains(&unit) {
-            units.push(unit);
-        }
-    }
-    units
 }
 
 /// With a wrong checksum.

@@ -122,17 +122,17 @@ impl Forward {
     }
 }
 
-/// The calls by name, in the order of `Ask`, each with the refusals that it can give. Forwards of frames with the type of
-/// a short beacon are counted apart.
+/// The calls by name, in the order of `Ask`, each with the numbers that it is answered with. Forwards of frames with the
+/// type of a short beacon are counted apart.
 pub const CALLS: [(&str, &[u8]); 8] = [
-    ("fresh", &[14, 4]),
-    ("lookup", &[14, 4, 8, 11]),
-    ("forget", &[14, 4, 6, 8]),
-    ("merge", &[14, 1, 2, 3, 4, 6, 8, 9]),
-    ("page", &[14, 8, 5]),
-    ("relay", &[14, 1, 2, 3, 4, 6, 8, 10, 11, 5]),
-    ("forward", &[14, 1, 2, 3, 4, 6, 15, 8, 11, 16, 5]),
-    ("short forward", &[14, 1, 3, 4, 6, 15, 8, 11, 16, 5]),
+    ("fresh", &[0, 14, 4]),
+    ("lookup", &[0, 14, 4, 8, 11]),
+    ("forget", &[0, 14, 4, 6, 8]),
+    ("merge", &[0, 14, 1, 2, 3, 4, 6, 8, 9]),
+    ("page", &[0, 14, 8, 5]),
+    ("relay", &[0, 14, 1, 2, 3, 4, 6, 8, 10, 11, 5]),
+    ("forward", &[0, 14, 1, 2, 3, 4, 6, 15, 8, 11, 16, 5]),
+    ("short forward", &[0, 14, 1, 3, 4, 6, 15, 8, 11, 16, 5]),
 ];
 
 impl Ask {

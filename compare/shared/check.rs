@@ -85,7 +85,7 @@ impl Display for Difference {
     }
 }
 
-/// The kinds of calls that a subject counts apart, by name, each with the refusals that it can give.
+/// The kinds of calls that a subject counts apart, by name, each with the numbers that it is answered with.
 pub type Kinds = &'static [(&'static str, &'static [u8])];
 
 /// The check of a subject: its random numbers, and the calls that agreed so far.
@@ -138,11 +138,11 @@ impl Check {
         Ok(())
     }
 
-    /// The tally of a subject that is done: each kind of call was accepted, and refused in every way.
+    /// The tally of a subject that is done: each kind of call was answered with each of its numbers.
     pub fn tally(self) -> Tally {
-        for ((name, refusals), tally) in self.kinds.iter().zip(&self.tallies) {
-            for status in [&[ACCEPTED], *refusals].concat() {
-                assert!(tally.times(status) > 0, "no {} was answered with {}", name, status);
+        for ((name, statuses), tally) in self.kinds.iter().zip(&self.tallies) {
+            for status in *statuses {
+                assert!(tally.times(*status) > 0, "no {} was answered with {}", name, status);
             }
         }
         Tally::of_kinds(self.kinds.iter().map(|(name, _)| *name).zip(self.tallies).collect())

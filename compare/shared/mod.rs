@@ -13,3 +13,4 @@ pub mod progress;
 pub mod random;
 pub mod refusal;
 pub mod tally;
+pub mod units;

@@ -46,6 +46,13 @@ impl Random {
         choices[self.below(choices.len())]
     }
 
+    pub fn shuffled<T>(&mut self, mut values: Vec<T>) -> Vec<T> {
+        for last in (1..values.len()).rev() {
+            values.swap(last, self.below(last + 1));
+        }
+        values
+    }
+
     pub fn bytes(&mut self, length: usize) -> Vec<u8> {
         (0..length).map(|_| self.draw() as u8).collect()
     }

@@ -32,8 +32,8 @@ pub enum Refusal {
     Full = 12,
     /// The unit is not a live member, or is the manager and asked to leave.
     NotMember = 13,
-    /// A plan, image, page, hop or superframe's length, or a table, book, state or poll handed in, is out of rule; or the
-    /// plan has no image.
+    /// A plan, sheet, image, page, hop or superframe's length, or a table, book, state or poll handed in, is out of
+    /// rule; or the plan has no image.
     OutOfRule = 14,
     /// The network is not the book's or the caller's.
     Network = 15,

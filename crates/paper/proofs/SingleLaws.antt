@@ -14,6 +14,7 @@ use Rattle.frames.specs.declared.answers.Frame.{Frame}
 use Rattle.frames.proofs.ToldLaws.{told-one}
 use Rattle.frame_entries.proofs.MeetLaws.{told-walked-one}
 use Rattle.site_plan.proofs.ToldLaws.{told-plan-one}
+use Rattle.site_sheet.proofs.ToldLaws.{checked-one-to-one}
 use Rattle.book_members.specs.declared.member.Member.{Member}
 use Rattle.book_members.specs.Members.{Row, rowOf, rowsOf}
 use Rattle.book.specs.declared.book.Book.{Book}
@@ -77,6 +78,7 @@ views-tell-apart =
       frames = λ a a′ p p′ e. told-one a a′ e;
       plans = λ a a′ p p′ e. told-plan-one a a′ e;
       steps = λ a a′ p p′ e. told-walked-one a a′ e;
+      checks = λ a a′ p p′ e. checked-one-to-one a a′ e;
       writingsInto = with-buffer toldWritten told-written-one;
       relayings = undone any _ (λ v. (v .answer, v .held)) (λ a p. refl);
       forwardings = undone any _ (λ v. (v .answer, v .held)) (λ a p. refl);
@@ -108,4 +110,5 @@ views-tell-apart =
       bookCalls = undone any _ (λ l. (l .status, l .book)) (λ a p. refl);
       planNumberings = undone any _ (λ l. (l .status, l .numbers)) (λ a p. refl);
       requests = undone any _ (λ l. (l .status, l .book, l .out, l .written)) (λ a p. refl);
+      sheets = undone any _ (λ l. (l .status, l .named, l .lower, l .higher)) (λ a p. refl);
     }

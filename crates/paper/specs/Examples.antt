@@ -1,5 +1,5 @@
--- Document 01's examples marked P, in its order: what the definitions compute, and what the paper says. Then what document 02 says of times that pass their
--- top: drifts, steps and an age. One statement covers the table.
+-- Document 01's examples marked P, in its order: what the definitions compute, and what the paper says. Then those of document 02's requests. One
+-- statement covers the table.
 -- Assumes nothing.
 use mathlib.Core.Path.{_≡_}
 use mathlib.Core.Bool.{Bool, true, false, _&&_, cond}
@@ -25,6 +25,7 @@ use Rattle.frame_beacons.specs.ShortBeacons.{shortBeacon}
 use Rattle.unit_choice.specs.Choices.{Heard, heard, chosenOf}
 use Rattle.unit_poll.specs.Polls.{freshPoll, heardBy, winnerOf}
 use Rattle.unit_clock.specs.Clock.{drift, corrected}
+use Rattle.c_sheet.specs.SheetCalls.{sheetCall}
 
 pub record Example : Type 0 where
   pub computed : List ℕ
@@ -87,6 +88,24 @@ abbrev pub winnerAfter : ℕ → ℕ → ℕ
 winnerAfter first later =
     let message : ℕ → List ℕ = λ priority. frameOf election (9 ∷ priority ∷ []) [] in
     winnerOf (heardBy (heardBy (freshPoll 5 70) (message first)) (message later))
+
+-- ---- document 02's sheets
+-- a plan with h 3, 4 rows and 6 data slots; links between 1 and 2, 2 and 3, 3 and 4, so that the units are a line
+abbrev pub sitePlan : List ℕ
+sitePlan = 0x01 ∷ 0x00 ∷ 0x00 ∷ 0x01 ∷ 3 ∷ 4 ∷ 6 ∷ 0xBD ∷ 0x04 ∷ 0x46 ∷ []
+
+abbrev pub line : List ℕ
+line = 1 ∷ 0 ∷ 2 ∷ 0 ∷ 3 ∷ 0 ∷ 2 ∷ 0 ∷ 3 ∷ 0 ∷ 4 ∷ 0 ∷ []
+
+-- a unit of a sheet with the mask of its slots, all below 8
+abbrev pub proposed : ℕ → ℕ → List ℕ
+proposed unit slots = unit ∷ 0 ∷ slots ∷ 0 ∷ 0 ∷ 0 ∷ 0 ∷ 0 ∷ 0 ∷ 0 ∷ []
+
+-- what the C call leaves of the four units with these slots, written from the last to the first: the status, how many are named, and these; 9 before
+abbrev pub lineChecked : ℕ → ℕ → ℕ → ℕ → List ℕ
+lineChecked a b c d =
+    let left = sheetCall sitePlan line (proposed 4 d ++ proposed 3 c ++ proposed 2 b ++ proposed 1 a) 9 9 9 in
+    left .status ∷ left .named ∷ left .lower ∷ left .higher ∷ []
 
 -- ---- what a drift leaves
 -- a number with its sign as a list: 1 below zero and else 0, then the magnitude
@@ -158,6 +177,22 @@ examplesWith told =
     record { computed = looked 299999; paper = 0 ∷ 2 ∷ 2 ∷ 1 ∷ [] } ∷
     record { computed = looked 300000; paper = 0 ∷ 2 ∷ 2 ∷ 0 ∷ [] } ∷
     record { computed = looked 300001; paper = 11 ∷ 0 ∷ 0 ∷ 0 ∷ [] } ∷
+    -- the ends of a line of four may share a slot, units with a common neighbour and linked ones may not
+    record { computed = lineChecked 1 2 4 1; paper = 0 ∷ 0 ∷ 0 ∷ 0 ∷ [] } ∷
+    record { computed = lineChecked 1 2 1 2; paper = 0 ∷ 2 ∷ 1 ∷ 3 ∷ [] } ∷
+    record { computed = lineChecked 1 2 4 4; paper = 0 ∷ 2 ∷ 3 ∷ 4 ∷ [] } ∷
+    -- units first: one with no slot before a pair, one with slot 6 of 6, one with five
+    record { computed = lineChecked 1 1 0 0; paper = 0 ∷ 1 ∷ 3 ∷ 0 ∷ [] } ∷
+    record { computed = lineChecked 1 64 4 31; paper = 0 ∷ 1 ∷ 2 ∷ 0 ∷ [] } ∷
+    -- a link to a unit that is not on the sheet is 14, and an address out of range 4 before it
+    record {
+      computed =
+          sheetCall sitePlan line (proposed 1 1 ++ proposed 2 2 ++ proposed 3 4) 9 9 9 .status
+          ∷ sheetCall sitePlan line (proposed 0 1) 9 9 9 .status
+          ∷ sheetCall sitePlan line (proposed 0 1 ++ 0 ∷ []) 9 9 9 .status
+          ∷ [];
+      paper = 14 ∷ 4 ∷ 14 ∷ [];
+    } ∷
     []
 
 abbrev pub allSame : List Example → Bool

@@ -25,6 +25,7 @@ use Rattle.route_relays.specs.declared.relaying.Relayed.{Relayed}
 use Rattle.route_forwards.specs.Forwards.{passed, forwardLeft, forwardedIn}
 use Rattle.route_relays.specs.Relays.{relayed}
 use Rattle.site_plan.specs.Plans.{toldPlan}
+use Rattle.site_sheet.specs.Verdicts.{toldChecked}
 use Rattle.book_members.specs.declared.census.Census.{Census}
 use Rattle.book_members.specs.declared.member.Member.{Member}
 use Rattle.book_members.specs.Members.{rowsOf}
@@ -47,6 +48,7 @@ use Rattle.route_merges.specs.StoredMerges.{mergeLeft, mergedIn}
 use Rattle.c_book.specs.BookCalls.{bookLeft}
 use Rattle.c_book.specs.PlanCalls.{numbersLeft}
 use Rattle.c_requests.specs.RequestCalls.{requestLeft}
+use Rattle.c_sheet.specs.SheetCalls.{sheetLeft}
 
 -- a view tells apart the answers that the code can give
 abbrev pub TellsApart : {A B : Type 0} → (A → Type 0) → (A → B) → Type 0
@@ -102,6 +104,7 @@ pub record ViewsTellApart : Type 1 where
   pub frames : TellsApart any told
   pub plans : TellsApart any toldPlan
   pub steps : TellsApart any toldWalked
+  pub checks : TellsApart any toldChecked
   pub writingsInto : TellsApart any (λ (a : Written × List ℕ). wrote (a .0) (a .1))
   pub relayings : TellsApart any (λ (a : Relayed × List ℕ). relayed (a .0) (a .1))
   pub forwardings : TellsApart any (λ (a : Forwarded × List ℕ). passed (a .0) (a .1))
@@ -135,3 +138,4 @@ pub record ViewsTellApart : Type 1 where
   pub bookCalls : TellsApart any (λ (a : ℕ × List ℕ). bookLeft (a .0) (a .1))
   pub planNumberings : TellsApart any (λ (a : ℕ × List ℕ). numbersLeft (a .0) (a .1))
   pub requests : TellsApart any (λ (a : ℕ × List ℕ × List ℕ × ℕ). requestLeft (a .0) (a .1) (a .2) (a .3))
+  pub sheets : TellsApart any (λ (a : ℕ × ℕ × ℕ × ℕ). sheetLeft (a .0) (a .1) (a .2) (a .3))

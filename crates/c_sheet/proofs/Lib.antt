@@ -1,0 +1,2 @@
+pub mod InCLaws
+pub mod SheetCallLaws

@@ -1,0 +1,2 @@
+pub mod SheetCalls
+pub mod SheetLaws

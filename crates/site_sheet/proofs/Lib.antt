@@ -1,0 +1,15 @@
+pub mod CheckLaws
+pub mod FindLaws
+pub mod JudgeLaws
+pub mod LinkLaws
+pub mod NearLaws
+pub mod NeighbourLaws
+pub mod PlaceLaws
+pub mod RefusalLaws
+pub mod RowLaws
+pub mod RuleLaws
+pub mod SameLaws
+pub mod SendingLaws
+pub mod ToldLaws
+pub mod TripLaws
+pub mod VerdictLaws

@@ -1,0 +1,5 @@
+pub mod Laws
+pub mod Seen
+pub mod SheetBytes
+pub mod Sheets
+pub mod Verdicts

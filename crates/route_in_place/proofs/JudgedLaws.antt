@@ -21,7 +21,8 @@ use Rattle.route_bytes.specs.TableBytes.{rowWidths, rowFrom, rowAt, rowsIn, tab
 use Rattle.route_bytes.proofs.TableByteLaws.{table-length, rows-in}
 use Rattle.octets.specs.Zeros.{isZero, zerosFrom}
 use Rattle.route_in_place.specs.declared.judging.Judged.{Judged}
-use Rattle.route_in_place.specs.Judged.{rowsOk, frontOk, rowStarting, judgedFor}
+use Rattle.route_in_place.specs.Judged.{rowsOk, frontOk, rowStarting}
+use Rattle.route_in_place.specs.Lookups.{judgedFor}
 use Rattle.octets.proofs.ZeroLaws.{fields-zero}
 
 -- ---- lists that are read from bytes, from a place on

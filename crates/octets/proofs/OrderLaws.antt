@@ -1,8 +1,8 @@
 -- An element put at its place in a list that ascends by a key.
 -- Assumes nothing.
-use Rattle.octets.proofs.Words.{_≡_, refl, Bool, true, and-eq-true-iff, List, [], _∷_, ℕ, suc, _+_, _≤_, _<_, ℕ-discrete, decLt, arith, lt-ltb, le-ltb, ltb-true, eq-eqb, ne-eqb, ltb, length}
+use Rattle.octets.proofs.Words.{_≡_, refl, sym, _∙_, Bool, true, and-eq-true-iff, List, [], _∷_, ℕ, suc, _+_, _≤_, _<_, ℕ-discrete, decLt, arith, lt-ltb, le-ltb, ltb-true, eq-eqb, ne-eqb, ltb, length}
 use Rattle.octets.specs.Lists.{every}
-use Rattle.octets.specs.Ordered.{ascendingBy, putBy}
+use Rattle.octets.specs.Ordered.{ascendingBy, putBy, findBy}
 
 module _ {A : Type 0} (key : A → ℕ) where
   abbrev ascending : List A → Bool
@@ -86,3 +86,38 @@ module _ {A : Type 0} (key : A → ℕ) where
   put-ascending w (a ∷ l) e =
       let later = put-ascending w l (ascending-rest a l e) in
       by-place (λ k. ascending k ≡ true) w a l (λ h. before-put a w l e h later) (λ h. lower-first w a l (omega (arith, h)) e) (λ h. ascending-cons w a l h e)
+
+  -- ---- the one with a key
+  module _ (none : A) where
+    abbrev find : ℕ → List A → A
+    find k l = findBy key none k l
+
+    pub find-first : (k : ℕ) (a : A) (l : List A) → key a ≡ k → find k (a ∷ l) ≡ a
+    find-first k a l e = rw (eq-eqb (key a) k e)
+
+    pub find-behind : (k : ℕ) (a : A) (l : List A) → (key a ≡ k → ⊥) → find k (a ∷ l) ≡ find k l
+    find-behind k a l e = rw (ne-eqb (key a) k e)
+
+    -- an element that is put is the one with its key, ..
+    pub find-put : (w : A) (l : List A) → find (key w) (put w l) ≡ w
+    find-put w [] = find-first (key w) w [] refl
+    find-put w (a ∷ l) =
+        let later = find-put w l in
+        by-place (λ m. find (key w) m ≡ w) w a l
+        (λ h. find-behind (key w) a (put w l) (λ e. omega arith) ∙ later)
+        (λ h. find-first (key w) w l refl)
+        (λ h. find-first (key w) w (a ∷ l) refl)
+
+    -- .. and every other key has the one that it had
+    pub find-other : (k : ℕ) (w : A) → (key w ≡ k → ⊥) → (l : List A) → find k (put w l) ≡ find k l
+    find-other k w n [] = find-behind k w [] n
+    find-other k w n (a ∷ l) =
+        let later = find-other k w n l in
+        by-place (λ m. find k m ≡ find k (a ∷ l)) w a l
+        (λ h. go (ℕ-discrete (key a) k) later)
+        (λ h. find-behind k w l n ∙ sym (find-behind k a l (λ e. n (sym h ∙ e))))
+        (λ h. find-behind k w (a ∷ l) n)
+      where
+        go : Dec (key a ≡ k) → find k (put w l) ≡ find k l → find k (a ∷ put w l) ≡ find k (a ∷ l)
+        go (yes e) later = find-first k a (put w l) e ∙ sym (find-first k a l e)
+        go (no e) later = find-behind k a (put w l) e ∙ (later ∙ sym (find-behind k a l e))

@@ -1,6 +1,6 @@
 -- A poll over any frames: it stays within rule, and holds the last message of each unit.
 -- Assumes nothing.
-use Rattle.octets.proofs.Words.{_≡_, refl, sym, ap, _∙_, Bool, true, false, not, _&&_, cond, List, [], _∷_, ℕ, _≤_, ℕ-discrete, arith, eq-eqb, ne-eqb, eqb-true, eqb-false, le-leb, not-false, eqb, leb, length}
+use Rattle.octets.proofs.Words.{_≡_, refl, sym, ap, _∙_, Bool, true, false, not, _&&_, cond, List, [], _∷_, ℕ, ℕ-discrete, eq-eqb, ne-eqb, eqb-true, eqb-false, le-leb, not-false, eqb, leb, length}
 use Rattle.octets.specs.Addresses.{address}
 use Rattle.octets.specs.Lists.{every}
 use Rattle.octets.proofs.AnswerLaws.{refusing-numbered, none-holds}
@@ -10,12 +10,12 @@ use Rattle.frame_kinds.proofs.ReadingLaws.{passed}
 use Rattle.frame_requests.specs.Requests.{election}
 use Rattle.unit_poll.specs.declared.voter.Voter.{Voter}
 use Rattle.unit_poll.specs.Polls.{Poll, pollRule, selfOf, allOf, freshPoll, voterIn, unheardReasons, hearRefusal, withMessage, heardBy, winning}
-use Rattle.unit_poll.specs.Voters.{voter, none, voterRule, unitOf, known, voterFor, put}
+use Rattle.unit_poll.specs.Voters.{none, voterRule, unitOf, known, voterFor, put}
 use Rattle.unit_poll.proofs.PollLaws.{within, rules-used}
 use Rattle.unit_poll.proofs.SiftLaws.{sifted-pad}
-use Rattle.poll_history.specs.Histories.{pollAfter, taken, lastSince, Course, ending}
+use Rattle.poll_history.specs.Histories.{pollAfter, taken, lastSince, ending}
 use Rattle.poll_history.specs.Laws.{SameWinner, NeverTwo, KeepsRule, HoldsLast}
-use Rattle.poll_history.proofs.VoterLaws.{voter-first, voter-behind, voter-put, voter-other}
+use Rattle.octets.proofs.OrderLaws.{find-first, find-behind, find-put, find-other}
 use Rattle.poll_history.proofs.WinLaws.{wins, one-winner}
 
 -- ---- what is known of a message that is heard
@@ -50,10 +50,10 @@ module _ (p : Poll) (s : List ℕ) (k : Heard p s) where
       go : Dec (new .unit ≡ u) → Dec (p .own ≡ u) → voterFor u (selfOf p ∷ put new (p .others)) ≡ cond (eqb (new .unit) u) new (voterFor u (selfOf p ∷ p .others))
       go (yes e) (yes o) = absurd (eqb-false (new .unit) (p .own) (k .other) (e ∙ sym o))
       go (yes e) (no o) =
-          voter-behind u (selfOf p) (put new (p .others)) o ∙ (ap (λ (n : ℕ). voterFor n (put new (p .others))) (sym e) ∙ (voter-put new (p .others) ∙ sym (rw (eq-eqb (new .unit) u e))))
-      go (no e) (yes o) = rw (ne-eqb (new .unit) u e) (voter-first u (selfOf p) (put new (p .others)) o ∙ sym (voter-first u (selfOf p) (p .others) o))
+          find-behind unitOf none u (selfOf p) (put new (p .others)) o ∙ (ap (λ (n : ℕ). voterFor n (put new (p .others))) (sym e) ∙ (find-put unitOf none new (p .others) ∙ sym (rw (eq-eqb (new .unit) u e))))
+      go (no e) (yes o) = rw (ne-eqb (new .unit) u e) (find-first unitOf none u (selfOf p) (put new (p .others)) o ∙ sym (find-first unitOf none u (selfOf p) (p .others) o))
       go (no e) (no o) =
-          rw (ne-eqb (new .unit) u e) (voter-behind u (selfOf p) (put new (p .others)) o ∙ (voter-other u new e (p .others) ∙ sym (voter-behind u (selfOf p) (p .others) o)))
+          rw (ne-eqb (new .unit) u e) (find-behind unitOf none u (selfOf p) (put new (p .others)) o ∙ (find-other unitOf none u new e (p .others) ∙ sym (find-behind unitOf none u (selfOf p) (p .others) o)))
 
 -- ---- one frame, accepted or not: what holds of the poll after it and of whether it is accepted
 by-heard : (p : Poll) (s : List ℕ) (P : Poll → Bool → Type 0) → (Heard p s → P (withMessage p (voterIn s)) true) → P p false → P (heardBy p s) (eqb (hearRefusal p s) 0)

@@ -1,6 +1,5 @@
 pub mod HeldLaws
 pub mod HistoryLaws
 pub mod TakeoverLaws
-pub mod VoterLaws
 pub mod WinLaws
 pub mod WitnessLaws

@@ -5,13 +5,12 @@ use Rattle.octets.specs.Addresses.{address}
 use Rattle.octets.specs.Lists.{every, Each}
 use Rattle.octets.proofs.AddressLaws.{address-least}
 use Rattle.octets.proofs.EachLaws.{each-also}
-use Rattle.octets.proofs.OrderLaws.{ascending-rest, ascending-above}
 use Rattle.unit_poll.specs.declared.voter.Voter.{Voter}
-use Rattle.unit_poll.specs.Polls.{Poll, pollRule, selfOf, allOf, winning}
-use Rattle.unit_poll.specs.Voters.{voter, beats, better, voterRule, unitOf, ascending, voterFor, best}
+use Rattle.unit_poll.specs.Polls.{Poll, selfOf, allOf, winning}
+use Rattle.unit_poll.specs.Voters.{voter, none, beats, better, voterRule, unitOf, ascending, voterFor, best}
 use Rattle.unit_poll.proofs.PollLaws.{Within, within}
 use Rattle.poll_history.specs.Laws.{Winner, Wins}
-use Rattle.poll_history.proofs.VoterLaws.{voter-first, voter-behind}
+use Rattle.octets.proofs.OrderLaws.{ascending-rest, ascending-above, find-first, find-behind}
 
 -- ---- what holds of each
 each-of : (test : Voter → Bool) (vs : List Voter) → every test vs ≡ true → Each (λ v. test v ≡ true) vs
@@ -30,8 +29,8 @@ each-voter P u z [] e h = absurd (omega arith)
 each-voter P u z (r ∷ rs) e h = go (ℕ-discrete (r .unit) u) (each-voter P u z rs (e .1))
   where
     go : Dec (r .unit ≡ u) → (voterFor u rs .unit ≡ u → P (voterFor u rs)) → P (voterFor u (r ∷ rs))
-    go (yes q) ih = rw (voter-first u r rs q) (e .0)
-    go (no q) ih = rw (voter-behind u r rs q) (ih (rw (voter-behind u r rs q) at h))
+    go (yes q) ih = rw (find-first unitOf none u r rs q) (e .0)
+    go (no q) ih = rw (find-behind unitOf none u r rs q) (ih (rw (find-behind unitOf none u r rs q) at h))
 
 -- ---- each of a poll within rule is its unit's only one
 abbrev Own : List Voter → Voter → Type 0
@@ -39,13 +38,13 @@ Own vs v = voterFor (v .unit) vs ≡ v
 
 own-behind : (r : Voter) (rs vs : List Voter) → Each (λ v. r .unit ≡ v .unit → ⊥) vs → Each (Own rs) vs → Each (Own (r ∷ rs)) vs
 own-behind r rs vs n e =
-    each-also (λ v. (r .unit ≡ v .unit → ⊥) × Own rs v) (Own (r ∷ rs)) (λ v k. voter-behind (v .unit) r rs (k .0) ∙ k .1) vs
+    each-also (λ v. (r .unit ≡ v .unit → ⊥) × Own rs v) (Own (r ∷ rs)) (λ v k. find-behind unitOf none (v .unit) r rs (k .0) ∙ k .1) vs
     (each-both (λ v. r .unit ≡ v .unit → ⊥) (Own rs) vs n e)
 
 own-each : (rs : List Voter) → ascending rs ≡ true → Each (Own rs) rs
 own-each [] a = tt
 own-each (r ∷ rs) a = (
-  voter-first (r .unit) r rs refl,
+  find-first unitOf none (r .unit) r rs refl,
   own-behind r rs rs
       (each-also (λ v. ltb (r .unit) (v .unit) ≡ true) (λ v. r .unit ≡ v .unit → ⊥) (λ v h e. omega (arith, ltb-true (r .unit) (v .unit) h, e)) rs (each-of (λ v. ltb (r .unit) (v .unit)) rs (ascending-above unitOf r rs a)))
       (own-each rs (ascending-rest unitOf r rs a)),
@@ -60,7 +59,7 @@ module _ (p : Poll) (w : Within p) where
 
   own-all : Each (Own (allOf p)) (allOf p)
   own-all = (
-    voter-first (p .own) (selfOf p) (p .others) refl,
+    find-first unitOf none (p .own) (selfOf p) (p .others) refl,
     own-behind (selfOf p) (p .others) (p .others)
         (each-also (λ v. voterRule (p .own) v ≡ true) (λ v. p .own ≡ v .unit → ⊥) apart (p .others) ruled) (own-each (p .others) (w .ascends)),
   )

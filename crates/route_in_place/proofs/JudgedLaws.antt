@@ -5,21 +5,24 @@ use Rattle.octets.specs.Layouts.{fields}
 use Rattle.octets.specs.Lists.{tab, every}
 use Rattle.octets.specs.Numbers.{num}
 use Rattle.octets.proofs.LayoutLaws.{fields-part}
+use Rattle.octets.specs.Places.{firstKey}
 use Rattle.octets.proofs.NumberLaws.{num-part}
+use Rattle.octets.proofs.PlaceLaws.{none-first}
 use Rattle.octets.proofs.ListLaws.{length-tab, getD-tab}
 use Rattle.route_table.specs.declared.row.Row.{Row}
-use Rattle.route_table.specs.Places.{carriesRule, firstDestination, okPlaces}
-use Rattle.route_table.specs.Rows.{none, isNone, inUse, rowFor}
+use Rattle.route_table.specs.Places.{carriesRule, okPlaces}
+use Rattle.route_table.specs.Rows.{none, isNone, leadingTo, inUse, rowFor}
 use Rattle.route_table.specs.declared.table.Head.{Head}
 use Rattle.route_table.specs.Tables.{headOf, pairOk, withinRule}
 use Rattle.octets.specs.Addresses.{address}
-use Rattle.route_table.proofs.PlaceLaws.{rule-carries, ok-right, none-first}
+use Rattle.route_table.proofs.PlaceLaws.{rule-carries, ok-right}
 use Rattle.route_table.proofs.TableLaws.{table-right}
 use Rattle.route_bytes.specs.TableBytes.{rowWidths, rowFrom, rowAt, rowsIn, tableIn, flagsOk, isTable, holdsTable}
 use Rattle.route_bytes.proofs.TableByteLaws.{table-length, rows-in}
 use Rattle.octets.specs.Zeros.{isZero, zerosFrom}
 use Rattle.route_in_place.specs.declared.judging.Judged.{Judged}
-use Rattle.route_in_place.specs.Judged.{rowsOk, frontOk, rowStarting, judgedFor}
+use Rattle.route_in_place.specs.Judged.{rowsOk, frontOk, rowStarting}
+use Rattle.route_in_place.specs.Lookups.{judgedFor}
 use Rattle.octets.proofs.ZeroLaws.{fields-zero}
 
 -- ---- lists that are read from bytes, from a place on
@@ -85,7 +88,7 @@ regroup b true c f a e o h = rw (h refl) (go c f a)
 
 -- rows may follow one with this destination
 abbrev follow : ℕ → List Row → Bool
-follow below rs = eqb (firstDestination rs) 0 || ltb below (firstDestination rs)
+follow below rs = eqb (firstKey leadingTo rs) 0 || ltb below (firstKey leadingTo rs)
 
 -- an address is no higher than this
 abbrev few : ℕ → Bool
@@ -137,9 +140,9 @@ module _ (s : List ℕ) (l : length s ≡ 539) where
       ∙ sym (rw next at (fields-zero rowWidths s (11 + 11 * i) (omega arith)))))
 
   module _ (own last : ℕ) where
-    none-ok : (rs : List Row) → firstDestination rs ≡ 0 → okPlaces own last rs ≡ every isNone rs
+    none-ok : (rs : List Row) → firstKey leadingTo rs ≡ 0 → okPlaces own last rs ≡ every isNone rs
     unfolding every
-    none-ok rs z = ok-right own last rs ∙ rw (none-first rs z)
+    none-ok rs z = ok-right own last rs ∙ rw (none-first leadingTo rs z)
 
     module _ (wanted below at start : ℕ) (j : Judging s own last wanted below at start) where
       abbrev rows : List Row
@@ -172,7 +175,7 @@ module _ (s : List ℕ) (l : length s ≡ 539) where
           same : r ≡ rowAt s (j .place)
           same = part-row s (j .place) r (rw (j .here) at read)
 
-          first : firstDestination rows ≡ r .destination
+          first : firstKey leadingTo rows ≡ r .destination
           first = rw (tab-from 48 (rowAt s) (j .place) inside, ← same)
 
           -- a place that is not above the row below: an empty one, where there may be zeros alone, or one that is no zeros
@@ -182,12 +185,12 @@ module _ (s : List ℕ) (l : length s ≡ 539) where
             where
               go : Dec (r .destination ≡ 0) → Passed s own last wanted start below at
               go (yes z) =
-                  let none : firstDestination rows ≡ 0 = first ∙ z in
+                  let none : firstKey leadingTo rows ≡ 0 = first ∙ z in
                   let zeros : (every small flags && okPlaces own last rows) ≡ zerosFrom (11 + 11 * j .place) s =
                   ap (λ (b : Bool). every small flags && b) (none-ok rows none) ∙ behind (48 - j .place) (j .place) (omega (arith, inside)) in (
-                    rw (j .here, lt-ltb 0 (11 + 11 * j .place) (omega arith), ← zeros) (rw (eq-eqb (firstDestination rows) 0 none) at (j .rest)),
+                    rw (j .here, lt-ltb 0 (11 + 11 * j .place) (omega arith), ← zeros) (rw (eq-eqb (firstKey leadingTo rows) 0 none) at (j .rest)),
                     j .room,
-                    λ t. found (none-first rows none),
+                    λ t. found (none-first leadingTo rows none),
                   )
               go (no n) =
                   let number : num 2 s (11 + 11 * j .place) ≡ r .destination = sym (ap (λ (x : Row). x .destination) same) in
@@ -253,7 +256,7 @@ module _ (s : List ℕ) (l : length s ≡ 539) where
 
 pub judging : (s : List ℕ) (own last wanted : ℕ) → Judging s own last wanted 0 0 11
 judging s own last wanted =
-    record { place = 0; here = refl; within = omega arith; rest = rw (above-none (firstDestination (tab 48 (rowAt s)))); room = omega arith; left = refl; once = λ z. absurd (z refl) }
+    record { place = 0; here = refl; within = omega arith; rest = rw (above-none (firstKey leadingTo (tab 48 (rowAt s)))); room = omega arith; left = refl; once = λ z. absurd (z refl) }
   where
     above-none : (d : ℕ) → (eqb d 0 || ltb 0 d) ≡ true
     above-none d = go (ℕ-discrete d 0)

@@ -8,10 +8,9 @@ use Rattle.octets.specs.Lists.{tab}
 use Rattle.octets.specs.Layouts.{fields}
 use Rattle.octets.specs.Zeros.{zerosFrom}
 use Rattle.route_table.specs.declared.row.Row.{Row}
-use Rattle.route_table.specs.Rows.{none, rowFor}
+use Rattle.route_table.specs.Rows.{none}
 use Rattle.route_table.specs.Places.{okPlaces}
-use Rattle.route_bytes.specs.TableBytes.{rowWidths, rowFrom, rowAt, rowsIn, flagsOk, holdsTable}
-use Rattle.route_in_place.specs.declared.judging.Judged.{Judged}
+use Rattle.route_bytes.specs.TableBytes.{rowWidths, rowFrom, rowAt, flagsOk}
 
 -- the rows of a table's bytes: each flag is 0 or 1, and each place may stand before the next
 abbrev pub rowsOk : ℕ → ℕ → List ℕ → Bool
@@ -24,7 +23,3 @@ frontOk end highest s = ltb 0 end && (leb highest 0xFFFE && zerosFrom end s)
 -- the row that starts at a byte, none for 0
 abbrev pub rowStarting : ℕ → List ℕ → Row
 rowStarting at s = cond (eqb at 0) none (rowFrom (fields rowWidths s at))
-
--- what is believed: whether bytes hold a table within rule, and its row for a destination
-abbrev pub judgedFor : ℕ → List ℕ → Judged
-judgedFor d s = record { holds = holdsTable s; row = cond (holdsTable s) (rowFor d (rowsIn s)) none }

@@ -3,10 +3,11 @@
 use Rattle.octets.proofs.Words.{_≡_, refl, sym, ap, _∙_, Bool, true, false, not, cond, List, [], _∷_, ℕ, eqb-true, eqb-false, not-true, eqb}
 use Rattle.octets.specs.Lists.{Each}
 use Rattle.octets.proofs.AddressLaws.{address-some}
+use Rattle.octets.proofs.OrderLaws.{find-other}
 use Rattle.frame_kinds.specs.Shape.{partIn}
 use Rattle.frame_traffic.specs.Traffic.{update, entriesOf}
 use Rattle.route_table.specs.declared.row.Row.{Row}
-use Rattle.route_table.specs.Rows.{withdrawnAt, standing, rowFor}
+use Rattle.route_table.specs.Rows.{none, leadingTo, withdrawnAt, standing, rowFor}
 use Rattle.route_table.specs.Tables.{rowsOf}
 use Rattle.route_table.proofs.RuleLaws.{rows-of-pad}
 use Rattle.route_merges.specs.declared.candidate.Candidate.{Candidate}
@@ -17,7 +18,6 @@ use Rattle.route_merges.specs.Merges.{updateIn, mergedRows, mergeOf}
 use Rattle.route_merges.proofs.CandidateLaws.{offers-each}
 use Rattle.route_merges.proofs.KeepLaws.{merge-rules, merge-gives}
 use Rattle.route_merges.proofs.LearnLaws.{by-learn, by-learn-all}
-use Rattle.route_merges.proofs.HasLaws.{put-other}
 
 module _ (d : ℕ) (some : d ≡ 0 → ⊥) where
   -- the row for another destination is not this one's
@@ -36,8 +36,8 @@ module _ (d : ℕ) (some : d ≡ 0 → ⊥) where
   module _ (via time : ℕ) where
     learn-other : (c : Candidate) → Other c → (l : Learned) → rowFor d (learn via time c l .rows) ≡ rowFor d (l .rows)
     learn-other c n l =
-        by-learn (λ rs. rowFor d rs ≡ rowFor d (l .rows)) via time c l refl (λ b room. put-other d (rowBy via time c) n (l .rows))
-        (λ there t. put-other d (withdrawnAt time (rowFor (c .destination) (l .rows))) (row-other (c .destination) n (l .rows)) (l .rows))
+        by-learn (λ rs. rowFor d rs ≡ rowFor d (l .rows)) via time c l refl (λ b room. find-other leadingTo none d (rowBy via time c) n (l .rows))
+        (λ there t. find-other leadingTo none d (withdrawnAt time (rowFor (c .destination) (l .rows))) (row-other (c .destination) n (l .rows)) (l .rows))
 
     learn-all-other : (cs : List Candidate) → Each Other cs → (l : Learned) → rowFor d (learnAll via time cs l .rows) ≡ rowFor d (l .rows)
     learn-all-other cs o l =

@@ -1,15 +1,10 @@
 -- The row for a destination among some rows, in any order: the first with it, what holds of it, and where it stands.
 -- Assumes nothing.
-use Rattle.octets.proofs.Words.{_≡_, refl, sym, _∙_, Bool, true, false, cond, and-eq-true-iff, List, [], _∷_, _⊎_, inl, inr, ℕ, suc, _<_, ℕ-discrete, arith, eq-eqb, ne-eqb, eqb, length, getD}
+use Rattle.octets.proofs.Words.{_≡_, refl, sym, _∙_, Bool, true, false, cond, and-eq-true-iff, List, [], _∷_, _⊎_, inl, inr, ℕ, suc, _<_, ℕ-discrete, arith, eqb, length, getD}
 use Rattle.octets.specs.Lists.{every, Each}
+use Rattle.octets.proofs.OrderLaws.{find-first, find-behind}
 use Rattle.route_table.specs.declared.row.Row.{Row}
-use Rattle.route_table.specs.Rows.{none, rowFor}
-
-pub row-first : (d : ℕ) (r : Row) (rs : List Row) → r .destination ≡ d → rowFor d (r ∷ rs) ≡ r
-row-first d r rs e = rw (eq-eqb (r .destination) d e)
-
-pub row-behind : (d : ℕ) (r : Row) (rs : List Row) → (r .destination ≡ d → ⊥) → rowFor d (r ∷ rs) ≡ rowFor d rs
-row-behind d r rs e = rw (ne-eqb (r .destination) d e)
+use Rattle.route_table.specs.Rows.{none, leadingTo, rowFor}
 
 -- a destination has a row
 abbrev pub Has : ℕ → List Row → Type 0
@@ -21,8 +16,8 @@ each-row P d z [] e h = absurd (omega arith)
 each-row P d z (r ∷ rs) e h = go (ℕ-discrete (r .destination) d) (each-row P d z rs (e .1))
   where
     go : Dec (r .destination ≡ d) → (Has d rs → P (rowFor d rs)) → P (rowFor d (r ∷ rs))
-    go (yes q) ih = rw (row-first d r rs q) (e .0)
-    go (no q) ih = rw (row-behind d r rs q) (ih (rw (row-behind d r rs q) at h))
+    go (yes q) ih = rw (find-first leadingTo none d r rs q) (e .0)
+    go (no q) ih = rw (find-behind leadingTo none d r rs q) (ih (rw (find-behind leadingTo none d r rs q) at h))
 
 -- what holds of every row holds of the one that is looked up, if there is one
 pub row-for-every : (test : Row → Bool) (d : ℕ) (rs : List Row) → every test rs ≡ true → (test (rowFor d rs) ≡ true) ⊎ (rowFor d rs ≡ none)
@@ -42,7 +37,7 @@ place d z [] h = absurd (omega arith)
 place d z (r ∷ rs) h = go (ℕ-discrete (r .destination) d) (place d z rs)
   where
     go : Dec (r .destination ≡ d) → (Has d rs → (i : ℕ) × (i < length rs) × (getD rs i none ≡ rowFor d rs)) → (i : ℕ) × (i < suc (length rs)) × (getD (r ∷ rs) i none ≡ rowFor d (r ∷ rs))
-    go (yes e) ih = (0, omega arith, sym (row-first d r rs e))
+    go (yes e) ih = (0, omega arith, sym (find-first leadingTo none d r rs e))
     go (no e) ih =
-        let (i, l, k) = ih (rw (row-behind d r rs e) at h) in
-        (suc i, omega arith, k ∙ sym (row-behind d r rs e))
+        let (i, l, k) = ih (rw (find-behind leadingTo none d r rs e) at h) in
+        (suc i, omega arith, k ∙ sym (find-behind leadingTo none d r rs e))

@@ -1,13 +1,14 @@
 -- Needs no belief, laws carry it to the list of rows: what the code sees of a table's 48 places, with no order required.
 -- Assumes nothing.
 use Prim.Native.Nat.{ℕ}
-use mathlib.Core.Bool.{Bool, true, not, _&&_, _||_, cond}
-use mathlib.Core.List.{List, [], _∷_}
-use lib.Dec.{eqb, leb, ltb}
+use mathlib.Core.Bool.{Bool, not, _&&_}
+use mathlib.Core.List.{List}
+use lib.Dec.{eqb, leb}
 use Rattle.octets.specs.Addresses.{address}
 use Rattle.moments.specs.Moments.{inOrder}
 use Rattle.route_table.specs.declared.row.Row.{Row}
-use Rattle.route_table.specs.Rows.{rowRule, isNone}
+use Rattle.octets.specs.Places.{okBefore, okPlacesBy}
+use Rattle.route_table.specs.Rows.{rowRule, isNone, leadingTo}
 
 -- a row keeps the rules but for its destination being an address, which is told by the order of the rows
 abbrev pub carriesRule : ℕ → ℕ → Row → Bool
@@ -18,17 +19,10 @@ carriesRule own last r =
     && leb 40 (r .quality)
     && inOrder (r .time) last
 
--- a place may stand before one with the destination `after`, 0 for none: empty before nothing, or within rule and below it
+-- a place may stand before one with the destination `after`, 0 for none
 abbrev pub okRow : ℕ → ℕ → Row → ℕ → Bool
-okRow own last r after =
-    cond (eqb (r .destination) 0) (isNone r && eqb after 0) (rowRule own last r && (eqb after 0 || ltb (r .destination) after))
-
--- the destination of the first place, 0 where there is none
-abbrev pub firstDestination : List Row → ℕ
-firstDestination [] = 0
-firstDestination (r ∷ rs) = r .destination
+okRow own last r after = okBefore leadingTo isNone (rowRule own last) r after
 
 -- each place may stand before the next
 abbrev pub okPlaces : ℕ → ℕ → List Row → Bool
-okPlaces own last [] = true
-okPlaces own last (r ∷ rs) = okRow own last r (firstDestination rs) && okPlaces own last rs
+okPlaces own last rs = okPlacesBy leadingTo isNone (rowRule own last) rs

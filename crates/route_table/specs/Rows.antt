@@ -6,7 +6,7 @@ use mathlib.Core.List.{List, [], _∷_, _++_}
 use lib.Dec.{eqb, leb}
 use lib.ListN.{length, replicate}
 use Rattle.octets.specs.Lists.{every}
-use Rattle.octets.specs.Ordered.{ascendingBy}
+use Rattle.octets.specs.Ordered.{ascendingBy, findBy, inUseBy}
 use Rattle.moments.specs.Moments.{ageAt, inOrder}
 use Rattle.octets.specs.Addresses.{address}
 use Rattle.route_table.specs.declared.row.Row.{Row}
@@ -72,8 +72,7 @@ ascending rs = ascendingBy leadingTo rs
 
 -- the rows in use: up to the first place that is not
 abbrev pub inUse : List Row → List Row
-inUse [] = []
-inUse (r ∷ rs) = cond (eqb (r .destination) 0) [] (r ∷ inUse rs)
+inUse rs = inUseBy leadingTo rs
 
 -- the 48 places of a table that holds these rows
 unfoldable pub pad : List Row → List Row
@@ -90,5 +89,4 @@ standingPlaces time places = cond (every (stands time) (inUse places)) places (p
 
 -- the row for a destination, `none` where there is none
 abbrev pub rowFor : ℕ → List Row → Row
-rowFor d [] = none
-rowFor d (r ∷ rs) = cond (eqb (r .destination) d) r (rowFor d rs)
+rowFor d rs = findBy leadingTo none d rs

@@ -3,10 +3,10 @@
 use Rattle.octets.proofs.Words.{_≡_, refl, sym, ap, _∙_, Bool, true, false, _||_, cond, and-eq-true-iff, false≢true, List, [], _∷_, ℕ, suc, _+_, _≤_, arith, eqb-true, ltb-true, eqb, ltb, length}
 use Rattle.octets.specs.Lists.{every, Each, some}
 use Rattle.octets.proofs.TestLaws.{or-left, or-right, or-elim}
-use Rattle.octets.proofs.OrderLaws.{ascending-rest, ascending-above}
+use Rattle.octets.proofs.OrderLaws.{ascending-rest, ascending-above, find-first, find-behind}
 use Rattle.route_table.specs.declared.row.Row.{Row}
-use Rattle.route_table.specs.Rows.{leadingTo, ascending}
-use Rattle.route_table.proofs.HasLaws.{row-first, Has, row-behind}
+use Rattle.route_table.specs.Rows.{none, leadingTo, ascending}
+use Rattle.route_table.proofs.HasLaws.{Has}
 use Rattle.site_converges.specs.Sites.{among}
 
 -- a list without the first place where a number stands
@@ -57,8 +57,8 @@ no-more (r ∷ rs) l a e =
 none-for : (d : ℕ) (rs : List Row) → (Has d rs → ⊥) → Each (λ r. r .destination ≡ d → ⊥) rs
 none-for d [] h = tt
 none-for d (r ∷ rs) h =
-    let here : r .destination ≡ d → ⊥ = λ e. h (ap (λ (x : Row). x .destination) (row-first d r rs e) ∙ e) in
-    (here, none-for d rs (λ k. h (ap (λ (x : Row). x .destination) (row-behind d r rs here) ∙ k)))
+    let here : r .destination ≡ d → ⊥ = λ e. h (ap (λ (x : Row). x .destination) (find-first leadingTo none d r rs e) ∙ e) in
+    (here, none-for d rs (λ k. h (ap (λ (x : Row). x .destination) (find-behind leadingTo none d r rs here) ∙ k)))
 
 -- rows for other units of a list than u leave room for one more that has none
 module _ (l : List ℕ) (u d : ℕ) (mu : among u l ≡ true) (md : among d l ≡ true) (n : d ≡ u → ⊥) where

@@ -7,14 +7,14 @@ use Rattle.octets.proofs.TestLaws.{of-cond, or-elim, by-bool}
 use Rattle.moments.specs.Moments.{ageAt}
 use Rattle.moments.proofs.MomentLaws.{age-between}
 use Rattle.octets.specs.Addresses.{address}
-use Rattle.octets.proofs.OrderLaws.{put-ascending}
+use Rattle.octets.proofs.OrderLaws.{put-ascending, find-put}
 use Rattle.route_table.specs.declared.row.Row.{Row}
-use Rattle.route_table.specs.Rows.{leadingTo, usable, stands, ascending, rowFor}
+use Rattle.route_table.specs.Rows.{none, leadingTo, usable, stands, ascending, rowFor}
 use Rattle.route_table.proofs.HasLaws.{Has, each-row}
 use Rattle.route_merges.specs.declared.candidate.Candidate.{Candidate}
 use Rattle.route_merges.specs.Candidates.{bad}
 use Rattle.route_merges.specs.Learning.{put, rowBy, givesWay, takenBack, Learned, met, newTo, learn, learnAll}
-use Rattle.route_merges.proofs.HasLaws.{put-has, row-put, each-put, learn-all-has}
+use Rattle.route_merges.proofs.HasLaws.{put-has, each-put, learn-all-has}
 use Rattle.site_converges.specs.Sites.{Site, Sited, Fewest, among, within}
 use Rattle.site_converges.specs.Courses.{Course, span, sinceBegan, InTime}
 use Rattle.site_converges.proofs.SiteLaws.{among-every, within-more, reached, fewest-step}
@@ -192,7 +192,7 @@ module _ (s : Site) (c : Course) (z : Sited s) (u : ℕ) (m : among u (s .units)
           }
 
       has-put : Has d (put (rowBy via time x) (l .rows))
-      has-put = ap (λ (q : Row). q .destination) (row-put (rowBy via time x) (l .rows))
+      has-put = ap (λ (q : Row). q .destination) (find-put leadingTo none (rowBy via time x) (l .rows))
 
       room : (Has d (l .rows) → ⊥) → length (l .rows) < 48
       room n =

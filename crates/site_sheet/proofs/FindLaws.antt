@@ -1,28 +1,9 @@
--- What is in lists: elements that pass a test, what each of them gives, and the first of those that are named.
+-- What is in lists: what each element gives, and the first of those that are named.
 -- Assumes nothing.
-use Rattle.octets.proofs.Words.{_≡_, refl, sym, ap, subst, _∙_, Bool, true, false, and-eq-true-iff, false≢true, List, [], _∷_, List·Memᴰ, List·Memᴰ·head, List·Memᴰ·tail, ⊎-elim, _≤_, arith, eq-eqb, ltb-true, ltb-false, leb-true, leb-false, eqb-true, eqb, leb, ltb}
+use Rattle.octets.proofs.Words.{_≡_, refl, sym, ap, subst, Bool, true, false, and-eq-true-iff, List, [], _∷_, List·Memᴰ, List·Memᴰ·head, List·Memᴰ·tail, ⊎-elim, _≤_, arith, eq-eqb, ltb-true, ltb-false, leb-true, leb-false, eqb-true, eqb, leb, ltb}
 use mathlib.Core.List.{List·Memᴰ·not-nil, List·Memᴰ·append-cases, List·Memᴰ·eq-of-singleton, Memᴰ·append-left, Memᴰ·append-right}
-use Rattle.octets.specs.Lists.{every, some}
-use Rattle.octets.proofs.TestLaws.{or-elim, or-left, or-right, neither, of-cond}
+use Rattle.octets.proofs.TestLaws.{or-elim, neither, of-cond}
 use Rattle.site_sheet.specs.Verdicts.{Named, gather, only, upTo, Found, nobody, found, sooner, soonest}
-
--- ---- a test of every element, or of some
-module _ {A : Type 0} (test : A → Bool) where
-  pub every-in : (l : List A) {a : A} → every test l ≡ true → List·Memᴰ a l → test a ≡ true
-  unfolding every
-  every-in (x ∷ l) h (List·Memᴰ·head e) = ap test e ∙ and-eq-true-iff (test x) (every test l) .0 h .0
-  every-in (x ∷ l) h (List·Memᴰ·tail m) = every-in l (and-eq-true-iff (test x) (every test l) .0 h .1) m
-
-  pub some-in : (l : List A) → some test l ≡ true → (a : A) × List·Memᴰ a l × (test a ≡ true)
-  unfolding some
-  some-in [] h = absurd (false≢true h)
-  some-in (x ∷ l) h =
-      or-elim _ (test x) (some test l) h (λ t. (x, List·Memᴰ·head refl, t)) (λ t. let (a, m, s) = some-in l t in (a, List·Memᴰ·tail m, s))
-
-  pub in-some : (l : List A) {a : A} → List·Memᴰ a l → test a ≡ true → some test l ≡ true
-  unfolding some
-  in-some (x ∷ l) (List·Memᴰ·head e) t = or-left (test x) (some test l) (sym (ap test e) ∙ t)
-  in-some (x ∷ l) (List·Memᴰ·tail m) t = or-right (test x) (some test l) (in-some l m t)
 
 -- ---- what each gives
 module _ {A : Type 0} (f : A → List Named) where

@@ -2,6 +2,7 @@
 -- Assumes nothing.
 use Rattle.octets.proofs.Words.{_≡_, sym, subst, _∙_, Bool, true, false, not, _&&_, and-eq-true-iff, or-comm, false≢true, List, [], _∷_, List·Memᴰ, inl, inr, ℕ, arith, le-leb, leb-true, lt-ltb, ltb-true, ltb-false, eqb-true, not-true, eqb, leb, ltb}
 use Rattle.octets.specs.Lists.{every}
+use Rattle.octets.proofs.ListLaws.{every-in, some-in, in-some}
 use Rattle.octets.proofs.TestLaws.{or-elim, or-left, or-right, by-bool, all-hold}
 use Rattle.slot_sets.specs.Sets.{has, count, isEmpty, minus, disjoint, firsts}
 use Rattle.slot_sets.proofs.SetLaws.{disjoint-is-apart, subset-by-minus, firsts-has}
@@ -9,7 +10,6 @@ use Rattle.slot_sets.proofs.MaskLaws.{has-past}
 use Rattle.site_sheet.specs.Sheets.{Proposed, Link, joins, linked, between, common, near, isFor, listed, linkRule}
 use Rattle.site_sheet.specs.Verdicts.{unitRule, clash}
 use Rattle.site_sheet.specs.Laws.{Allotted, Near, Clash}
-use Rattle.site_sheet.proofs.FindLaws.{every-in, some-in, in-some}
 
 -- ---- a unit by itself
 module _ (d : ℕ) (g : Proposed) where

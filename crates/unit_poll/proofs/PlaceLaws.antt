@@ -1,19 +1,20 @@
 -- The 24 places of a poll's bytes against the list of others that they hold.
 -- Assumes nothing.
-use Rattle.octets.proofs.Words.{_≡_, refl, sym, ap, ap₂, _∙_, Bool, true, false, not, _&&_, _||_, cond, and-true, and-false, and-assoc, and-eq-true-iff, List, [], _∷_, ℕ, zero, suc, _+_, _*_, _-_, _≤_, _<_, ℕ-discrete, add-one, arith, eq-eqb, ne-eqb, le-leb, not-true, not-false, eqb, leb, ltb, length, getD, drop, drop-of-length-le, drop-cons}
+use Rattle.octets.proofs.Words.{_≡_, refl, sym, ap, ap₂, _∙_, Bool, true, false, not, _&&_, cond, and-true, List, [], _∷_, ℕ, zero, suc, _+_, _*_, _-_, _≤_, _<_, ℕ-discrete, add-one, arith, eq-eqb, ne-eqb, le-leb, not-true, not-false, eqb, length, getD, drop, drop-of-length-le, drop-cons}
 use Rattle.octets.specs.Addresses.{address}
 use Rattle.octets.specs.Layouts.{fields}
-use Rattle.octets.specs.Lists.{tab, every}
+use Rattle.octets.specs.Lists.{every}
 use Rattle.octets.specs.Numbers.{num}
+use Rattle.octets.specs.Places.{firstKey}
 use Rattle.octets.specs.Zeros.{isZero, zerosFrom}
 use Rattle.octets.proofs.ListLaws.{length-tab, getD-tab}
 use Rattle.octets.proofs.NumberLaws.{num-past}
+use Rattle.octets.proofs.PlaceLaws.{ok-right}
 use Rattle.octets.proofs.ZeroLaws.{fields-zero}
 use Rattle.unit_poll.specs.declared.voter.Voter.{Voter}
-use Rattle.unit_poll.specs.Places.{isNone, okVoter, firstUnit, okPlaces}
+use Rattle.unit_poll.specs.Places.{isNone, okVoter, okPlaces}
 use Rattle.unit_poll.specs.PollBytes.{voterWidths, voterAt, inUse, placesIn, pollIn, holdsPoll}
-use Rattle.unit_poll.specs.Polls.{pollRule}
-use Rattle.unit_poll.specs.Voters.{none, voterRule, ascending}
+use Rattle.unit_poll.specs.Voters.{none, unitOf, voterRule, ascending}
 
 -- ---- places that are read from bytes
 module _ (s : List ℕ) where
@@ -32,11 +33,11 @@ module _ (s : List ℕ) where
       drop-of-length-le (placesIn s) k
 
 -- the one behind a place; behind the last there are no bytes
-pub behind-first : (s : List ℕ) → length s ≡ 75 → (i : ℕ) → i < 24 → firstUnit (drop (i + 1) (placesIn s)) ≡ voterAt s (i + 1) .unit
+pub behind-first : (s : List ℕ) → length s ≡ 75 → (i : ℕ) → i < 24 → firstKey unitOf (drop (i + 1) (placesIn s)) ≡ voterAt s (i + 1) .unit
 unfolding voterAt
 behind-first s l i h = go (ℕ-discrete i 23)
   where
-    go : Dec (i ≡ 23) → firstUnit (drop (i + 1) (placesIn s)) ≡ num 2 s (3 + 3 * (i + 1))
+    go : Dec (i ≡ 23) → firstKey unitOf (drop (i + 1) (placesIn s)) ≡ num 2 s (3 + 3 * (i + 1))
     go (yes e) = rw (places-past s (i + 1) (omega arith)) (sym (num-past 2 s (3 + 3 * (i + 1)) (omega (arith, l, e))))
     go (no e) = rw (places-from s (i + 1) (omega (arith, h, e)))
 
@@ -54,52 +55,10 @@ module _ (s : List ℕ) (l : length s ≡ 75) (own i : ℕ) (h : i < 24) (e : ok
 pub ok-end : (s : List ℕ) (own i : ℕ) → 24 ≤ i → okPlaces own (drop i (placesIn s)) ≡ okPlaces own (placesIn s) → true ≡ okPlaces own (placesIn s)
 ok-end s own i h e = rw (places-past s i h) at e
 
--- ---- the places are right exactly if the others that they hold are, and empty places stand behind them
-none-first : (vs : List Voter) → firstUnit vs ≡ 0 → inUse vs ≡ []
-none-first [] e = refl
-none-first (v ∷ vs) e = rw (eq-eqb (v .unit) 0 e)
-
-some-first : (vs : List Voter) → (firstUnit vs ≡ 0 → ⊥) → every isNone vs ≡ false
-unfolding every
-some-first [] e = absurd (e refl)
-some-first (v ∷ vs) e = rw (ne-eqb (v .unit) 0 e)
-
-ascending-cons : (v : Voter) (vs : List Voter) → ascending (v ∷ inUse vs) ≡ ((eqb (firstUnit vs) 0 || ltb (v .unit) (firstUnit vs)) && ascending (inUse vs))
-ascending-cons v [] = refl
-ascending-cons v (w ∷ vs) = go (eqb (w .unit) 0) refl
-  where
-    go : (b : Bool) → eqb (w .unit) 0 ≡ b
-        → ascending (v ∷ cond (eqb (w .unit) 0) [] (w ∷ inUse vs))
-        ≡ ((eqb (w .unit) 0 || ltb (v .unit) (w .unit)) && ascending (cond (eqb (w .unit) 0) [] (w ∷ inUse vs)))
-    go true q = rw q
-    go false q = rw q
-
-regroup : (r o a e n : Bool) → (r && o && (a && e && n)) ≡ (o && a && (r && e) && n)
-regroup true true a e n = refl
-regroup true false a e n = refl
-regroup false true true e n = refl
-regroup false true false e n = refl
-regroup false false a e n = refl
-
-module _ (own : ℕ) where
-  abbrev Right : List Voter → Bool
-  Right vs = ascending (inUse vs) && every (voterRule own) (inUse vs) && every isNone (drop (length (inUse vs)) vs)
-
-  ok-right : (vs : List Voter) → okPlaces own vs ≡ Right vs
-  unfolding every
-  ok-right [] = refl
-  ok-right (v ∷ vs) = go (eqb (v .unit) 0) refl (ℕ-discrete (firstUnit vs) 0) (ok-right vs)
-    where
-      go : (b : Bool) → eqb (v .unit) 0 ≡ b → Dec (firstUnit vs ≡ 0) → okPlaces own vs ≡ Right vs → okPlaces own (v ∷ vs) ≡ Right (v ∷ vs)
-      go true q (yes z) ih =
-          let e = rw (none-first vs z) at ih in
-          simp (q, eq-eqb (firstUnit vs) 0 z, e, and-true)
-      go true q (no z) ih = simp (q, ne-eqb (firstUnit vs) 0 z, some-first vs z, and-false)
-      go false q d ih =
-          rw (q, ih, ascending-cons v vs)
-          (regroup (voterRule own v) (eqb (firstUnit vs) 0 || ltb (v .unit) (firstUnit vs)) (ascending (inUse vs)) (every (voterRule own) (inUse vs)) _)
-
 -- ---- empty places are zeros
+not-none : (v : Voter) → (v .unit ≡ 0 → ⊥) → isNone v ≡ false
+not-none v e = rw (ne-eqb (v .unit) 0 e)
+
 place-none : (s : List ℕ) (i : ℕ) → isNone (voterAt s i) ≡ every isZero (fields voterWidths s (3 + 3 * i))
 unfolding voterAt every
 place-none s i = sym (ap (λ (b : Bool). isZero (num 2 s (3 + 3 * i)) && b) (and-true (isZero (num 1 s (3 + 3 * i + 2)))))
@@ -135,7 +94,7 @@ unfolding holdsPoll pollIn
 judged s l unit places u p =
     let vs = inUse (placesIn s) in
     let zeros = none-zeros s l (24 - length vs) (length vs) (omega (arith, others-few s)) in
-    rw (u, p, ok-right (num 2 s 0) (placesIn s), zeros, eq-eqb (length s) 75 l, le-leb (length vs) 24 (others-few s))
+    rw (u, p, ok-right unitOf isNone (voterRule (num 2 s 0)) not-none (placesIn s), zeros, eq-eqb (length s) 75 l, le-leb (length vs) 24 (others-few s))
     (flat (address (num 2 s 0)) (ascending vs) (every (voterRule (num 2 s 0)) vs) (zerosFrom (3 + 3 * length vs) s))
   where
     flat : (a o r z : Bool) → (a && (o && r && z)) ≡ (a && o && r && true && z)

@@ -1,29 +1,23 @@
 -- Needs no belief, laws carry it to the list of others: what the code sees of a poll's 24 places, with no order required.
 -- Assumes nothing.
 use Prim.Native.Nat.{ℕ}
-use mathlib.Core.Bool.{Bool, true, false, not, _&&_, _||_, cond}
+use mathlib.Core.Bool.{Bool, not, _&&_, _||_, cond}
 use mathlib.Core.List.{List, [], _∷_}
 use lib.Dec.{eqb, ltb}
 use Rattle.unit_poll.specs.declared.voter.Voter.{Voter}
-use Rattle.unit_poll.specs.Voters.{voterRule}
+use Rattle.octets.specs.Places.{okBefore, okPlacesBy}
+use Rattle.unit_poll.specs.Voters.{unitOf, voterRule}
 
 abbrev pub isNone : Voter → Bool
 isNone v = eqb (v .unit) 0 && eqb (v .priority) 0
 
--- a place may stand before one of the unit `after`, 0 for none: empty before nothing, or within rule and below it
+-- a place may stand before one of the unit `after`, 0 for none
 abbrev pub okVoter : ℕ → Voter → ℕ → Bool
-okVoter own v after =
-    cond (eqb (v .unit) 0) (isNone v && eqb after 0) (voterRule own v && (eqb after 0 || ltb (v .unit) after))
-
--- the unit of the first place, 0 where there is none
-abbrev pub firstUnit : List Voter → ℕ
-firstUnit [] = 0
-firstUnit (v ∷ vs) = v .unit
+okVoter own v after = okBefore unitOf isNone (voterRule own) v after
 
 -- each place may stand before the next
 abbrev pub okPlaces : ℕ → List Voter → Bool
-okPlaces own [] = true
-okPlaces own (v ∷ vs) = okVoter own v (firstUnit vs) && okPlaces own vs
+okPlaces own vs = okPlacesBy unitOf isNone (voterRule own) vs
 
 -- the places when a message is sifted in: it passes the lower ones and takes the place of the next. That is the end where it was empty or the same unit's,
 -- else what stood there goes on; once it is at its end, every place stays

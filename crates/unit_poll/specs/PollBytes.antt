@@ -9,10 +9,11 @@ use Rattle.octets.specs.Calls.{after, stored}
 use Rattle.octets.specs.Layouts.{fields, bytes, inTurn}
 use Rattle.octets.specs.Lists.{tab}
 use Rattle.octets.specs.Numbers.{num}
+use Rattle.octets.specs.Ordered.{inUseBy}
 use Rattle.octets.specs.Zeros.{zerosFrom}
 use Rattle.unit_poll.specs.declared.voter.Voter.{Voter}
 use Rattle.unit_poll.specs.declared.poll.Named.{Named}
-use Rattle.unit_poll.specs.Voters.{voter, none}
+use Rattle.unit_poll.specs.Voters.{voter, none, unitOf}
 use Rattle.unit_poll.specs.Polls.{Poll, mostOthers, pollRule, freshPoll, freshRefusal, hearRefusal, heardBy, winnerOf}
 
 -- ---- a message
@@ -38,8 +39,7 @@ pollSize = 75
 
 -- the others: up to the first place that is not in use
 abbrev pub inUse : List Voter → List Voter
-inUse [] = []
-inUse (v ∷ vs) = cond (eqb (v .unit) 0) [] (v ∷ inUse vs)
+inUse vs = inUseBy unitOf vs
 
 abbrev pub placesIn : List ℕ → List Voter
 placesIn s = tab mostOthers (voterAt s)

@@ -5,7 +5,7 @@ use mathlib.Core.Bool.{Bool, false, not, _&&_, _||_, cond}
 use mathlib.Core.List.{List, [], _∷_}
 use lib.Dec.{eqb, ltb}
 use Rattle.octets.specs.Addresses.{address}
-use Rattle.octets.specs.Ordered.{ascendingBy, putBy}
+use Rattle.octets.specs.Ordered.{ascendingBy, putBy, findBy}
 use Rattle.unit_poll.specs.declared.voter.Voter.{Voter}
 
 -- ---- one message: a unit, and the priority with which it would be the manager
@@ -47,8 +47,7 @@ known u (v ∷ vs) = eqb (v .unit) u || known u vs
 
 -- the one of a unit, `none` where it has none
 abbrev pub voterFor : ℕ → List Voter → Voter
-voterFor u [] = none
-voterFor u (v ∷ vs) = cond (eqb (v .unit) u) v (voterFor u vs)
+voterFor u vs = findBy unitOf none u vs
 
 -- the best of one and some others
 abbrev pub best : Voter → List Voter → Voter

@@ -4,8 +4,8 @@ ghost use mathlib.Core.Bool.{cond};
 ghost use lib.Seq.{sets};
 ghost use Prim.Native.Nat.{_+_, _*_};
 ghost use Rattle.octets.specs.Layouts.{bytes};
-ghost use Rattle.unit_poll.specs.Voters.{beats, better, voterRule};
-ghost use Rattle.unit_poll.specs.Places.{isNone, okVoter};
+ghost use Rattle.unit_poll.specs.Voters.{beats, better};
+ghost use Rattle.unit_poll.specs.Places.{okVoter};
 ghost use Rattle.unit_poll.specs.PollBytes.{voterWidths, voterValues, voterAt};
 use octets::addresses::is_address;
 use octets::fixed::put8;
@@ -46,7 +46,7 @@ impl Voter {
         ensures { λ r. ⌜ r ≡ okVoter own self after ⌝ }
     {
         if self.unit == 0 {
-            return (self.unit == 0) & (self.priority == 0) & (after == 0);
+            return (self.priority == 0) & (after == 0);
         }
         (is_address(self.unit) & !(self.unit == own)) & ((after == 0) | (self.unit < after))
     }

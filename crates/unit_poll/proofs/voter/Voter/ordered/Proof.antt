@@ -5,7 +5,7 @@ use Rattle.unit_poll.proofs.voter.Voter.ordered.Statement.{statement}
 use Rattle.unit_poll.proofs.voter.Voter.ordered.Tie as tie
 
 returns : tie.Need-returns
-returns c = rw (eq-eqb _ _ (c .before .before .if1 .taken))
+returns c = rw (eq-eqb _ _ (c .before .if1 .taken))
 
 returns-2 : tie.Need-returns-2
 returns-2 c =

@@ -1,5 +1,7 @@
 // The manager's side of the C boundary: the plan of a site, the member book, schedules and the stored image, with numbers and byte buffers.
 // A call returns 0 or document 01's refusal number; what it answers goes to buffers and out parameters, which a refusal leaves as they were.
+#![tactic(auto)]
+
 pub mod book_calls;
 pub mod image_calls;
 pub mod plan_calls;

@@ -1,5 +1,7 @@
 // The five kinds that a unit and the manager send each other, and the one by which units choose a manager. Of each: its record, the record of a
 // frame's bytes, whether it keeps its rules, and its numbers, the type first; and what refuses its bytes, where a call wants the kind alone.
+#![tactic(auto)]
+
 ghost use Rattle.std.specs.Prelude.{◌≡◌, [], ◌∷◌};
 ghost use Rattle.std.proofs.lemmas.List.Edits.{sets};
 ghost use Rattle.octets.specs.Layouts.{bytes};

@@ -1,7 +1,7 @@
 -- What is made of bytes: what stands before and behind others, the digits of numbers, and the XOR.
 -- Assumes nothing.
 use Rattle.octets.proofs.Words.{List, [], ◌∷◌, ◌++◌, ℕ, zero, suc, ◌/◌, ◌%◌, ◌<◌, arith, get_or}
-use lib.Bits.{xor_lt}
+use lib.Bits.{bit_xor, xor_lt}
 use Rattle.octets.specs.Layouts.{bytes, Bytes}
 use Rattle.octets.specs.Numbers.{digits}
 use Rattle.octets.specs.Sums.{xors}
@@ -36,4 +36,4 @@ layout_bytes (w ∷ ws) (v ∷ vs) = append_bytes (digits w v) (bytes ws vs) (di
 pub xors-byte : (x : ℕ) (s : List ℕ) → x < 256 → Bytes s → xors x s < 256
 unfolding xors
 xors-byte x [] h e = h
-xors-byte x (b ∷ s) h e = xors-byte _ s (xor_lt 8 x b h (e.small 0)) (rest-bytes b s e)
+xors-byte x (b ∷ s) h e = xors-byte (bit_xor x b) s (xor_lt 8 x b h (e.small 0)) (rest-bytes b s e)

@@ -1,1 +1,2 @@
 // What a poll comes to name over any messages: theorems alone, no code.
+#![tactic(auto)]

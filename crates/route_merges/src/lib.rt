@@ -1,4 +1,6 @@
 // What a table learns from the routing updates of its neighbours.
+#![tactic(auto)]
+
 pub mod candidate;
 pub mod merging;
 mod steps;

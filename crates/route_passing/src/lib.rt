@@ -1,4 +1,6 @@
 // What a forwarder needs of a beacon, apart from any layout; why a table does not pass it on, and what it records when it does.
+#![tactic(auto)]
+
 ghost use Rattle.std.specs.Prelude.{◌≡◌};
 ghost use Rattle.octets.specs.Answers.{first};
 ghost use Rattle.route_passing.specs.Passes.{again, passing_reasons, passed_head, pass_of};

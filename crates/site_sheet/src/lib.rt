@@ -1,4 +1,6 @@
 // Sheets: the check of a proposed reuse of data slots, over the caller's bytes.
+#![tactic(auto)]
+
 pub mod checking;
 mod judging;
 mod neighbours;

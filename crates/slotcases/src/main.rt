@@ -1,4 +1,6 @@
 // Draws each image that an argument names, one after the other, as slotview does.
+#![tactic(auto)]
+
 use book_drawing::viewing::view;
 use libc::STDOUT_FILENO;
 

@@ -1,4 +1,6 @@
 // slotview: reads a stored image from standard input and draws its site, or says that it is refused.
+#![tactic(auto)]
+
 use book_drawing::viewing::view;
 use libc::{STDIN_FILENO, STDOUT_FILENO};
 

@@ -1,4 +1,6 @@
 // The seven states of a unit, by value; events and ticks hand the next state back; and a state as the bytes that a C caller keeps.
+#![tactic(auto)]
+
 mod events;
 mod names;
 pub mod state;

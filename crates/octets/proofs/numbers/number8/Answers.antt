@@ -1,0 +1,11 @@
+-- `number8` reads the byte at a place.
+-- Assumes nothing.
+use Rattle.octets.proofs.Words.{sym, rules}
+use Rattle.octets.proofs.NumberLaws.{num-one, num-past}
+use Rattle.octets.proofs.numbers.number8.Goals as goal
+
+pub returns-then-at-s : goal.returns-then-at-s
+returns-then-at-s c = sym (num-one _ _)
+
+pub returns-else-at-s : goal.returns-else-at-s
+returns-else-at-s c = sym (num-past 1 _ _ c.if-at-s.false)

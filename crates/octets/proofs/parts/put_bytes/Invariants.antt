@@ -1,0 +1,12 @@
+-- `put_bytes`'s loop: to store the bytes that are left is to store them all.
+-- Assumes nothing.
+use Rattle.octets.proofs.StoreLaws.{copied}
+use Rattle.octets.proofs.Words.{◌≡◌, refl, sym, ◌∙◌, ◌+◌, ◌≤◌, ◌<◌, ◌-◌, min, add-zero, arith, rules, length, drop, length-set, sets}
+use Rattle.octets.proofs.StoreLaws.{sets-past, copy_turn}
+use Rattle.octets.proofs.parts.put_bytes.Given as goal
+
+abbrev pub invariant-loop-k : goal.invariant-loop-k
+invariant-loop-k l = (l.k ≤ l.n) × (l.n ≡ min (length l.s) (length l.initial.out - l.at)) × (length l.out ≡ length l.initial.out) × (sets l.out (l.at + l.k) (drop l.k l.s) ≡ sets l.initial.out l.at l.s)
+
+abbrev pub decreases-loop-k : goal.decreases-loop-k
+decreases-loop-k l = l.n - l.k

@@ -1,0 +1,14 @@
+-- `xor_of`'s loop: x is the XOR of the bytes passed.
+-- Assumes nothing.
+use Rattle.octets.proofs.PartLaws.{take_min}
+use Rattle.octets.proofs.Words.{◌≡◌, refl, ap, ◌∙◌, ℕ, ◌≤◌, ◌<◌, ◌-◌, min, add-one, arith, rules, length, take, get_or, take-suc}
+use lib.Bits.{bit_xor}
+use Rattle.octets.specs.Sums.{xors}
+use Rattle.octets.proofs.SumLaws.{xors_snoc}
+use Rattle.octets.proofs.sums.xor_of.Given as goal
+
+abbrev pub invariant-loop-i : goal.invariant-loop-i
+invariant-loop-i l = (l.i ≤ l.n) × (l.n ≡ min l.count (length l.s)) × (l.x ≡ xors 0 (take l.i l.s))
+
+abbrev pub decreases-loop-i : goal.decreases-loop-i
+decreases-loop-i l = l.n - l.i

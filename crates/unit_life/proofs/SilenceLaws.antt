@@ -71,7 +71,7 @@ stays_all s [] h q = h
 stays_all {since} s (c ∷ cs) h q =
     let (here, later) =
     (and-eq-true_iff (not (eqb (answer s c).refused 0) || early since c) (quiet (moved since (step_of s c)) (answer s c).state cs)).0 q in
-    stays_all (answer s c).state cs (stays c h here) later
+    stays_all {since = moved since (step_of s c)} (answer s c).state cs (stays c h here) later
 
 pub notices_silence : NoticesSilence
 notices_silence s cs ms time rule normal q e =

@@ -8,7 +8,7 @@ use octets::answers::{Refusal, refuse_if};
 use octets::choices::either32;
 
 // The kind is one of seven numbers; the times are the last accepted one, that of entry into the kind, and that of the last beacon.
-#[derive(Drop)]
+#[derive(Clone, Copy)]
 pub struct State {
     pub kind: u8,
     pub last: u32,

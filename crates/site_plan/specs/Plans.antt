@@ -1,6 +1,6 @@
 -- The site plan: what is computed from its numbers, where each region of its slots begins, and which numbers are refused.
 -- Assumes nothing.
-use Rattle.std.specs.Prelude.{ℕ, ◌+◌, ◌*◌, ◌/◌, min, max, Bool, true, not, ◌&&◌, ◌||◌, List, [], ◌∷◌, eqb, leb}
+use Rattle.std.specs.Prelude.{ℕ, ◌+◌, ◌*◌, ◌/◌, min, max, Bool, not, ◌&&◌, ◌||◌, List, [], ◌∷◌, eqb, leb}
 use Rattle.octets.specs.Answers.{Said, accepted, refused, reason, first, unless}
 use Rattle.octets.specs.Lists.{all}
 use Rattle.octets.specs.Addresses.{address, network}

@@ -1,0 +1,18 @@
+-- `put_section`: the section's numbers, one behind the other from the place on.
+-- Assumes nothing.
+use Rattle.octets.proofs.Words.{refl, arith}
+use Rattle.octets.proofs.StoreLaws.{all-put, put, done}
+use Rattle.site_plan.specs.PlanBytes.{section_widths, section_values, section_bytes}
+use Rattle.site_plan.proofs.plan_bytes.put_section.Goals as goal
+
+pub returns : goal.returns
+unfolding section_bytes
+returns c =
+    let a = c.args in
+    all-put a.out.now a.place section_widths (section_values a.plan) _
+    (put c.put16.ensures (omega arith)
+    (put c.put16-2.ensures (omega arith)
+    (put c.put8.ensures (omega arith)
+    (put c.put8-2.ensures (omega arith)
+    (put c.put8-3.ensures (omega arith)
+    (put c.put16-3.ensures refl done))))))

@@ -7,7 +7,7 @@ use moments::{age, in_order};
 use octets::addresses::is_address;
 
 // The largest field first, so that rows have no gaps.
-#[derive(Drop)]
+#[derive(Clone, Copy)]
 pub struct Row {
     pub time: u32,
     pub destination: u16,

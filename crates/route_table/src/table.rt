@@ -13,7 +13,7 @@ use octets::answers::{Refusal, refuse_if};
 use octets::choices::either32;
 
 // `forwarded` says whether a beacon was forwarded; `origin` and `sequence` are then the pair of the last one.
-#[derive(Drop)]
+#[derive(Clone, Copy)]
 pub struct Table {
     pub own: u16,
     pub time: u32,

@@ -9,7 +9,7 @@ returns c =
     let frame = c.before in
     let network = frame.before in
     let manager = network.before in
-    c.refuse-if3.ensures ∙ rw (network.refuse-if2.ensures, manager.refuse-if.ensures, frame.refusal.ensures, manager.before.is_Address.ensures)
+    c.refuse-if3.ensures ∙ rw (network.refuse-if2.ensures, manager.refuse-if.ensures, frame.refusal.ensures, manager.before.is_address.ensures)
 
 pub unread-spec : {M : Type 1} → statement M
 unread-spec = tie.close (tie.spec (λ c κs. search needs) (λ c κs. search needs) (λ c κs. search needs) (λ c κs. search needs) (λ c κs. search needs) returns)

@@ -28,7 +28,7 @@ row-starting-requires c κs =
     let pair = zeros.before in
     let rows = pair.before.before.before in
     rw rows.before.before.if1.false
-    (start_fits (address.is_Address.result && leb flag.number8.result 1 && pair.pair_ok.result && leb rows.rows-in-front.result.highest 0xFFFE && zeros.zeros-from.result) _ _ _ c.either-size.ensures rows.rows-in-front.ensures.1)
+    (start_fits (address.is_address.result && leb flag.number8.result 1 && pair.pair_ok.result && leb rows.rows-in-front.result.highest 0xFFFE && zeros.zeros-from.result) _ _ _ c.either-size.ensures rows.rows-in-front.ensures.1)
 
 returns-3 : tie.Need-returns-3
 returns-3 c =
@@ -44,7 +44,7 @@ returns-3 c =
     let a = head.before.before.before.before.args in
     let s = a.s.now in
     judged-row s head.before.if1.false head.head_of.result head.head_of.ensures a.wanted front.end front.highest front.at rows.rows-in-front.ensures _
-    (rw address.is_Address.ensures (all-judged s head.before.if1.false head.head_of.result head.head_of.ensures a.wanted front.end front.highest front.at rows.rows-in-front.ensures test.if2.false _ _ _ flag.number8.ensures pair.pair_ok.ensures zeros.zeros-from.ensures))
+    (rw address.is_address.ensures (all-judged s head.before.if1.false head.head_of.result head.head_of.ensures a.wanted front.end front.highest front.at rows.rows-in-front.ensures test.if2.false _ _ _ flag.number8.ensures pair.pair_ok.ensures zeros.zeros-from.ensures))
     _ place.either-size.ensures _ c.row-starting.ensures
 
 pub judged-for-spec : {M : Type 1} → statement M

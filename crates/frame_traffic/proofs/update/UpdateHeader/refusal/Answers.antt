@@ -8,4 +8,5 @@ use Rattle.frame_traffic.proofs.update.UpdateHeader.refusal.Goals as goal
 
 pub returns : goal.returns
 returns c =
-    refused_as update _ _ _ _ c.refused.ensures (c.good.ensures ∙ ap (λ (l : Lent). update.rule (update_values c.of-header.result) l.bytes) c.entries.ensures) c.of-header.ensures
+    refused_as update _ _ _ _ c.refused.ensures (c.good.ensures ∙ ap (λ (l : Lent). update.rule (update_values
+    c.of-header.result) l.bytes) c.entries.ensures) c.of-header.ensures

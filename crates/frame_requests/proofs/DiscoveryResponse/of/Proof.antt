@@ -1,9 +1,0 @@
--- `DiscoveryResponse::of`: each field stands where the layout says.
--- Assumes nothing.
-use borrow.Author.Rules.{rules}
-use Rattle.frame_requests.proofs.DiscoveryResponse.of.Statement.{statement}
-use Rattle.frame_requests.proofs.DiscoveryResponse.of.Tie as tie
-
-pub of_spec : {M : Type 1} → statement M
-of_spec =
-    tie.close (tie.spec (λ c κs. search rules) (λ c κs. search rules) (λ c κs. search rules) (λ c κs. search rules) (λ c κs. search rules) (λ c κs. search rules) (λ c. cc))

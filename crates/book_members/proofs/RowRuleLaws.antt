@@ -35,10 +35,10 @@ module _ (dataSlots : ℕ) (r : Row) where
       let inside = is_empty (minus r.slots (firsts dataSlots)) in
       let all : (unit && many && inside) ≡ true = rw f at e in
       let (e₂, in-firsts) = (and-eq-true_iff (unit && many) inside).0 all in
-      let (is_Address, e₁) = (and-eq-true_iff unit many).0 e₂ in
+      let (is_address, e₁) = (and-eq-true_iff unit many).0 e₂ in
       let (least, most) = (and-eq-true_iff (leb fewest_slots (count r.slots)) (leb (count r.slots) most_slots)).0 e₁ in
       record {
-        unit = is_Address;
+        unit = is_address;
         least = leb-true fewest_slots (count r.slots) least;
         most = leb-true (count r.slots) most_slots most;
         inside = (subset_by_minus 64 r.slots (firsts dataSlots)).0 in-firsts;
@@ -261,7 +261,7 @@ module _ {manager dataSlots last : ℕ} {rs : List Row} (g : Ruled manager dataS
     pub most : count slots ≤ most_slots
     pub spared : count slots ≤ needs old + spare dataSlots rs
 
-  module _ (small : dataSlots ≤ 64) (r : Row) (seat : Seat r.unit) (share : Share r.slots) (is_Address : address r.unit ≡ true) (past : in_order r.time last ≡ true) where
+  module _ (small : dataSlots ≤ 64) (r : Row) (seat : Seat r.unit) (share : Share r.slots) (is_address : address r.unit ≡ true) (past : in_order r.time last ≡ true) where
     -- a slot of it was the row's, or no one's
     taken : {P : Type 0} (i : ℕ) → has r.slots i ≡ true → (has old.slots i ≡ true → P) → (has (firsts dataSlots) i ≡ true → has (held_slots rs) i ≡ false → P) → P
     taken i h f g =
@@ -286,7 +286,7 @@ module _ {manager dataSlots last : ℕ} {rs : List Row} (g : Ruled manager dataS
 
     room-taken : weigh needs rs + needs r ≤ dataSlots + needs old
     room-taken =
-        let some : one vacant_row r ≡ 0 = rw (ne_eqb r.unit 0 (address-some r.unit is_Address)) in
+        let some : one vacant_row r ≡ 0 = rw (ne_eqb r.unit 0 (address-some r.unit is_address)) in
         omega (arith, some, share.spared, g.room, all_needs rs, free_and_held small g)
 
     pub ruled_taken : Ruled manager dataSlots last (set rs at r)
@@ -295,7 +295,7 @@ module _ {manager dataSlots last : ℕ} {rs : List Row} (g : Ruled manager dataS
           there = seat.there;
           leads = seat.leads;
           rule = used_rule dataSlots r (record {
-            unit = is_Address;
+            unit = is_address;
             least = share.least;
             most = share.most;
             inside = λ i h. taken i h (rule-inside dataSlots old (rule-at seat.there) i) (λ f n. f);

@@ -20,8 +20,7 @@ pub(crate) fn keep(book: &mut [u8], changed: Changed) -> u8
 }
 
 // Makes the book of a plan, with the manager in row 0 and this time as last accepted.
-#[unsafe(no_mangle)]
-pub extern "C" fn braidlark_book_fresh(book: &mut [u8], plan: &[u8], time: u32) -> u8
+pub fn braidlark_book_fresh(book: &mut [u8], plan: &[u8], time: u32) -> u8
     ensures { book_left result book.new ≡ fresh_call book.old plan.now time }
 {
     let fresh = Book::fresh(plan_of(plan, 0), time);
@@ -34,8 +33,7 @@ pub extern "C" fn braidlark_book_fresh(book: &mut [u8], plan: &[u8], time: u32) 
 }
 
 // Renews a live member's time.
-#[unsafe(no_mangle)]
-pub extern "C" fn braidlark_heard(book: &mut [u8], unit: u16, time: u32) -> u8
+pub fn braidlark_heard(book: &mut [u8], unit: u16, time: u32) -> u8
     ensures { book_left result book.new ≡ heard_call book.old unit time }
 {
     let changed = book_of(&book[..]).heard(unit, time);
@@ -43,8 +41,7 @@ pub extern "C" fn braidlark_heard(book: &mut [u8], unit: u16, time: u32) -> u8
 }
 
 // Frees a live member's row and slots.
-#[unsafe(no_mangle)]
-pub extern "C" fn braidlark_leave(book: &mut [u8], unit: u16, time: u32) -> u8
+pub fn braidlark_leave(book: &mut [u8], unit: u16, time: u32) -> u8
     ensures { book_left result book.new ≡ leave_call book.old unit time }
 {
     let changed = book_of(&book[..]).leave(unit, time);
@@ -52,8 +49,7 @@ pub extern "C" fn braidlark_leave(book: &mut [u8], unit: u16, time: u32) -> u8
 }
 
 // Writes a live member's schedule at a hop, one byte a slot, and says how many slots there are.
-#[unsafe(no_mangle)]
-pub extern "C" fn braidlark_schedule(
+pub fn braidlark_schedule(
     book: &[u8],
     unit: u16,
     hop: u32,

@@ -10,8 +10,7 @@ use book_image::writing::write_image;
 use octets::answers::{Refusal, Written};
 
 // Writes the image of a book, its live members alone, and says how many bytes it has.
-#[unsafe(no_mangle)]
-pub extern "C" fn braidlark_image(book: &[u8], time: u32, out: &mut [u8], written: &mut u32) -> u8
+pub fn braidlark_image(book: &[u8], time: u32, out: &mut [u8], written: &mut u32) -> u8
     ensures { write_left result out.new written.new ≡ image_call book.now time out.old written.old }
 {
     if book.len() != BOOK_SIZE {
@@ -27,8 +26,7 @@ pub extern "C" fn braidlark_image(book: &[u8], time: u32, out: &mut [u8], writte
 }
 
 // Makes the book of an image, every time the given one.
-#[unsafe(no_mangle)]
-pub extern "C" fn braidlark_restore(book: &mut [u8], image: &[u8], time: u32) -> u8
+pub fn braidlark_restore(book: &mut [u8], image: &[u8], time: u32) -> u8
     ensures { book_left result book.new ≡ restore_call book.old image.now time }
 {
     let restored = restore(image, time);

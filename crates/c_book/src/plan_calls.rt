@@ -14,8 +14,7 @@ pub(crate) const PLAN_SIZE: usize = 10;
 const PLAN_NUMBERS: usize = 7;
 
 // Makes a site's plan of its seven numbers. One that is too large for a plan is out of rule, and not cut.
-#[unsafe(no_mangle)]
-pub extern "C" fn braidlark_plan(
+pub fn braidlark_plan(
     plan: &mut [u8],
     network: u16,
     manager: u16,
@@ -69,8 +68,7 @@ fn put_numbers(numbers: &mut [u32], plan: Plan)
 }
 
 // Tells how many slots a plan has, how long its superframe is, and where each region of slots begins.
-#[unsafe(no_mangle)]
-pub extern "C" fn braidlark_plan_numbers(plan: &[u8], numbers: &mut [u32]) -> u8
+pub fn braidlark_plan_numbers(plan: &[u8], numbers: &mut [u32]) -> u8
     ensures { numbers_left result numbers.new ≡ numbers_call plan.now numbers.old }
 {
     let held = plan_of(plan, 0);

@@ -24,13 +24,7 @@ fn put_entry(out: &mut [u32], entry: Entry)
 }
 
 // The entry of an update at a position, counted from 0, and the next position. At the end no entry is put, and the next position is 0.
-#[unsafe(no_mangle)]
-pub extern "C" fn braidlark_entry(
-    frame: &[u8],
-    position: u32,
-    entry: &mut [u32],
-    next: &mut u32,
-) -> u8
+pub fn braidlark_entry(frame: &[u8], position: u32, entry: &mut [u32], next: &mut u32) -> u8
     ensures { entry_left result entry.new next.new ≡ entry_call frame.now position entry.old next.old }
 {
     match walk(frame, position as usize) {

@@ -10,8 +10,7 @@ use octets::answers::Written;
 use octets::numbers::number8;
 
 // Reads a frame: its numbers, and where the bytes behind its fields start and how many they are.
-#[unsafe(no_mangle)]
-pub extern "C" fn braidlark_read(
+pub fn braidlark_read(
     frame: &[u8],
     fields: &mut [u32],
     part_place: &mut u32,
@@ -30,13 +29,7 @@ pub extern "C" fn braidlark_read(
 }
 
 // Writes the frame with these numbers and these bytes behind them, and says how many bytes it has.
-#[unsafe(no_mangle)]
-pub extern "C" fn braidlark_write(
-    fields: &[u32],
-    part: &[u8],
-    out: &mut [u8],
-    written: &mut u32,
-) -> u8
+pub fn braidlark_write(fields: &[u32], part: &[u8], out: &mut [u8], written: &mut u32) -> u8
     ensures { write_left result out.new written.new ≡ write_call fields.now part.now out.old written.old }
 {
     match write(fields, part, out) {

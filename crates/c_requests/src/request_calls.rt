@@ -28,8 +28,7 @@ fn settle(book: &mut [u8], granted: Granted, written: &mut u32) -> u8
 }
 
 // Lets a unit join, writes a response for each of its slots, and says how many bytes they have.
-#[unsafe(no_mangle)]
-pub extern "C" fn braidlark_join(
+pub fn braidlark_join(
     book: &mut [u8],
     frame: &[u8],
     time: u32,
@@ -46,8 +45,7 @@ pub extern "C" fn braidlark_join(
 }
 
 // Brings a member's slots to what it asks for, as far as there are spare ones, and answers as a join does.
-#[unsafe(no_mangle)]
-pub extern "C" fn braidlark_slot_request(
+pub fn braidlark_slot_request(
     book: &mut [u8],
     frame: &[u8],
     time: u32,

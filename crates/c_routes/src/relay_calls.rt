@@ -17,8 +17,7 @@ fn start(ours: bool) -> u32
 
 // Relays a data frame, on a route that has at least so many ms left. For this unit: next hop 0, and where the payload starts in the frame and how long it
 // is. Else: the next hop, place 0, how many bytes were written, and for how many ms more the route is usable.
-#[unsafe(no_mangle)]
-pub extern "C" fn braidlark_relay(
+pub fn braidlark_relay(
     table: &[u8],
     frame: &[u8],
     time: u32,
@@ -43,8 +42,7 @@ pub extern "C" fn braidlark_relay(
 }
 
 // Forwards a beacon of either kind with this delay added, and says how many bytes were written.
-#[unsafe(no_mangle)]
-pub extern "C" fn braidlark_forward(
+pub fn braidlark_forward(
     table: &mut [u8],
     network: u16,
     manager: u16,

@@ -10,8 +10,7 @@ use route_in_place::finding::lookup;
 use route_table::table::Table;
 
 // Makes the empty table of a unit, with this time as last accepted.
-#[unsafe(no_mangle)]
-pub extern "C" fn braidlark_table_fresh(table: &mut [u8], own: u16, time: u32) -> u8
+pub fn braidlark_table_fresh(table: &mut [u8], own: u16, time: u32) -> u8
     ensures { table_left result table.new ≡ fresh_call table.old own time }
 {
     let fresh = Table::fresh(own, time);
@@ -25,8 +24,7 @@ pub extern "C" fn braidlark_table_fresh(table: &mut [u8], own: u16, time: u32) -
 }
 
 // Answers the next hop to a destination, how many hops it is away, and for how many ms more the route is usable.
-#[unsafe(no_mangle)]
-pub extern "C" fn braidlark_lookup(
+pub fn braidlark_lookup(
     table: &[u8],
     destination: u16,
     time: u32,
@@ -47,8 +45,7 @@ pub extern "C" fn braidlark_lookup(
 }
 
 // Withdraws all usable rows to a unit or through it.
-#[unsafe(no_mangle)]
-pub extern "C" fn braidlark_forget(table: &mut [u8], unit: u16, time: u32) -> u8
+pub fn braidlark_forget(table: &mut [u8], unit: u16, time: u32) -> u8
     ensures { table_left result table.new ≡ forget_call table.old unit time }
 {
     forget(table, unit, time)

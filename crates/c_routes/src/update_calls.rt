@@ -9,8 +9,7 @@ use route_merges::stored::merge_in;
 use route_pages::stored::page_in;
 
 // Merges an update that was heard with this quality, and says how many candidates found no room, and how many rows were compared.
-#[unsafe(no_mangle)]
-pub extern "C" fn braidlark_merge(
+pub fn braidlark_merge(
     table: &mut [u8],
     frame: &[u8],
     quality: u8,
@@ -30,14 +29,7 @@ pub extern "C" fn braidlark_merge(
 }
 
 // Writes a page of this unit's own update, and says how many bytes it has.
-#[unsafe(no_mangle)]
-pub extern "C" fn braidlark_page(
-    table: &[u8],
-    page: u32,
-    time: u32,
-    out: &mut [u8],
-    written: &mut u32,
-) -> u8
+pub fn braidlark_page(table: &[u8], page: u32, time: u32, out: &mut [u8], written: &mut u32) -> u8
     ensures { write_left result out.new written.new ≡ page_call table.now page time out.old written.old }
 {
     match page_in(table, page, time, out) {

@@ -51,8 +51,7 @@ fn found(checked: Checked) -> Finding
 }
 
 // Checks a sheet against the plan of its site and the links between its units, and names who offends.
-#[unsafe(no_mangle)]
-pub extern "C" fn braidlark_check_sheet(
+pub fn braidlark_check_sheet(
     plan: &[u8],
     links: &[u8],
     sheet: &[u8],

@@ -6,8 +6,7 @@ ghost use Rattle.c_unit.specs.FollowCalls.{follow_left, follow_call};
 use unit_choice::choosing::choose;
 
 // Says which of the two is to be followed by a unit of this network, 0 or 1.
-#[unsafe(no_mangle)]
-pub extern "C" fn braidlark_follow(
+pub fn braidlark_follow(
     first: &[u8],
     first_quality: u8,
     second: &[u8],

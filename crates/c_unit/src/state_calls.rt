@@ -24,8 +24,7 @@ fn keep(state: &mut [u8], lived: Lived) -> u8
 }
 
 // A fresh state, whose three times are the given one.
-#[unsafe(no_mangle)]
-pub extern "C" fn braidlark_state_fresh(state: &mut [u8], time: u32) -> u8
+pub fn braidlark_state_fresh(state: &mut [u8], time: u32) -> u8
     ensures { state_left result state.new ≡ fresh_call state.old time }
 {
     let fresh = Lived {
@@ -36,8 +35,7 @@ pub extern "C" fn braidlark_state_fresh(state: &mut [u8], time: u32) -> u8
 }
 
 // The event with this number, at a time.
-#[unsafe(no_mangle)]
-pub extern "C" fn braidlark_state_event(state: &mut [u8], event: u8, time: u32) -> u8
+pub fn braidlark_state_event(state: &mut [u8], event: u8, time: u32) -> u8
     ensures { state_left result state.new ≡ event_call state.old event time }
 {
     let held = state_of(&state[..]);
@@ -45,8 +43,7 @@ pub extern "C" fn braidlark_state_event(state: &mut [u8], event: u8, time: u32) 
 }
 
 // A tick at a time, with the superframe's length.
-#[unsafe(no_mangle)]
-pub extern "C" fn braidlark_state_tick(state: &mut [u8], superframe_ms: u32, time: u32) -> u8
+pub fn braidlark_state_tick(state: &mut [u8], superframe_ms: u32, time: u32) -> u8
     ensures { state_left result state.new ≡ tick_call state.old superframe_ms time }
 {
     let held = state_of(&state[..]);

@@ -1,0 +1,20 @@
+// The stored image of a book of 308 bytes: written at a time, and restored at one.
+ghost use Rattle.std.specs.Prelude.{◌≡◌};
+ghost use Rattle.octets.specs.Calls.{write_left};
+ghost use Rattle.c_book.specs.BookCalls.{book_left, image_call, restore_call};
+
+// Writes the image of a book, its live members alone, and says how many bytes it has.
+#[unsafe(no_mangle)]
+pub extern "C" fn braidlark_image(book: &[u8], time: u32, out: &mut [u8], written: &mut u32) -> u8
+    ensures { write_left result out.new written.new ≡ image_call book.now time out.old written.old }
+{
+    c_book::image_calls::braidlark_image(book, time, out, written)
+}
+
+// Makes the book of an image, every time the given one.
+#[unsafe(no_mangle)]
+pub extern "C" fn braidlark_restore(book: &mut [u8], image: &[u8], time: u32) -> u8
+    ensures { book_left result book.new ≡ restore_call book.old image.now time }
+{
+    c_book::image_calls::braidlark_restore(book, image, time)
+}

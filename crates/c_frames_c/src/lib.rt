@@ -1,0 +1,5 @@
+// The calls of `c_frames` as C links them: each under its own name, with its contract again.
+#![tactic(auto)]
+
+pub mod entry_calls;
+pub mod frame_calls;

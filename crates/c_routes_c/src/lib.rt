@@ -1,0 +1,6 @@
+// The calls of `c_routes` as C links them: each under its own name, with its contract again.
+#![tactic(auto)]
+
+pub mod relay_calls;
+pub mod table_calls;
+pub mod update_calls;

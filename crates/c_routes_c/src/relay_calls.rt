@@ -1,0 +1,44 @@
+// Frames that go on by a table of 539 bytes: data is handed back or relayed, a beacon is forwarded.
+ghost use Rattle.std.specs.Prelude.{◌≡◌};
+ghost use Rattle.route_forwards.specs.Forwards.{forward_left, forward_call};
+ghost use Rattle.c_routes.specs.RelayCalls.{relay_left, relay_call};
+
+// Relays a data frame, on a route that has at least so many ms left. For this unit: next hop 0, and where the payload starts in the frame and how long it
+// is. Else: the next hop, place 0, how many bytes were written, and for how many ms more the route is usable.
+#[unsafe(no_mangle)]
+pub extern "C" fn braidlark_relay(
+    table: &[u8],
+    frame: &[u8],
+    time: u32,
+    least_left: u32,
+    out: &mut [u8],
+    next_hop: &mut u16,
+    place: &mut u32,
+    length: &mut u32,
+    left: &mut u32,
+) -> u8
+    ensures { relay_left result out.new next_hop.new place.new length.new left.new ≡ relay_call table.now frame.now time least_left out.old next_hop.old place.old length.old left.old }
+{
+    c_routes::relay_calls::braidlark_relay(
+        table, frame, time, least_left, out, next_hop, place, length, left,
+    )
+}
+
+// Forwards a beacon of either kind with this delay added, and says how many bytes were written.
+#[unsafe(no_mangle)]
+pub extern "C" fn braidlark_forward(
+    table: &mut [u8],
+    network: u16,
+    manager: u16,
+    frame: &[u8],
+    delay: u32,
+    time: u32,
+    out: &mut [u8],
+    written: &mut u32,
+) -> u8
+    ensures { forward_left result table.new out.new written.new ≡ forward_call table.old network manager frame.now delay time out.old written.old }
+{
+    c_routes::relay_calls::braidlark_forward(
+        table, network, manager, frame, delay, time, out, written,
+    )
+}

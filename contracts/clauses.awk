@@ -1,9 +1,10 @@
 # The words of a clause, by its brackets.
 
-# One space between two words, where brackets, commas and the dot of a lambda are words.
+# One space between two words, where brackets, commas and the dot of a lambda are words, and a field with the dot before it.
 function spaced(text) {
     gsub(/«|»/, "", text)
     gsub(/[(){},]|[.] /, " & ", text)
+    gsub(/[.][a-z0-9]/, " &", text)
     gsub(/[ \t]+/, " ", text)
     gsub(/^ | $/, "", text)
     return text

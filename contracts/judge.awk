@@ -1,13 +1,14 @@
 # Judges contracts: awk -f clauses.awk -f judge.awk LIST SOURCE..
 #
 # LIST has the views, as fields `pub NAME : TellsApart POSSIBLE VIEW` of a record. The sources have public functions and their
-# contracts, `ensures { λ r. ⌜ (view of the answer ≡ what is given) × .. ⌝ }`. The parts of an answer are the result and what
-# is left in each buffer that is lent with `&mut`. An equation fixes the parts on its left side, if that is a view on the list
-# and its right side names no part. Every part has to be fixed; what else a contract says only narrows it.
+# contracts, `ensures { (view of the answer ≡ what is given) × .. }`, one such clause or several that have names. The parts of an
+# answer are the result and what is left in each buffer that is lent with `&mut`. An equation fixes the parts on its left side,
+# if that is a view on the list and its right side names no part. Every part has to be fixed; what else a contract says only
+# narrows it.
 #
-# Below, `@` stands for `r` and `@out` for `now (out .exit)`. A view is known by its form: its words, each name with the module
-# that it comes from, and `_` for each part. The sources are in the formatter's layout: a body begins with the first line that
-# ends in a bracket.
+# Below, `@` stands for `result` and `@out` for `out.new`. A view is known by its form: its words, each name with the module that
+# it comes from, and `_` for each part. The sources are in the formatter's layout: a body begins with the first line that ends in
+# a bracket, or is `{}`.
 
 function form(text,    word, n, i, said) {
     n = split(text, word, " ")
@@ -48,7 +49,7 @@ function open_parts(word, n,    i, name, type) {
 # Takes the parts that an equation fixes out of those that are open. A condition or an alternative is no equation; a tuple fixes
 # its part when there is an equation for each of its elements.
 function judge_equation(text, type,    side, view, word, i) {
-    if (split_at("≡", unwrapped(text), side) != 2 || side[2] ~ /@|[.]exit|→|⊎/)
+    if (split_at("≡", unwrapped(text), side) != 2 || side[2] " " ~ /@|[.](new|exit) |→|⊎/)
         return
     view = form(side[1])
     if (!(view in view_of) && side[1] " " ~ / @ /)
@@ -65,28 +66,31 @@ function judge_equation(text, type,    side, view, word, i) {
 }
 
 # Judges a function by its text up to the body.
-function judge(text, where,    word, n, i, k, type, clause, body, part, equation) {
+function judge(text, where,    word, n, i, k, said, type, body, part, equation) {
     contracts++
     match(text, / fn [a-z0-9_]+/)
     where = where substr(text, RSTART, RLENGTH) ": "
-    if (text ~ / requires /) {
+    if (text ~ / requires[ *]/) {
         report(where "it asks something of its caller")
         return
     }
-    n = split(spaced(text), word, " ")
-    type = open_parts(word, n)
+    said = spaced(text)
+    type = open_parts(word, split(said, word, " "))
     split("", met)
     split("", equations)
-    n = split(spaced(text), clause, / ensures [{] λ | [.] ⌜ | ⌝ [}]/)
-    for (i = 2; i < n; i += 3) {
-        body = marked(clause[i + 1], clause[i], "@")
+    n = words_of(said, word)
+    for (i = 1; i < n; i++) {
+        if (word[i] != "ensures")
+            continue
+        body = word[i + 1] ~ /^[{]/ ? word[i + 1] : word[i + 2]
+        body = marked(substr(body, 3, length(body) - 4), "result", "@")
         for (part in open)
-            body = marked(body, "now [(] " substr(part, 2) " [.]exit [)]", part)
+            body = marked(body, substr(part, 2) " [.]new", part)
         for (k = split_at("×", body, equation); k > 0; k--)
             judge_equation(equation[k], type)
     }
-    sub(/ *[{] *$/, "", text)
-    i = index(text, " ensures ")
+    sub(/ *[{] *[}]? *$/, "", text)
+    i = index(text, " ensures")
     for (part in open)
         report(where "no view on the list fixes " open[part] ": " (i ? substr(text, i + 1) : "it has no contract"))
 }
@@ -100,11 +104,10 @@ FNR == 1 {
     split("", home)
 }
 
-# `use MODULE.{NAME, ..}`; a crate calls a module of its own specs `CRATE·specs.specs.NAME`.
+# `use MODULE.{NAME, ..}`
 /^(ghost )?use .*[.][{]/ {
     module = $0
     gsub(/^(ghost )?use |[.][{].*/, "", module)
-    sub(/·specs[.]specs[.]/, ".specs.", module)
     gsub(/.*[.][{]|[}].*/, "")
     for (i = split($0, name, / *, */); i > 0; i--)
         home[name[i]] = module
@@ -121,7 +124,7 @@ FNR < NR {
         where = FILENAME ":" FNR
     if (where)
         text = text " " $0
-    if (where && /[{][ \t]*$/) {
+    if (where && /[{][ \t]*[}]?[ \t]*$/) {
         judge(text, where)
         where = text = ""
     }

@@ -11,7 +11,7 @@ use route_table::standing::standing_places;
 use route_table::table::{Changed, Found, Head, Table, found_by, row_for, settled};
 
 // `longest` is the longest delay that its kind has room for.
-#[derive(Drop)]
+#[derive(Clone, Copy)]
 pub struct Passing {
     pub source: u16,
     pub network: u16,

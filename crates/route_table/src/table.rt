@@ -24,7 +24,7 @@ pub struct Table {
 }
 
 // A table without its rows.
-#[derive(Drop)]
+#[derive(Clone, Copy)]
 pub struct Head {
     pub own: u16,
     pub time: u32,

@@ -6,11 +6,10 @@ use Rattle.route_bytes.proofs.tables.head_of.Goals as goal
 pub returns : goal.returns
 unfolding table_in
 returns c =
-    let forwarded = c in
     rw (
-      forwarded.number16.ensures,
-      forwarded.number32.ensures,
-      forwarded.number8.ensures,
+      c.number16.ensures,
+      c.number32.ensures,
+      c.number8.ensures,
       c.number16-2.ensures,
       c.number16-3.ensures,
     )

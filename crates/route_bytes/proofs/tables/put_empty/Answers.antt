@@ -8,8 +8,5 @@ returns-then-out-ne539 c = other_length _ _ c.if-out-ne539.true
 
 pub returns : goal.returns
 returns c =
-    let zeros = c in
-    let head = zeros in
-    let start = head in
-    let a = start.args in
-    empty_stored a.out.now a.head start.if-out-ne539.false _ head.put_head.ensures _ zeros.put_zeros.ensures
+    let a = c.args in
+    empty_stored a.out.now a.head c.if-out-ne539.false _ c.put_head.ensures _ c.put_zeros.ensures

@@ -7,17 +7,11 @@ use Rattle.route_bytes.proofs.tables.put_row.Goals as goal
 
 pub returns : goal.returns
 returns c =
-    let withdrawn = c in
-    let time = withdrawn in
-    let quality = time in
-    let hops = quality in
-    let next-hop = hops in
-    let destination = next-hop in
-    let a = destination.args in
+    let a = c.args in
     all-put a.out.now a.place row_widths (row_values a.row) _
-    (put destination.put16.ensures (omega arith)
-    (put next-hop.put16-2.ensures (omega arith)
-    (put hops.put8.ensures (omega arith)
-    (put quality.put8-2.ensures (omega arith)
-    (put time.put32.ensures (omega arith)
-    (put (rw withdrawn.flag.ensures at withdrawn.put8-3.ensures) refl done))))))
+    (put c.put16.ensures (omega arith)
+    (put c.put16-2.ensures (omega arith)
+    (put c.put8.ensures (omega arith)
+    (put c.put8-2.ensures (omega arith)
+    (put c.put32.ensures (omega arith)
+    (put (rw c.flag.ensures at c.put8-3.ensures) refl done))))))

@@ -9,28 +9,22 @@ loop-used-init c = record { within = omega arith; long = c.requires; rest = refl
 
 pub shape_of-out-then-row-eq0 : goal.shape_of-out-then-row-eq0
 shape_of-out-then-row-eq0 c =
-    let at = c in
-    at.loop-used.invariant.long ∙ sym at.requires
+    c.loop-used.invariant.long ∙ sym c.requires
 
 pub returns-then-row-eq0 : goal.returns-then-row-eq0
 returns-then-row-eq0 c =
-    let at = c in
-    let a = at.args in
-    stored_end a.out.now at.loop-used.out a.rows at.loop-used.used (search rules) at.loop-used.invariant (search rules) c.if-row-eq0.true
+    let a = c.args in
+    stored_end a.out.now c.loop-used.out a.rows c.loop-used.used (search rules) c.loop-used.invariant (search rules) c.if-row-eq0.true
 
 pub loop-used-preserved : goal.loop-used-preserved
 loop-used-preserved c =
-    let put = c in
-    let test = put in
-    let at = test in
-    let a = at.args in
-    stored_on a.out.now at.loop-used.out a.rows at.loop-used.used (search rules) at.loop-used.invariant _ (search rules) test.if-row-eq0.false put.put_row.ensures _ refl (search rules)
+    let a = c.args in
+    stored_on a.out.now c.loop-used.out a.rows c.loop-used.used (search rules) c.loop-used.invariant _ (search rules) c.if-row-eq0.false c.put_row.ensures _ refl (search rules)
 
 pub shape_of-out : goal.shape_of-out
 shape_of-out c = c.loop-used.invariant.long ∙ sym c.requires
 
 pub returns : goal.returns
 returns c =
-    let at = c in
-    let a = at.args in
-    stored_last a.out.now at.loop-used.out a.rows at.loop-used.used (search rules) at.loop-used.invariant (search rules)
+    let a = c.args in
+    stored_last a.out.now c.loop-used.out a.rows c.loop-used.used (search rules) c.loop-used.invariant (search rules)

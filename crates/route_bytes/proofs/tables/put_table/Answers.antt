@@ -9,18 +9,13 @@ returns-then-out-ne539 c = other_length _ _ c.if-out-ne539.true
 
 pub put_rows-used-requires : goal.put_rows-used-requires
 put_rows-used-requires c =
-    let head = c in
-    head.put_head.auto.out ∙ head.if-out-ne539.false
+    c.put_head.auto.out ∙ c.if-out-ne539.false
 
 pub overflow_sub-used : goal.overflow_sub-used
 overflow_sub-used c = omega (arith, c.put_rows-used.ensures.2)
 
 pub returns : goal.returns
 returns c =
-    let zeros = c in
-    let rows = zeros in
-    let head = rows in
-    let start = head in
-    let a = start.args in
-    whole-stored a.out.now a.head a.rows rows.put_rows-used.result start.if-out-ne539.false _ _ head.put_head.ensures rows.put_rows-used.ensures.0 rows.put_rows-used.ensures.1 rows.put_rows-used.ensures.2
-    _ zeros.put_zeros.ensures
+    let a = c.args in
+    whole-stored a.out.now a.head a.rows c.put_rows-used.result c.if-out-ne539.false _ _ c.put_head.ensures c.put_rows-used.ensures.0 c.put_rows-used.ensures.1 c.put_rows-used.ensures.2
+    _ c.put_zeros.ensures

@@ -12,7 +12,5 @@ returns-then-place-ge48 c = c.none-then-place-ge48.ensures ∙ place-past _ _ c.
 
 pub returns : goal.returns
 returns c =
-    let second = c in
-    let first = second in
-    let a = first.args in
-    c.row_in.ensures ∙ place-part a.s.now a.place first.if-s-ne539.false second.if-place-ge48.false
+    let a = c.args in
+    c.row_in.ensures ∙ place-part a.s.now a.place c.if-s-ne539.false c.if-place-ge48.false

@@ -4,11 +4,10 @@ use Rattle.route_bytes.proofs.tables.row_in.Goals as goal
 
 pub returns : goal.returns
 returns c =
-    let hops = c in
     rw (
-      hops.number16.ensures,
-      hops.number16-2.ensures,
-      hops.number8.ensures,
+      c.number16.ensures,
+      c.number16-2.ensures,
+      c.number8.ensures,
       c.number8-2.ensures,
       c.number32.ensures,
       c.number8-3.ensures,

@@ -5,5 +5,4 @@ use Rattle.route_table.proofs.table.why_unforgotten.Goals as goal
 
 pub returns : goal.returns
 returns c =
-    let first = c in
-    c.refuse_if.ensures ∙ rw (c.is_address.ensures, c.refuse_if-refused-2.ensures, first.refuse_if-refused.ensures, first.in_order.ensures)
+    c.refuse_if.ensures ∙ rw (c.is_address.ensures, c.refuse_if-refused-2.ensures, c.refuse_if-refused.ensures, c.in_order.ensures)

@@ -6,14 +6,12 @@ use Rattle.route_table.proofs.table.Table.lookup.Goals as goal
 
 pub returns-then-not-within_rule : goal.returns-then-not-within_rule
 returns-then-not-within_rule c =
-    let test = c in
-    let a = test.args in
-    c.found_or.ensures ∙ sym (not_looked_up a.self a.destination a.time (sym test.within_rule.ensures ∙ test.if-not-within_rule.true))
+    let a = c.args in
+    c.found_or.ensures ∙ sym (not_looked_up a.self a.destination a.time (sym c.within_rule.ensures ∙ c.if-not-within_rule.true))
 
 pub returns : goal.returns
 returns c =
-    let rule = c in
-    let a = rule.args in
+    let a = c.args in
     c.found_by.ensures ∙
     rw c.row_for.ensures
-    (sym (looked_up a.self a.destination a.time (sym rule.within_rule.ensures ∙ rule.if-not-within_rule.false)))
+    (sym (looked_up a.self a.destination a.time (sym c.within_rule.ensures ∙ c.if-not-within_rule.false)))

@@ -1,0 +1,21 @@
+-- `restore`: the book that the bytes say where they fit and it is within rule, else zeros.
+-- Assumes nothing.
+use Rattle.octets.proofs.Words.{◌∙◌, rules}
+use Rattle.book_members.specs.Members.{rows_of}
+use Rattle.book_image.proofs.RestoringLaws.{restores}
+use Rattle.book_image.proofs.restoring.restore.Goals as goal
+
+pub returns : goal.returns
+returns c =
+    let rule = c in
+    let rows = rule in
+    let plan = rows in
+    let a = plan.args in
+    c.settled.ensures
+    ∙ rw c.zeros.ensures
+    (restores a.image.now a.time _ plan.section_plan-plan.result (rows_of rows.members_in-rows.result) _ _
+    plan.section_plan-plan.ensures
+    rows.members_in-rows.ensures
+    rule.fits.ensures
+    rule.within_rule.ensures
+    c.refuse_if.ensures)

@@ -1,0 +1,15 @@
+-- `renew`: the rows kept, zeros behind them, and the head.
+-- Assumes nothing.
+use Rattle.octets.proofs.Words.{arith}
+use Rattle.route_in_place.proofs.ChangeLaws.{renewed}
+use Rattle.route_in_place.proofs.JudgedLaws.{judged-length}
+use Rattle.route_in_place.proofs.changing.renew.Goals as goal
+
+pub overflow_sub-count : goal.overflow_sub-count
+overflow_sub-count c = omega (arith, c.keep_rows-count.ensures.2)
+
+pub returns : goal.returns
+returns c =
+    let a = c.args in
+    renewed a.table.now a.head _ c.keep_rows-count.result (judged-length _ c.requires) _ _ c.keep_rows-count.ensures.0 c.keep_rows-count.ensures.1 c.keep_rows-count.ensures.2
+    c.put_zeros.ensures _ c.put_head.ensures

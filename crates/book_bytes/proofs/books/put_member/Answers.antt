@@ -1,0 +1,21 @@
+-- `put_member`: the row's numbers, one behind the other from a place on.
+-- Assumes nothing.
+use Rattle.octets.proofs.Words.{refl, ◌^◌, ◌<◌, arith, rules}
+use Rattle.octets.proofs.StoreLaws.{all-put, put, done}
+use Rattle.slot_sets.proofs.MaskLaws.{mask_back}
+use Rattle.book_members.specs.Members.{row_of}
+use Rattle.book_bytes.specs.BookBytes.{row_widths, row_values}
+use Rattle.book_bytes.proofs.books.put_member.Goals as goal
+use Rattle.book_bytes.proofs.books.put_member.Goals.{Start}
+
+below : (d : Start) → d.args.member.slots < 2 ^ 64
+below d = search rules
+
+pub returns : goal.returns
+returns c =
+    let start = (goal.at.returns c).Start in
+    let a = start.args in
+    all-put a.out.now a.place row_widths (row_values (row_of a.member)) _
+    (put c.put16.ensures (omega arith)
+    (put (rw (← mask_back a.member.slots (below start)) at c.put64.ensures) (omega arith)
+    (put c.put32.ensures refl done)))

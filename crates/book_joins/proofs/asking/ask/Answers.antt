@@ -8,6 +8,7 @@ use Rattle.book_joins.proofs.GrantLaws.{row_within, is_asked}
 use Rattle.book_joins.proofs.asking.ask.Goals as goal
 use Rattle.book_joins.proofs.asking.ask.Goals.{After-bytes_for}
 
+-- what is known before it is judged
 known : (bytes : After-bytes_for) → let own = bytes in let used = own in let request = used in
     let a = request.args in
     Asking a.book a.time a.frame.now request.of-request.result.node used.counted-census.result.own (slots_of own.asks-own.result)
@@ -35,8 +36,6 @@ overflow_cast-at c =
     let rows = take c.args.book.plan.rows (rows_of c.current-now.result) in
     let (own, place, spaces, empty, few, long) = c.counted-census.ensures in
     Fits-under _ _ 22 (omega (arith, own, long, row_within c.of-request.result.node rows)) _
-
--- what is known before it is judged
 
 pub returns : goal.returns
 returns c =

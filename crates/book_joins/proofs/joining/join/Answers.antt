@@ -9,6 +9,7 @@ use Rattle.book_joins.proofs.GrantLaws.{row_within, is_seated}
 use Rattle.book_joins.proofs.joining.join.Goals as goal
 use Rattle.book_joins.proofs.joining.join.Goals.{After-bytes_for}
 
+-- what is known before it is judged
 known : (bytes : After-bytes_for) → let own = bytes in let census = own in let request = census in
     let a = request.args in
     Joining a.book a.time a.frame.now request.of-request.result.node own.either_size-at.result (slots_of own.seated-own.result)
@@ -41,8 +42,6 @@ overflow_cast-at c =
     let free : c.counted-census.result.place ≤ 21 = omega (arith, place, long, row_within 0 rows) in
     Fits-under _ _ 22
     (omega (arith, c.either_size-at.ensures, of_choice (λ n. n ≤ 21) (ltb c.counted-census.result.own c.in_use.result) own free)) _
-
--- what is known before it is judged
 
 pub returns : goal.returns
 returns c =

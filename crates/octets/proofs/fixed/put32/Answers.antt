@@ -1,6 +1,6 @@
 -- `put32`: four bytes, or what there is of them.
 -- Assumes nothing.
-use Rattle.octets.proofs.Words.{sym, rules}
+use Rattle.octets.proofs.Words.{sym}
 use Rattle.octets.specs.Numbers.{digits}
 use Rattle.octets.proofs.StoreLaws.{sets-past}
 use Rattle.octets.proofs.fixed.put32.Goals as goal

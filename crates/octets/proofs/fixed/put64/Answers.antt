@@ -1,6 +1,6 @@
 -- `put64`: the lower four bytes and the upper four, or what there is of them.
 -- Assumes nothing.
-use Rattle.octets.proofs.Words.{sym, ◌∙◌, rules}
+use Rattle.octets.proofs.Words.{sym, ◌∙◌}
 use Rattle.octets.specs.Numbers.{digits}
 use Rattle.octets.proofs.StoreLaws.{sets-past, sets_append, digits_halves}
 use Rattle.octets.proofs.NumberLaws.{length_digits}

@@ -1,6 +1,6 @@
 -- `put_whole32`: four bytes.
 -- Assumes nothing.
-use Rattle.octets.proofs.Words.{arith, rules, length-set}
+use Rattle.octets.proofs.Words.{arith, length-set}
 use Rattle.octets.proofs.StoreLaws.{four_bytes}
 use Rattle.octets.proofs.fixed.put_whole32.Goals as goal
 

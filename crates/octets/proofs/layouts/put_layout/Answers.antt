@@ -1,6 +1,6 @@
 -- `put_layout`'s loop: to store the numbers that are left is to store them all.
 -- Assumes nothing.
-use Rattle.octets.proofs.Words.{◌≡◌, refl, sym, ◌∙◌, ◌≤◌, ◌-◌, arith, rules, length, drop, drop_of_length-le, sets}
+use Rattle.octets.proofs.Words.{refl, sym, ◌∙◌, ◌≤◌, arith, length, drop, drop_of_length-le}
 use Rattle.octets.specs.Layouts.{bytes}
 use Rattle.octets.proofs.StoreLaws.{sets-past, bytes-turn, bytes-none}
 use Rattle.octets.proofs.layouts.put_layout.Goals as goal

@@ -1,8 +1,7 @@
 -- `put_layout`'s loop: to store the numbers that are left is to store them all.
 -- Assumes nothing.
-use Rattle.octets.proofs.Words.{◌≡◌, refl, sym, ◌∙◌, ◌≤◌, ◌-◌, arith, rules, length, drop, drop_of_length-le, sets}
+use Rattle.octets.proofs.Words.{◌≡◌, ◌-◌, length, drop, sets}
 use Rattle.octets.specs.Layouts.{bytes}
-use Rattle.octets.proofs.StoreLaws.{sets-past, bytes-turn, bytes-none}
 use Rattle.octets.proofs.layouts.put_layout.Given as goal
 
 abbrev pub invariant-loop-k : goal.invariant-loop-k

@@ -1,6 +1,6 @@
 -- `byte` is a number of 1 byte.
 -- Assumes nothing.
-use Rattle.octets.proofs.Words.{sym, ◌∙◌, rules}
+use Rattle.octets.proofs.Words.{sym, ◌∙◌}
 use Rattle.octets.proofs.NumberLaws.{num-one}
 use Rattle.octets.proofs.numbers.byte.Goals as goal
 

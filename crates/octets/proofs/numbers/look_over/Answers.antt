@@ -1,6 +1,6 @@
 -- `look_over`'s loop: the bytes passed are below 256.
 -- Assumes nothing.
-use Rattle.octets.proofs.Words.{ℕ, ◌-◌, ◌<◌, arith, rules, length, get_or}
+use Rattle.octets.proofs.Words.{arith}
 use Rattle.octets.proofs.NumberLaws.{small-on, small_all}
 use Rattle.octets.proofs.numbers.look_over.Goals as goal
 

@@ -1,6 +1,6 @@
 -- `number16` reads a number of 2 bytes, which is two of 1; at the last byte the second is 0.
 -- Assumes nothing.
-use Rattle.octets.proofs.Words.{sym, ◌+◌, arith, rules}
+use Rattle.octets.proofs.Words.{sym, ◌+◌, arith}
 use Rattle.octets.proofs.NumberLaws.{num_add, num-past}
 use Rattle.octets.proofs.numbers.number16.Goals as goal
 

@@ -1,6 +1,6 @@
 -- `number32` reads a number of 4 bytes; near the end it is two of 2.
 -- Assumes nothing.
-use Rattle.octets.proofs.Words.{sym, arith, rules}
+use Rattle.octets.proofs.Words.{sym, arith}
 use Rattle.octets.proofs.NumberLaws.{num_add, num-past}
 use Rattle.octets.proofs.numbers.number32.Goals as goal
 

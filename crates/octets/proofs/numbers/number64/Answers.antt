@@ -1,6 +1,6 @@
 -- `number64` reads a number of 8 bytes, which is two of 4.
 -- Assumes nothing.
-use Rattle.octets.proofs.Words.{sym, arith, rules}
+use Rattle.octets.proofs.Words.{sym, arith}
 use Rattle.octets.proofs.NumberLaws.{num_add, num-past}
 use Rattle.octets.proofs.numbers.number64.Goals as goal
 

@@ -1,6 +1,6 @@
 -- `number8` reads the byte at a place.
 -- Assumes nothing.
-use Rattle.octets.proofs.Words.{sym, rules}
+use Rattle.octets.proofs.Words.{sym}
 use Rattle.octets.proofs.NumberLaws.{num-one, num-past}
 use Rattle.octets.proofs.numbers.number8.Goals as goal
 

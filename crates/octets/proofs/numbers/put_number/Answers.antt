@@ -1,6 +1,6 @@
 -- `put_number`'s loop: to store the digits that are left is to store them all.
 -- Assumes nothing.
-use Rattle.octets.proofs.Words.{◌≡◌, refl, sym, ◌∙◌, arith, rules, length, length-set, sets}
+use Rattle.octets.proofs.Words.{◌≡◌, refl, sym, ◌∙◌, arith, length-set}
 use Rattle.octets.specs.Numbers.{digits}
 use Rattle.octets.proofs.StoreLaws.{sets-past, digits-turn}
 use Rattle.octets.proofs.numbers.put_number.Goals as goal

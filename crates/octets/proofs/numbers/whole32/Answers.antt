@@ -1,6 +1,6 @@
 -- `whole32`: a number of 4 bytes is four of 1.
 -- Assumes nothing.
-use Rattle.octets.proofs.Words.{arith, rules}
+use Rattle.octets.proofs.Words.{arith}
 use Rattle.octets.proofs.NumberLaws.{num_four}
 use Rattle.octets.proofs.numbers.whole32.Goals as goal
 

@@ -1,6 +1,6 @@
 -- `part`: past the end, up to the end, and inside.
 -- Assumes nothing.
-use Rattle.octets.proofs.Words.{◌≡◌, ap, ℕ, ◌+◌, ◌-◌, arith, rules, take, drop}
+use Rattle.octets.proofs.Words.{◌≡◌, ap, ℕ, ◌+◌, ◌-◌, arith, take, drop}
 use Rattle.octets.specs.Parts.{lent}
 use Rattle.octets.proofs.PartLaws.{part-past, part-rest, lies}
 use Rattle.octets.proofs.parts.part.Goals as goal

@@ -1,8 +1,6 @@
 -- `put_bytes`'s loop: to store the bytes that are left is to store them all.
 -- Assumes nothing.
-use Rattle.octets.proofs.StoreLaws.{copied}
-use Rattle.octets.proofs.Words.{◌≡◌, refl, sym, ◌∙◌, ◌+◌, ◌≤◌, ◌<◌, ◌-◌, min, add-zero, arith, rules, length, drop, length-set, sets}
-use Rattle.octets.proofs.StoreLaws.{sets-past, copy_turn}
+use Rattle.octets.proofs.Words.{◌≡◌, ◌+◌, ◌≤◌, ◌-◌, min, length, drop, sets}
 use Rattle.octets.proofs.parts.put_bytes.Given as goal
 
 abbrev pub invariant-loop-k : goal.invariant-loop-k

@@ -1,10 +1,7 @@
 -- `xor_of`'s loop: x is the XOR of the bytes passed.
 -- Assumes nothing.
-use Rattle.octets.proofs.PartLaws.{take_min}
-use Rattle.octets.proofs.Words.{◌≡◌, refl, ap, ◌∙◌, ℕ, ◌≤◌, ◌<◌, ◌-◌, min, add-one, arith, rules, length, take, get_or, take-suc}
-use lib.Bits.{bit_xor}
+use Rattle.octets.proofs.Words.{◌≡◌, ◌≤◌, ◌-◌, min, length, take}
 use Rattle.octets.specs.Sums.{xors}
-use Rattle.octets.proofs.SumLaws.{xors_snoc}
 use Rattle.octets.proofs.sums.xor_of.Given as goal
 
 abbrev pub invariant-loop-i : goal.invariant-loop-i

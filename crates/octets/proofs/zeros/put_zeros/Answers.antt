@@ -1,7 +1,7 @@
 -- `put_zeros`'s loop: to store the zeros that are left is to store them all.
 -- Assumes nothing.
 use Rattle.octets.proofs.StoreLaws.{copied}
-use Rattle.octets.proofs.Words.{◌≡◌, refl, sym, ◌∙◌, ℕ, ◌+◌, ◌≤◌, ◌-◌, min, add-zero, arith, rules, length, drop, replicate, length-set, length-replicate, sets}
+use Rattle.octets.proofs.Words.{refl, sym, ◌∙◌, ℕ, add-zero, arith, rules, replicate, length-set, length-replicate}
 use Rattle.octets.proofs.StoreLaws.{sets-past}
 use Rattle.octets.proofs.ZeroLaws.{zero_turn}
 use Rattle.octets.proofs.zeros.put_zeros.Goals as goal

@@ -1,9 +1,6 @@
 -- `put_zeros`'s loop: to store the zeros that are left is to store them all.
 -- Assumes nothing.
-use Rattle.octets.proofs.StoreLaws.{copied}
-use Rattle.octets.proofs.Words.{◌≡◌, refl, sym, ◌∙◌, ℕ, ◌+◌, ◌≤◌, ◌-◌, min, add-zero, arith, rules, length, drop, replicate, length-set, length-replicate, sets}
-use Rattle.octets.proofs.StoreLaws.{sets-past}
-use Rattle.octets.proofs.ZeroLaws.{zero_turn}
+use Rattle.octets.proofs.Words.{◌≡◌, ◌+◌, ◌≤◌, ◌-◌, min, length, drop, replicate, sets}
 use Rattle.octets.proofs.zeros.put_zeros.Given as goal
 
 abbrev pub invariant-loop-k : goal.invariant-loop-k

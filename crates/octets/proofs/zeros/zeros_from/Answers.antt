@@ -1,7 +1,6 @@
 -- `zeros_from`'s loop: what was passed and what is left are zeros exactly if all is.
 -- Assumes nothing.
-use Rattle.octets.proofs.Words.{◌≡◌, refl, ◌&&◌, ◌-◌, rules, length}
-use Rattle.octets.specs.Zeros.{zeros_from}
+use Rattle.octets.proofs.Words.{refl, rules}
 use Rattle.octets.proofs.ZeroLaws.{zeros-turn, zeros_end}
 use Rattle.octets.proofs.zeros.zeros_from.Goals as goal
 

@@ -1,8 +1,7 @@
 -- `zeros_from`'s loop: what was passed and what is left are zeros exactly if all is.
 -- Assumes nothing.
-use Rattle.octets.proofs.Words.{◌≡◌, refl, ◌&&◌, ◌-◌, rules, length}
+use Rattle.octets.proofs.Words.{◌≡◌, ◌&&◌, ◌-◌, length}
 use Rattle.octets.specs.Zeros.{zeros_from}
-use Rattle.octets.proofs.ZeroLaws.{zeros-turn, zeros_end}
 use Rattle.octets.proofs.zeros.zeros_from.Given as goal
 
 abbrev pub invariant-loop-place : goal.invariant-loop-place

@@ -8,7 +8,7 @@ use Rattle.site_plan.specs.Plans.{plan_rule}
 use Rattle.site_plan.proofs.PlanLaws.{rule_bounds, kept}
 use Rattle.slot_sets.specs.Sets.{count}
 use Rattle.book_members.specs.Members.{Row, empty_row, free, vacant, restored_at}
-use Rattle.book_members.specs.Rules.{empty_is, row_rule, Used, past_time, rows_rule, distinct}
+use Rattle.book_members.specs.Rules.{empty_is, row_rule, Used, past_time, rows_rule}
 use Rattle.book_members.proofs.RowSums.{tally_distinct, tally_apart}
 use Rattle.book_members.proofs.RowRuleLaws.{rule-either, rule-zeros, rule_empty, empty_is_lem, Ruled, ruled, vacant-free, used_rule}
 use Rattle.book_members.proofs.PairLaws.{led_first, first_led, distinct-pairs, pairs-distinct, apart-pairs, pairs-apart}

@@ -1,7 +1,7 @@
 -- The head of a stored form: how many sections it has, then the contents: of each section its number, where its body starts and how long it is.
 -- The bodies follow one behind the other.
 -- Assumes nothing.
-use Rattle.std.specs.Prelude.{ℕ, ◌+◌, ◌*◌, Bool, true, false, ◌&&◌, List, [], ◌∷◌, ◌++◌, eqb, length, take}
+use Rattle.std.specs.Prelude.{ℕ, ◌+◌, Bool, true, false, ◌&&◌, List, [], ◌∷◌, ◌++◌, eqb, length, take}
 use Rattle.octets.specs.Layouts.{total, fields, bytes}
 
 pub record Section : Type 0 where

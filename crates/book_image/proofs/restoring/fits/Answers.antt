@@ -1,7 +1,6 @@
 -- `fits`: each number of the head is the form's, and so is the length.
 -- Assumes nothing.
 use Rattle.book_image.proofs.ImageLaws.{fits_flat}
-use borrow.Author.Rules.{rules}
 use Rattle.book_image.proofs.restoring.fits.Goals as goal
 
 pub returns : goal.returns

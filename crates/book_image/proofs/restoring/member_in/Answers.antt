@@ -1,6 +1,6 @@
 -- `member_in`: zeros behind the last row; else the unit, the slots behind it, and a time where there is a unit.
 -- Assumes nothing.
-use Rattle.octets.proofs.Words.{sym, ◌∙◌, arith, rules, eq-eqb, ne_eqb, lt-ltb, le-ltb}
+use Rattle.octets.proofs.Words.{sym, ◌∙◌, arith, eq-eqb, ne_eqb, lt-ltb, le-ltb}
 use Rattle.slot_sets.proofs.MaskLaws.{mask-nothing}
 use Rattle.book_image.specs.Images.{row_in}
 use Rattle.book_image.proofs.restoring.member_in.Goals as goal

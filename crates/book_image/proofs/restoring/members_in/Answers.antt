@@ -1,7 +1,6 @@
 -- `members_in`'s loop: the rows passed stand in front.
 -- Assumes nothing.
-use Rattle.octets.proofs.Words.{◌≡◌, refl, ◌∙◌, ◌++◌, ◌≤◌, ◌-◌, arith, rules, length, drop, replicate}
-use Rattle.octets.specs.Lists.{tab}
+use Rattle.octets.proofs.Words.{◌≡◌, refl, ◌∙◌, arith, rules, replicate}
 use Rattle.octets.proofs.ListLaws.{tab-none, tab_more, tab-all}
 use Rattle.book_members.specs.Members.{rows_of}
 use Rattle.book_members.proofs.RowLoopLaws.{nobody, row_written}

@@ -1,10 +1,8 @@
 -- `members_in`'s loop: the rows passed stand in front.
 -- Assumes nothing.
-use Rattle.octets.proofs.Words.{◌≡◌, refl, ◌∙◌, ◌++◌, ◌≤◌, ◌-◌, arith, rules, length, drop, replicate}
+use Rattle.octets.proofs.Words.{◌≡◌, ◌++◌, ◌≤◌, ◌-◌, length, drop}
 use Rattle.octets.specs.Lists.{tab}
-use Rattle.octets.proofs.ListLaws.{tab-none, tab_more, tab-all}
 use Rattle.book_members.specs.Members.{rows_of}
-use Rattle.book_members.proofs.RowLoopLaws.{nobody, row_written}
 use Rattle.book_image.proofs.RestoringLaws.{place_in}
 use Rattle.book_image.proofs.restoring.members_in.Given as goal
 

@@ -1,6 +1,6 @@
 -- `numbers_at`: the numbers of a row in a part of the image are those in all of it.
 -- Assumes nothing.
-use Rattle.octets.proofs.Words.{ap, ◌∙◌, ◌+◌, ◌*◌, ◌-◌, add-zero, arith, rules}
+use Rattle.octets.proofs.Words.{ap, ◌∙◌, ◌+◌, ◌*◌, ◌-◌, add-zero, arith}
 use Rattle.octets.specs.Parts.{Lent}
 use Rattle.octets.proofs.NumberLaws.{num-part}
 use Rattle.book_image.proofs.restoring.numbers_at.Goals as goal

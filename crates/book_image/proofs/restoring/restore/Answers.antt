@@ -1,6 +1,6 @@
 -- `restore`: the book that the bytes say where they fit and it is within rule, else zeros.
 -- Assumes nothing.
-use Rattle.octets.proofs.Words.{◌∙◌, rules}
+use Rattle.octets.proofs.Words.{◌∙◌}
 use Rattle.book_members.specs.Members.{rows_of}
 use Rattle.book_image.proofs.RestoringLaws.{restores}
 use Rattle.book_image.proofs.restoring.restore.Goals as goal

@@ -1,6 +1,6 @@
 -- `put_head`: how many sections, and of each its number, its offset and its length.
 -- Assumes nothing.
-use Rattle.octets.proofs.Words.{refl, rules}
+use Rattle.octets.proofs.Words.{refl}
 use Rattle.octets.proofs.StoreLaws.{all-put, put, done}
 use Rattle.book_image.specs.Forms.{head_widths, head_values}
 use Rattle.book_image.specs.Images.{sections}

@@ -1,10 +1,8 @@
 -- `put_rows`'s loop: to write the rows that are left is to write them all.
 -- Assumes nothing.
-use Rattle.octets.proofs.Words.{◌≡◌, refl, ◌∙◌, ◌+◌, ◌*◌, ◌≤◌, ◌-◌, min, arith, rules, length, take, drop, sets}
+use Rattle.octets.proofs.Words.{◌≡◌, ◌+◌, ◌*◌, ◌≤◌, ◌-◌, min, length, take, drop, sets}
 use Rattle.book_members.specs.Members.{rows_of}
-use Rattle.book_members.proofs.RowLoopLaws.{none_left}
 use Rattle.book_image.specs.Images.{rows_bytes}
-use Rattle.book_image.proofs.ImageLaws.{rows-turn, rows_cut}
 use Rattle.book_image.proofs.writing.put_rows.Given as goal
 
 abbrev pub invariant-loop-written : goal.invariant-loop-written

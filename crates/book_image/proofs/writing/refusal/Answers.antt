@@ -1,6 +1,6 @@
 -- `refusal`: the first reason that holds.
 -- Assumes nothing.
-use Rattle.octets.proofs.Words.{◌∙◌, rules}
+use Rattle.octets.proofs.Words.{◌∙◌}
 use Rattle.book_image.proofs.writing.refusal.Goals as goal
 
 pub returns : goal.returns

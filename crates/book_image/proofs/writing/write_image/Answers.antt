@@ -1,6 +1,6 @@
 -- `write_image`: refused, or the head, the plan behind it, and the rows behind that.
 -- Assumes nothing.
-use Rattle.octets.proofs.Words.{ap, ◌∙◌, arith, rules, take}
+use Rattle.octets.proofs.Words.{ap, ◌∙◌, arith, take}
 use Rattle.book_members.specs.Members.{rows_of}
 use Rattle.book.specs.Books.{contents}
 use Rattle.book.proofs.VisitLaws.{take-current}

@@ -15,7 +15,7 @@ use octets::numbers::{number8, number16, number32};
 use octets::parts::part;
 
 // `count` is how many entries follow.
-#[derive(Drop)]
+#[derive(Clone, Copy, Drop)]
 pub struct UpdateHeader {
     pub origin: u16,
     pub count: u8,

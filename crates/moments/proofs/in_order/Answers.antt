@@ -1,7 +1,6 @@
 -- `in_order`: the step is below half of the way round.
 -- Assumes nothing.
 use Rattle.moments.specs.Moments.{in_order}
-use Rattle.std.proofs.Common.{rules}
 use Rattle.moments.proofs.in_order.Goals as goal
 
 pub returns : goal.returns

@@ -12,14 +12,17 @@ module _ {A : Type 0} (f : A → List Named) where
   in_gather (x ∷ l) m =
       ⊎_elim (λ k. (x, List·Memᴰ·head refl, k)) (λ k. let (a, there, given) = in_gather l k in (a, List·Memᴰ·tail there, given))
       (Memᴰ.append_cases (f x) m)
+  in_gather [] {n = n} m = elim m [ ]
 
   pub gather_in : (l : List A) {a : A} {n : Named} → List-as-Memᴰ a l → List-as-Memᴰ n (f a) → List-as-Memᴰ n (gather f l)
   unfolding gather
   gather_in (x ∷ l) {a} {n} (List·Memᴰ·head e) k = Memᴰ.append_left (gather f l) (subst (λ (y : A). List-as-Memᴰ n (f y)) e k)
   gather_in (x ∷ l) {a} {n} (List·Memᴰ·tail m) k = Memᴰ.append_right (f x) (gather_in l m k)
+  gather_in [] {a = a} {n = n} x'' k = elim x'' [ ]
 
 pub in_only : (test : Bool) (m : Named) {n : Named} → List-as-Memᴰ n (only test m) → (test ≡ true) × (n ≡ m)
 in_only true m k = (refl, Memᴰ.eq_of_singleton k)
+in_only false m {n = n} k = elim k [ ]
 
 pub only_in : (test : Bool) (m : Named) → test ≡ true → List-as-Memᴰ m (only test m)
 only_in test m e = rw e (List·Memᴰ·head refl)

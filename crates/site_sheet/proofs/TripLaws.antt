@@ -1,13 +1,12 @@
 -- Sheets and links are read back from their bytes.
 -- Assumes nothing.
-use Rattle.octets.proofs.Words.{◌≡◌, refl, ap, ◌∙◌, List, [], ℕ, ◌+◌, ◌*◌, ◌/◌, arith, length}
+use Rattle.octets.proofs.Words.{◌≡◌, refl, ap, ◌∙◌, [], ℕ, ◌+◌, ◌*◌, ◌/◌, arith, length}
 use Rattle.octets.specs.Layouts.{fields}
 use Rattle.octets.specs.Lists.{tab, Each}
 use Rattle.octets.proofs.ListLaws.{map_same}
 use Rattle.octets.proofs.RunLaws.{Run, run_length, run-read}
 use Rattle.slot_sets.specs.Sets.{Slots}
 use Rattle.slot_sets.proofs.MaskLaws.{set_back}
-use Rattle.site_sheet.specs.Sheets.{Proposed, Link}
 use Rattle.site_sheet.specs.SheetBytes.{row_widths, row_size, row_values, proposed_from, proposed_at, sheet_in, sheet_bytes, link_widths, link_size, link_values, link_from, link_at, links_in, links_bytes, SheetReadsBack, LinksReadBack}
 
 from_start : (n : ℕ) → n ≡ 0 + n

@@ -18,7 +18,7 @@ pub(crate) struct First {
 }
 
 // A row, its place, and the mask of its neighbours' places.
-#[derive(Drop)]
+#[derive(Clone, Copy)]
 pub(crate) struct Known {
     pub row: Row,
     pub place: u32,

@@ -10,7 +10,7 @@ const ROW_SIZE: usize = 10;
 const LINK_SIZE: usize = 4;
 
 // A unit, and the mask of its slots.
-#[derive(Drop)]
+#[derive(Clone, Copy)]
 pub(crate) struct Row {
     pub unit: u16,
     pub slots: u64,

@@ -1,0 +1,14 @@
+-- `units_addressed`: the rows from i on.
+-- Assumes nothing.
+use Rattle.octets.proofs.Words.{◌≡◌, arith, rules}
+use Rattle.site_sheet.proofs.RefusalLaws.{units-none, units_more}
+use Rattle.site_sheet.proofs.refusing.units_addressed.Goals as goal
+
+pub loop-i-init : goal.loop-i-init
+loop-i-init c = (search rules, search (rules, units-none))
+
+pub loop-i-preserved : goal.loop-i-preserved
+loop-i-preserved c = (search rules, search (rules, units_more))
+
+pub returns : goal.returns
+returns c = let l = c.loop-i in let none : l.i ≡ 0 = omega arith in rw none at l.invariant.1

@@ -3,7 +3,6 @@
 use native.Mathlib.Omega.{arith}
 use Rattle.slot_sets.proofs.MaskLaws.{mask-drop}
 use Rattle.slot_sets.proofs.FewLaws.{none_dropped, one-dropped}
-use borrow.Author.Rules.{rules}
 use Rattle.slot_sets.proofs.masks.dropped.Goals as goal
 
 pub returns-then-m-gt0 : goal.returns-then-m-gt0

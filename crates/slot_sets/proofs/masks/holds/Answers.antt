@@ -1,6 +1,5 @@
 -- `holds`: the bit at i, and none past the mask.
 -- Assumes nothing.
-use borrow.Author.Rules.{rules}
 use mathlib.Core.Path.{sym}
 use native.Mathlib.Omega.{arith}
 use Rattle.slot_sets.specs.Sets.{slots_of}

@@ -1,12 +1,10 @@
 -- `lowest`: what the turns leave is the mask without its k lowest slots, and the rest of it is those.
 -- Assumes nothing.
-use borrow.Author.Rules.{rules}
 use mathlib.Core.Path.{refl, ap, ◌∙◌}
-use Prim.Native.Nat.{◌-◌}
 use native.Mathlib.Omega.{arith}
 use Rattle.slot_sets.specs.Sets.{slots_of, minus}
 use Rattle.slot_sets.proofs.DropLaws.{without_lowest, minus-left}
-use Rattle.slot_sets.proofs.TurnLaws.{Left, wanted, there, turned, ended}
+use Rattle.slot_sets.proofs.TurnLaws.{wanted, there, turned, ended}
 use Rattle.slot_sets.proofs.masks.lowest.Goals as goal
 
 pub loop-left-init : goal.loop-left-init

@@ -2,7 +2,6 @@
 -- Assumes nothing.
 use Rattle.slot_sets.specs.Sets.{slots_of}
 use Rattle.slot_sets.proofs.FewLaws.{some_and_few}
-use borrow.Author.Rules.{rules}
 use Rattle.slot_sets.proofs.masks.one_to_four.Goals as goal
 
 pub returns : goal.returns

@@ -1,6 +1,5 @@
 -- `released`: to keep all but k of the slots as the lowest is to release the k highest.
 -- Assumes nothing.
-use borrow.Author.Rules.{rules}
 use mathlib.Core.Path.{sym, ap, ◌∙◌}
 use Prim.Native.Nat.{ℕ, ◌-◌}
 use native.Mathlib.Omega.{arith}

@@ -9,24 +9,17 @@ use Rattle.book_joins.proofs.asking.ask.Goals as goal
 use Rattle.book_joins.proofs.asking.ask.Goals.{After-bytes_for}
 
 -- what is known before it is judged
-known : (bytes : After-bytes_for) → let own = bytes in let used = own in let request = used in
-    let a = request.args in
-    Asking a.book a.time a.frame.now request.of-request.result.node used.counted-census.result.own (slots_of own.asks-own.result)
-    (ltb used.counted-census.result.own used.in_use.result) bytes.bytes_for.result
-known bytes =
-    let own = bytes in
-    let held = own in
-    let used = held in
-    let census = used in
-    let current = census in
-    let request = current in
-    let a = request.args in
-    let (found, place, spaces, empty, few, long) = census.counted-census.ensures in
-    let rows = take a.book.plan.rows (rows_of current.current-now.result) in
-    let slots = is_asked a.book.plan.data_slots rows _ (slots_of held.slots_in-held.result) _ _ request.of-request.result.slots spaces empty own.asks-own.ensures in
-    asking a.book a.time current.current-now.result current.current-now.ensures census.counted-census.result.own used.in_use.result used.in_use.ensures long
-    a.frame.now (slots_of own.asks-own.result) bytes.bytes_for.result bytes.bytes_for.ensures
-    request.of-request.result (slots_of held.slots_in-held.result) request.of-request.ensures found held.slots_in-held.ensures slots
+known : (c : After-bytes_for) → let a = c.args in
+    Asking a.book a.time a.frame.now c.of-request.result.node c.counted-census.result.own (slots_of c.asks-own.result)
+    (ltb c.counted-census.result.own c.in_use.result) c.bytes_for.result
+known c =
+    let a = c.args in
+    let (found, place, spaces, empty, few, long) = c.counted-census.ensures in
+    let rows = take a.book.plan.rows (rows_of c.current-now.result) in
+    let slots = is_asked a.book.plan.data_slots rows _ (slots_of c.slots_in-held.result) _ _ c.of-request.result.slots spaces empty c.asks-own.ensures in
+    asking a.book a.time c.current-now.result c.current-now.ensures c.counted-census.result.own c.in_use.result c.in_use.ensures long
+    a.frame.now (slots_of c.asks-own.result) c.bytes_for.result c.bytes_for.ensures
+    c.of-request.result (slots_of c.slots_in-held.result) c.of-request.ensures found c.slots_in-held.ensures slots
 
 pub refusal-refused-requires : goal.refusal-refused-requires
 refusal-refused-requires c = ((known c).member, (known c).long)

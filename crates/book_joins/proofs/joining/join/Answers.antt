@@ -10,26 +10,18 @@ use Rattle.book_joins.proofs.joining.join.Goals as goal
 use Rattle.book_joins.proofs.joining.join.Goals.{After-bytes_for}
 
 -- what is known before it is judged
-known : (bytes : After-bytes_for) → let own = bytes in let census = own in let request = census in
-    let a = request.args in
-    Joining a.book a.time a.frame.now request.of-request.result.node own.either_size-at.result (slots_of own.seated-own.result)
-    (not (ltb census.counted-census.result.own own.in_use.result) && eqb census.counted-census.result.vacant 0) bytes.bytes_for.result
-known bytes =
-    let own = bytes in
-    let held = own in
-    let chosen = held in
-    let used = chosen in
-    let census = used in
-    let current = census in
-    let request = current in
-    let a = request.args in
-    let (found, place, spaces, empty, few, long) = census.counted-census.ensures in
-    let rows = take a.book.plan.rows (rows_of current.current-now.result) in
-    let slots = is_seated a.book.plan.data_slots rows _ _ _ _ request.of-request.result.slots spaces empty (ltb census.counted-census.result.own used.in_use.result) _ held.slots_in-held.ensures own.seated-own.ensures in
-    joining a.book a.time current.current-now.result current.current-now.ensures census.counted-census.result.own used.in_use.result used.in_use.ensures long
-    a.frame.now (slots_of own.seated-own.result) bytes.bytes_for.result bytes.bytes_for.ensures
-    request.of-request.result chosen.either_size-at.result census.counted-census.result.place census.counted-census.result.vacant request.of-request.ensures found place
-    chosen.either_size-at.ensures empty slots
+known : (c : After-bytes_for) → let a = c.args in
+    Joining a.book a.time a.frame.now c.of-request.result.node c.either_size-at.result (slots_of c.seated-own.result)
+    (not (ltb c.counted-census.result.own c.in_use.result) && eqb c.counted-census.result.vacant 0) c.bytes_for.result
+known c =
+    let a = c.args in
+    let (found, place, spaces, empty, few, long) = c.counted-census.ensures in
+    let rows = take a.book.plan.rows (rows_of c.current-now.result) in
+    let slots = is_seated a.book.plan.data_slots rows _ _ _ _ c.of-request.result.slots spaces empty (ltb c.counted-census.result.own c.in_use.result) _ c.slots_in-held.ensures c.seated-own.ensures in
+    joining a.book a.time c.current-now.result c.current-now.ensures c.counted-census.result.own c.in_use.result c.in_use.ensures long
+    a.frame.now (slots_of c.seated-own.result) c.bytes_for.result c.bytes_for.ensures
+    c.of-request.result c.either_size-at.result c.counted-census.result.place c.counted-census.result.vacant c.of-request.ensures found place
+    c.either_size-at.ensures empty slots
 
 pub refusal-refused-requires : goal.refusal-refused-requires
 refusal-refused-requires c = ((known c).none, (known c).long)

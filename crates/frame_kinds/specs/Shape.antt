@@ -1,7 +1,7 @@
 -- What a kind of frame is: its type, the widths of its fields, how many bytes follow them, and its field rules.
 -- Everything that is read or written of a kind follows from these four.
 -- Assumes nothing.
-use Rattle.std.specs.Prelude.{ℕ, ◌+◌, Bool, true, ◌&&◌, cond, List, [], ◌∷◌, ◌++◌, eqb, take, drop}
+use Rattle.std.specs.Prelude.{ℕ, ◌+◌, Bool, cond, List, [], ◌∷◌, ◌++◌, eqb, take, drop}
 use Rattle.octets.specs.Lists.{all}
 use Rattle.octets.specs.Layouts.{total, fields, bytes}
 use Rattle.octets.specs.Parts.{Lent, part_of}

@@ -1,6 +1,6 @@
 -- `refused`: each return is the first reason that holds.
 -- Assumes nothing.
-use Rattle.octets.proofs.Words.{rules, eq-eqb, ne_eqb, lt-ltb, le-ltb}
+use Rattle.octets.proofs.Words.{eq-eqb, ne_eqb, lt-ltb, le-ltb}
 use Rattle.frame_kinds.specs.Reading.{read_refusal, is_sealed}
 use Rattle.frame_kinds.proofs.judging.refused.Goals as goal
 

@@ -1,6 +1,6 @@
 -- `seal`: the XOR of what stands before it; past the end nothing is stored.
 -- Assumes nothing.
-use Rattle.octets.proofs.Words.{sym, rules, set_out}
+use Rattle.octets.proofs.Words.{sym, set_out}
 use Rattle.frame_kinds.proofs.sealing.seal.Goals as goal
 
 pub returns-then-out-end : goal.returns-then-out-end

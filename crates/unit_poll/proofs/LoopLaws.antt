@@ -1,6 +1,6 @@
 -- The loops over a poll's places: how many others there are, whether a unit is among them, the best of them, and one sifted in.
 -- Assumes nothing.
-use Rattle.octets.proofs.Words.{◌≡◌, refl, sym, ap, ◌∙◌, Bool, true, false, not, ◌&&◌, ◌||◌, cond, or-false, List, [], ◌∷◌, ◌++◌, append_assoc, ℕ, ◌+◌, ◌*◌, ◌-◌, ◌≤◌, ◌<◌, add-zero, add-suc, add-one, arith, eq-eqb, ne_eqb, eqb, ltb, length, take, drop, drop-drop, sets, length-sets}
+use Rattle.octets.proofs.Words.{◌≡◌, refl, sym, ap, ◌∙◌, Bool, true, false, not, ◌&&◌, ◌||◌, cond, or-false, List, [], ◌∷◌, ℕ, ◌+◌, ◌*◌, ◌≤◌, ◌<◌, add-zero, arith, eq-eqb, ne_eqb, eqb, ltb, length, take, drop, drop-drop, sets, length-sets}
 use Rattle.octets.specs.Layouts.{fields, bytes}
 use Rattle.octets.proofs.LayoutLaws.{fields-part, length-bytes}
 use Rattle.octets.proofs.StoreLaws.{sets_append, drop-sets}
@@ -8,7 +8,7 @@ use Rattle.unit_poll.specs.declared.voter.Voter.{Voter}
 use Rattle.unit_poll.specs.Places.{sifted}
 use Rattle.unit_poll.specs.PollBytes.{voter_widths, voter_values, voter_from, voter_at, voters_bytes, in_use, places_in, poll_in}
 use Rattle.unit_poll.specs.Polls.{self_of, winning}
-use Rattle.unit_poll.specs.Voters.{none, better, known, best}
+use Rattle.unit_poll.specs.Voters.{better, known, best}
 use Rattle.unit_poll.proofs.PlaceLaws.{places-from, places-past}
 
 -- ---- a place that is passed, the first empty one, and the end

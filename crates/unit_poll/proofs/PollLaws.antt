@@ -1,16 +1,14 @@
 -- A poll within rule, its bytes, and what its calls leave of them.
 -- Assumes nothing.
-use Rattle.octets.proofs.Words.{◌≡◌, refl, sym, ap, ◌∙◌, Bool, true, false, not, ◌&&◌, ◌||◌, cond, and-eq-true_iff, List, [], ◌∷◌, ◌++◌, append-nil, ℕ, zero, suc, ◌+◌, ◌*◌, ◌-◌, ◌≤◌, ◌<◌, zero-add, arith, eq-eqb, ne_eqb, lt-ltb, eqb-true, leb-true, eqb, leb, length, take, drop, drop_of_length-le, length-append, length-drop, length-replicate, replicate, sets, sets-eq}
+use Rattle.octets.proofs.Words.{◌≡◌, refl, sym, ap, ◌∙◌, Bool, true, false, not, ◌&&◌, cond, and-eq-true_iff, List, [], ◌∷◌, ◌++◌, append-nil, ℕ, ◌+◌, ◌*◌, ◌-◌, ◌≤◌, zero-add, arith, ne_eqb, lt-ltb, eqb-true, leb-true, eqb, leb, length, take, drop, drop_of_length-le, length-append, length-drop, length-replicate, replicate, sets, sets-eq}
 use Rattle.octets.specs.Addresses.{address}
-use Rattle.octets.specs.Answers.{refusing, first}
 use Rattle.octets.specs.Calls.{after}
 use Rattle.octets.specs.Layouts.{bytes, Bytes}
 use Rattle.octets.specs.Lists.{every}
-use Rattle.octets.specs.Numbers.{num, digits}
+use Rattle.octets.specs.Numbers.{digits}
 use Rattle.octets.specs.Zeros.{zeros_from}
 use Rattle.octets.proofs.AddressLaws.{address-least}
-use Rattle.octets.proofs.AnswerLaws.{Numbered, refusing_numbered, none-holds}
-use Rattle.octets.proofs.CallLaws.{after-accepted, after-refused}
+use Rattle.octets.proofs.AnswerLaws.{refusing_numbered, none-holds}
 use Rattle.octets.proofs.LayoutLaws.{bytes-fields, length-bytes}
 use Rattle.octets.proofs.ListLaws.{every-on}
 use Rattle.octets.proofs.NumberLaws.{length_digits}
@@ -21,9 +19,8 @@ use Rattle.frame_kinds.specs.Shape.{values_in}
 use Rattle.frame_requests.specs.declared.Election.{Election}
 use Rattle.frame_requests.specs.Requests.{election, election_values, election_from}
 use Rattle.unit_poll.specs.declared.voter.Voter.{Voter}
-use Rattle.unit_poll.specs.declared.poll.Named.{Named}
 use Rattle.unit_poll.specs.Places.{is_none, sifted}
-use Rattle.unit_poll.specs.PollBytes.{voter_widths, voter_values, voters_bytes, in_use, places_in, poll_in, pad, poll_bytes, holds_poll, PollLeft, poll_left, fresh_call, hear_call, named_in}
+use Rattle.unit_poll.specs.PollBytes.{voter_widths, voter_values, voters_bytes, in_use, places_in, poll_in, pad, poll_bytes, holds_poll, poll_left, fresh_call, hear_call, named_in}
 use Rattle.unit_poll.specs.Polls.{Poll, poll_rule, fresh_poll, fresh_refusal, voter_in, unheard_reasons, hear_refusal, with_message, winner_of}
 use Rattle.unit_poll.specs.Voters.{voter, none, voter_rule, ascending, known, put}
 use Rattle.unit_poll.proofs.PlaceLaws.{places_long, none-zeros, others-few}

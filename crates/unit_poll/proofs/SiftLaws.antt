@@ -1,6 +1,6 @@
 -- A message sifted into the places of ascending others is put among them.
 -- Assumes nothing.
-use Rattle.octets.proofs.Words.{◌≡◌, refl, sym, ap, ◌∙◌, Bool, true, false, not, ◌&&◌, and-eq-true_iff, false≢true, List, [], ◌∷◌, ◌++◌, ℕ, suc, ◌-◌, ◌≤◌, ◌<◌, ℕ_discrete, dec_lt, arith, eq-eqb, ne_eqb, le-leb, lt-ltb, le-ltb, ltb-true, eqb, leb, ltb, length, replicate}
+use Rattle.octets.proofs.Words.{◌≡◌, refl, sym, ap, ◌∙◌, Bool, true, false, not, ◌&&◌, and-eq-true_iff, false≢true, List, [], ◌∷◌, ◌++◌, suc, ◌-◌, ◌≤◌, ◌<◌, ℕ_discrete, dec_lt, arith, eq-eqb, ne_eqb, le-leb, lt-ltb, le-ltb, ltb-true, leb, ltb, length, replicate}
 use Rattle.octets.specs.Lists.{every}
 use Rattle.octets.proofs.OrderLaws.{ascending-rest, put_above, put_same, put-below}
 use Rattle.unit_poll.specs.declared.voter.Voter.{Voter}

@@ -1,23 +1,21 @@
 -- A poll that was stored is read back, and its bytes hold it.
 -- Assumes nothing.
-use Rattle.octets.proofs.Words.{◌≡◌, refl, sym, ap, ap₂, ◌∙◌, Bool, true, false, not, ◌&&◌, cond, and-eq-true_iff, List, [], ◌∷◌, ◌++◌, append-nil, map, ℕ, zero, suc, ◌+◌, ◌*◌, ◌-◌, ◌^◌, ◌≤◌, ◌<◌, arith, eq-eqb, ne_eqb, ltb-true, eqb, leb, ltb, length, get_or, drop, drop-append_seam, length-append, replicate}
-use Rattle.octets.specs.Addresses.{address}
-use Rattle.octets.specs.Layouts.{fields, bytes, Fit, Bytes}
-use Rattle.octets.specs.Lists.{tab, every, Each}
+use Rattle.octets.proofs.Words.{◌≡◌, refl, sym, ap, ◌∙◌, true, and-eq-true_iff, List, [], ◌∷◌, ◌++◌, ℕ, zero, suc, ◌+◌, ◌*◌, ◌-◌, ◌<◌, arith, eq-eqb, ne_eqb, ltb-true, length, get_or, drop, drop-append_seam, length-append, replicate}
+use Rattle.octets.specs.Layouts.{fields, bytes, Fit}
+use Rattle.octets.specs.Lists.{every, Each}
 use Rattle.octets.specs.Numbers.{num}
 use Rattle.octets.specs.Zeros.{zeros_from}
 use Rattle.octets.proofs.AddressLaws.{address-fits}
 use Rattle.octets.proofs.EachLaws.{each-replicate, each_append}
 use Rattle.octets.proofs.LayoutLaws.{fields-bytes, length-bytes}
 use Rattle.octets.proofs.ListLaws.{map_same}
-use Rattle.octets.proofs.NumberLaws.{num_lt}
 use Rattle.octets.proofs.RunLaws.{run_length, run-read}
 use Rattle.unit_poll.specs.declared.voter.Voter.{Voter}
 use Rattle.unit_poll.specs.Places.{is_none}
 use Rattle.unit_poll.specs.PollBytes.{voter_widths, voter_values, voter_from, voter_at, voters_bytes, in_use, places_in, poll_in, pad, poll_bytes, holds_poll}
 use Rattle.unit_poll.specs.Polls.{Poll, poll_rule}
-use Rattle.unit_poll.specs.Voters.{none, voter_rule, put}
-use Rattle.unit_poll.proofs.PlaceLaws.{places_long, none-zeros}
+use Rattle.unit_poll.specs.Voters.{none}
+use Rattle.unit_poll.proofs.PlaceLaws.{none-zeros}
 use Rattle.unit_poll.proofs.PollLaws.{within, rules_used, pad_long, voters_run}
 use Rattle.unit_poll.proofs.SiftLaws.{used}
 

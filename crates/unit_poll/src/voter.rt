@@ -10,7 +10,7 @@ use octets::addresses::is_address;
 use octets::fixed::{put8, put16};
 use octets::numbers::{number8, number16};
 
-#[derive(Drop)]
+#[derive(Clone, Copy)]
 pub struct Voter {
     pub unit: u16,
     pub priority: u8,

@@ -8,7 +8,7 @@ use frame_traffic::entry::Entry;
 use route_table::row::Row;
 
 // One hop more than an unreachable entry has is 256.
-#[derive(Drop)]
+#[derive(Clone, Copy)]
 pub struct Candidate {
     pub destination: u16,
     pub hops: u16,

@@ -7,10 +7,10 @@ use Rattle.route_in_place.proofs.ChangeLaws.{changed_none, changed_refused, chan
 use Rattle.route_in_place.proofs.changing.forget.Goals as goal
 use Rattle.route_in_place.proofs.changing.forget.Goals.{After-why_unforgotten-refused}
 
+-- once it is known why not
 holds : (d : After-why_unforgotten-refused) → holds_table d.args.table.now ≡ true
 holds d =
-    let test = d in
-    sym test.holds_table.ensures ∙ test.if-not-holds_table.false
+    sym d.holds_table.ensures ∙ d.if-not-holds_table.false
 
 number : (d : After-why_unforgotten-refused) → d.why_unforgotten-refused.result
     ≡ (forget_of (table_in d.args.table.now) d.args.unit d.args.time).refused
@@ -22,8 +22,6 @@ pub returns-then-not-holds_table : goal.returns-then-not-holds_table
 returns-then-not-holds_table c =
     let a = c.args in
     changed_none a.table.now (λ t. forget_of t a.unit a.time) (unforgotten a.unit a.time) (sym c.holds_table.ensures ∙ c.if-not-holds_table.true)
-
--- once it is known why not
 
 pub returns-then-refused-ne0 : goal.returns-then-refused-ne0
 returns-then-refused-ne0 c =

@@ -9,6 +9,7 @@ use Rattle.route_in_place.proofs.JudgedLaws.{judged-holds, judged-found}
 use Rattle.route_in_place.proofs.changing.pass.Goals as goal
 use Rattle.route_in_place.proofs.changing.pass.Goals.{After-refuse_if-refused-2}
 
+-- once it is known why not
 asked : (d : After-refuse_if-refused-2) → Asked d.args.table.now d.args.before d.args.network d.args.passing d.args.delay d.args.time d.args.behind d.refuse_if-refused-2.result
 asked d =
     let a = d.args in
@@ -31,8 +32,6 @@ returns-then-not-judged c =
     let a = c.args in
     changed_none a.table.now (λ t. pass_of t a.before a.network a.passing a.delay a.time a.behind) (unpassed a.before a.network a.passing a.delay a.time a.behind)
     (judged-holds a.table.now a.passing.original_source _ c.judged_for-judged.ensures false (not-true _ c.if-not-judged.true))
-
--- once it is known why not
 
 pub returns-then-refused-ne0 : goal.returns-then-refused-ne0
 returns-then-refused-ne0 c =

@@ -2,31 +2,22 @@
 #![tactic(auto)]
 
 use book_drawing::viewing::view;
-use libc::STDOUT_FILENO;
+use std::io::Write;
+use std::{env, fs, io};
 
-fn draw(k: usize) {
-    let mut path = io::buffer();
-    let length = os::arg(k, &mut path);
-    let fd = os::open_read(&path[..length]);
-    if fd < 0 {
-        os::fail(&path[..length]);
-        return;
-    }
-    let mut image = io::buffer();
-    let mut text = io::buffer();
-    let n = io::read_full(fd, &mut image);
-    libc::close(fd);
-    let size = view(&image[..n], &mut text);
-    io::write_all(STDOUT_FILENO, &path[..length]);
-    io::write_all(STDOUT_FILENO, b"\n");
-    io::write_all(STDOUT_FILENO, &text[..size]);
+fn draw(rt: &HostRuntime, path: &str) -> io::Result<()> {
+    let image = fs::read(rt, path)?;
+    let mut text = [0u8; 4096];
+    let size = view(&image, &mut text);
+    let mut out = rt.stdout();
+    out.write_all(path.as_bytes())?;
+    out.write_all(b"\n")?;
+    out.write_all(&text[..size])
 }
 
-fn main() {
-    let n = os::arg_count();
-    let mut k: usize = 1;
-    while k < n {
-        draw(k);
-        k += 1;
+fn main(rt: HostRuntime) -> io::Result<()> {
+    for path in env::args(&rt)?.skip(1) {
+        draw(&rt, path.as_str())?;
     }
+    Ok(())
 }

@@ -1,14 +1,32 @@
 // slotview: reads a stored image from standard input and draws its site, or says that it is refused.
 #![tactic(auto)]
 
+ghost use Rattle.std.specs.Prelude.{◌≤◌, length, IfOk};
+
 use book_drawing::viewing::view;
-use libc::{STDIN_FILENO, STDOUT_FILENO};
+use std::io;
+use std::io::{Read, Write};
+
+// Reads until the buffer is full or the input ends, and says how many bytes that were.
+fn read_full<R: Read>(input: &mut R, out: &mut [u8]) -> io::Result<usize>
+    ensures { IfOk result (λ n. n ≤ length out.new) }
+{
+    let mut done = 0;
+    while done < out.len() {
+        let n = input.read(&mut out[done..])?;
+        if n == 0 {
+            break;
+        }
+        done += n;
+    }
+    Ok(done)
+}
 
 // The buffers are larger than any image and than any drawing of one. So input that is too long fills the first one, and is refused for its length.
-fn main() {
-    let mut image = io::buffer();
-    let mut text = io::buffer();
-    let n = io::read_full(STDIN_FILENO, &mut image);
+fn main(rt: HostRuntime) -> io::Result<()> {
+    let mut image = [0u8; 4096];
+    let mut text = [0u8; 4096];
+    let n = read_full(&mut rt.stdin(), &mut image)?;
     let size = view(&image[..n], &mut text);
-    io::write_all(STDOUT_FILENO, &text[..size]);
+    rt.stdout().write_all(&text[..size])
 }

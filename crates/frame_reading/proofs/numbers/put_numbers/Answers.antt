@@ -8,10 +8,10 @@ pub loop-k-init : goal.loop-k-init
 loop-k-init c = (search rules, search rules, refl, refl)
 
 pub overflow_cast-place : goal.overflow_cast-place
-overflow_cast-place c = omega (arith, c.shared_slice_known-in-loop-k-2-1.given c.loop-k.k)
+overflow_cast-place c = omega (arith, c.type_inv.widths c.loop-k.k)
 
 pub overflow_add-place : goal.overflow_add-place
-overflow_add-place c = omega (arith, c.shared_slice_known-in-loop-k-2-1.given c.loop-k.k)
+overflow_add-place c = omega (arith, c.type_inv.widths c.loop-k.k)
 
 pub loop-k-preserved : goal.loop-k-preserved
 loop-k-preserved c =
@@ -19,7 +19,7 @@ loop-k-preserved c =
     let a = c.args in
     let h : l.k < length a.widths.now = omega arith in (
       omega arith,
-      omega (arith, c.shared_slice_known-in-loop-k-2-1.given l.k),
+      omega (arith, c.type_inv.widths l.k),
       simp length-set l.invariant.2,
       rw c.number.ensures (sym (seen_turn l.out a.widths.now a.s.now l.place l.k h) ∙ l.invariant.3),
     )

@@ -6,8 +6,6 @@ use Rattle.book_drawing.proofs.drawing.put_book.Goals as goal
 
 pub returns : goal.returns
 returns c =
-    let rows = c in
-    let head = rows in
-    let a = head.args in
-    let (stored, behind, short) = head.put_head_line-place.ensures in
-    book-told a.out.now (contents a.book) stored behind rows.put_rows.ensures
+    let a = c.args in
+    let (stored, behind, short) = c.put_head_line-place.ensures in
+    book-told a.out.now (contents a.book) stored behind c.put_rows.ensures

@@ -16,24 +16,20 @@ overflow_cast-count c =
 
 pub loop-slot-init : goal.loop-slot-init
 loop-slot-init c =
-    let start = c in
-    let few = few-slots start.args.plan in
-    (search rules, omega (arith, c.slots-count.ensures, few), start.requires, refl, search rules, none-put _ _ _)
+    let few = few-slots c.args.plan in
+    (search rules, omega (arith, c.slots-count.ensures, few), c.requires, refl, search rules, none-put _ _ _)
 
 pub loop-slot-preserved : goal.loop-slot-preserved
 loop-slot-preserved c =
-    let put = c in
-    let turn = put in
-    let l = turn.loop-slot in
-    let drawing = turn in
-    let a = drawing.args in
-    let letters : ℕ → ℕ = λ s. letter (kind_of a.plan a.row drawing.hop_of-hop.result (slots_of a.own) s) in (
+    let l = c.loop-slot in
+    let a = c.args in
+    let letters : ℕ → ℕ = λ s. letter (kind_of a.plan a.row c.hop_of-hop.result (slots_of a.own) s) in (
       search rules,
       l.invariant.1,
       l.invariant.2,
-      put.put_byte-place.auto.out ∙ l.invariant.3,
+      c.put_byte-place.auto.out ∙ l.invariant.3,
       search rules,
-      one_more a.out.now a.at letters l.slot l.invariant.4 l.invariant.5 (put.letter_of.ensures ∙ ap letter turn.kind_at-kind.ensures) put.put_byte-place.ensures.0,
+      one_more a.out.now a.at letters l.slot l.invariant.4 l.invariant.5 (c.letter_of.ensures ∙ ap letter c.kind_at-kind.ensures) c.put_byte-place.ensures.0,
     )
 
 pub shape_of-out : goal.shape_of-out
@@ -42,6 +38,5 @@ shape_of-out c = c.loop-slot.invariant.3
 pub returns : goal.returns
 returns c =
     let l = c.loop-slot in
-    let drawing = c in
-    let a = drawing.args in
-    all-drawn a.out.now a.at a.plan a.row (slots_of a.own) drawing.hop_of-hop.ensures (omega (arith, l.invariant.0, c.loop-slot-test.false, c.slots-count.ensures)) l.invariant.4 l.invariant.5
+    let a = c.args in
+    all-drawn a.out.now a.at a.plan a.row (slots_of a.own) c.hop_of-hop.ensures (omega (arith, l.invariant.0, c.loop-slot-test.false, c.slots-count.ensures)) l.invariant.4 l.invariant.5

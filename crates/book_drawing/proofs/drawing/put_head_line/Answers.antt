@@ -20,16 +20,10 @@ put_decimal-place-requires c = search (rules, few (goal.at.put_decimal-place-req
 
 pub returns : goal.returns
 returns c =
-    let end = c in
-    let second = end in
-    let between = second in
-    let first = between in
-    let front = first in
-    let counted = front in
-    let a = counted.args in
-    let (slots, next, short) = first.put_decimal-place.ensures in
-    let (active, next2, short2) = second.put_decimal-end.ensures in
-    let (line, place) = head-told a.out.now a.plan counted.slots-slots.ensures counted.active-active.ensures
-    (all-put a.out.now 0 slots_word (decimal counted.slots-slots.result ∷ active_word ∷ decimal counted.active-active.result ∷ (newline ∷ []) ∷ [])
-    front.put_word-place.ensures (put (slots, next) (put between.put_word-place-2.ensures (put (active, next2) (put end.put_byte.ensures done))))) in
-    (line, place, omega (arith, front.put_word-place.ensures.1, short, between.put_word-place-2.ensures.1, short2, end.put_byte.ensures.1))
+    let a = c.args in
+    let (slots, next, short) = c.put_decimal-place.ensures in
+    let (active, next2, short2) = c.put_decimal-end.ensures in
+    let (line, place) = head-told a.out.now a.plan c.slots-slots.ensures c.active-active.ensures
+    (all-put a.out.now 0 slots_word (decimal c.slots-slots.result ∷ active_word ∷ decimal c.active-active.result ∷ (newline ∷ []) ∷ [])
+    c.put_word-place.ensures (put (slots, next) (put c.put_word-place-2.ensures (put (active, next2) (put c.put_byte.ensures done))))) in
+    (line, place, omega (arith, c.put_word-place.ensures.1, short, c.put_word-place-2.ensures.1, short2, c.put_byte.ensures.1))

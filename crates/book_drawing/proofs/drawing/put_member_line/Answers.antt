@@ -8,12 +8,8 @@ use Rattle.book_drawing.proofs.drawing.put_member_line.Goals as goal
 
 pub returns : goal.returns
 returns c =
-    let end = c in
-    let letters = end in
-    let gap = letters in
-    let address = gap in
-    let a = address.args in
-    let (stored, behind, short) = letters.put_drawn-place.ensures in
+    let a = c.args in
+    let (stored, behind, short) = c.put_drawn-place.ensures in
     let (line, next) = all-put a.out.now a.at (hex a.member.unit) ((space ∷ []) ∷ drawn a.plan a.row (slots_of a.member.slots) ∷ (newline ∷ []) ∷ [])
-    address.put_hex-place.ensures (put gap.put_byte-place.ensures (put (stored, behind) (put end.put_byte.ensures done))) in
-    (line, next, omega (arith, address.put_hex-place.ensures.1, gap.put_byte-place.ensures.1, short, end.put_byte.ensures.1))
+    c.put_hex-place.ensures (put c.put_byte-place.ensures (put (stored, behind) (put c.put_byte.ensures done))) in
+    (line, next, omega (arith, c.put_hex-place.ensures.1, c.put_byte-place.ensures.1, short, c.put_byte.ensures.1))

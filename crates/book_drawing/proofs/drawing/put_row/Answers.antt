@@ -11,7 +11,5 @@ returns-then-member-eq0 c =
 
 pub returns : goal.returns
 returns c =
-    let put = c in
-    let test = put in
-    let a = test.args in
-    row-drawn a.out.now a.at a.plan a.row (row_of a.member) test.if-member-eq0.false put.put_member_line.ensures
+    let a = c.args in
+    row-drawn a.out.now a.at a.plan a.row (row_of a.member) c.if-member-eq0.false c.put_member_line.ensures

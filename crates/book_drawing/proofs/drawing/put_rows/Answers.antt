@@ -12,17 +12,15 @@ loop-row-init c = (search rules, c.in_use-used.ensures, search rules, refl, sear
 
 pub loop-row-preserved : goal.loop-row-preserved
 loop-row-preserved c =
-    let put = c in
-    let turn = put in
-    let l = turn.loop-row in
-    let a = turn.args in
-    let (stored, next, short) = put.put_row-place.ensures in (
+    let l = c.loop-row in
+    let a = c.args in
+    let (stored, next, short) = c.put_row-place.ensures in (
       search rules,
       l.invariant.1,
       omega (arith, l.invariant.2, short),
-      put.put_row-place.auto.out ∙ l.invariant.3,
+      c.put_row-place.auto.out ∙ l.invariant.3,
       l.invariant.4,
-      row-turn a.out.now a.at a.plan a.rows l.invariant.4 l.row l.out l.place (omega (arith, turn.loop-row-test.true, l.invariant.1)) l.invariant.5 (stored, next),
+      row-turn a.out.now a.at a.plan a.rows l.invariant.4 l.row l.out l.place (omega (arith, c.loop-row-test.true, l.invariant.1)) l.invariant.5 (stored, next),
     )
 
 pub shape_of-out : goal.shape_of-out

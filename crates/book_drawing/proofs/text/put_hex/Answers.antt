@@ -10,10 +10,5 @@ below d = search rules
 
 pub returns : goal.returns
 returns c =
-    let put = c in
-    let fourth = put in
-    let third = fourth in
-    let second = third in
-    let first = second in
     let start = (goal.at.returns c).Start in
-    same_text start.args.out.now start.args.at (hex-digits (below start) first.hex_digit-first.ensures second.hex_digit-second.ensures third.hex_digit-third.ensures fourth.hex_digit.ensures) put.put_word.ensures
+    same_text start.args.out.now start.args.at (hex-digits (below start) c.hex_digit-first.ensures c.hex_digit-second.ensures c.hex_digit-third.ensures c.hex_digit.ensures) c.put_word.ensures

@@ -7,16 +7,12 @@ use Rattle.book_drawing.proofs.viewing.view.Goals as goal
 
 pub returns-then-restored-ne0 : goal.returns-then-restored-ne0
 returns-then-restored-ne0 c =
-    let put = c in
-    let answer = put in
-    let a = answer.args in
-    rw (view-refused a.image.now (change_of answer.restore-restored.result) answer.restore-restored.ensures put.if-restored-ne0.true)
-    (viewed a.out.now refused_text _ _ put.put_bytes.ensures c.smaller.ensures)
+    let a = c.args in
+    rw (view-refused a.image.now (change_of c.restore-restored.result) c.restore-restored.ensures c.if-restored-ne0.true)
+    (viewed a.out.now refused_text _ _ c.put_bytes.ensures c.smaller.ensures)
 
 pub returns : goal.returns
 returns c =
-    let put = c in
-    let answer = put in
-    let a = answer.args in
-    rw (view-accepted a.image.now (change_of answer.restore-restored.result) answer.restore-restored.ensures put.if-restored-ne0.false)
-    (viewed a.out.now (book_text (contents answer.restore-restored.result.book)) _ _ put.put_book-size.ensures.0 (rw put.put_book-size.ensures.1 at c.smaller-2.ensures))
+    let a = c.args in
+    rw (view-accepted a.image.now (change_of c.restore-restored.result) c.restore-restored.ensures c.if-restored-ne0.false)
+    (viewed a.out.now (book_text (contents c.restore-restored.result.book)) _ _ c.put_book-size.ensures.0 (rw c.put_book-size.ensures.1 at c.smaller-2.ensures))

@@ -13,15 +13,13 @@ returns-then-count-place c =
 pub returns-then-unit-eq0 : goal.returns-then-unit-eq0
 unfolding row_in
 returns-then-unit-eq0 c =
-    let row = c in
-    let a = row.args in
-    let e = row.numbers_at-numbers.ensures.0 in
-    rw (lt-ltb a.place a.count (omega (arith, row.if-count-place.false)), e, row.numbers_at-numbers.ensures.1, eq-eqb _ 0 (sym e ∙ c.if-unit-eq0.true))
+    let a = c.args in
+    let e = c.numbers_at-numbers.ensures.0 in
+    rw (lt-ltb a.place a.count (omega (arith, c.if-count-place.false)), e, c.numbers_at-numbers.ensures.1, eq-eqb _ 0 (sym e ∙ c.if-unit-eq0.true))
 
 pub returns : goal.returns
 unfolding row_in
 returns c =
-    let row = c in
-    let a = row.args in
-    let e = row.numbers_at-numbers.ensures.0 in
-    rw (lt-ltb a.place a.count (omega (arith, row.if-count-place.false)), e, row.numbers_at-numbers.ensures.1, ne_eqb _ 0 (λ z. c.if-unit-eq0.false (e ∙ z)))
+    let a = c.args in
+    let e = c.numbers_at-numbers.ensures.0 in
+    rw (lt-ltb a.place a.count (omega (arith, c.if-count-place.false)), e, c.numbers_at-numbers.ensures.1, ne_eqb _ 0 (λ z. c.if-unit-eq0.false (e ∙ z)))

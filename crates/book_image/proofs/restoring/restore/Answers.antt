@@ -7,15 +7,12 @@ use Rattle.book_image.proofs.restoring.restore.Goals as goal
 
 pub returns : goal.returns
 returns c =
-    let rule = c in
-    let rows = rule in
-    let plan = rows in
-    let a = plan.args in
+    let a = c.args in
     c.settled.ensures
     ∙ rw c.zeros.ensures
-    (restores a.image.now a.time _ plan.section_plan-plan.result (rows_of rows.members_in-rows.result) _ _
-    plan.section_plan-plan.ensures
-    rows.members_in-rows.ensures
-    rule.fits.ensures
-    rule.within_rule.ensures
+    (restores a.image.now a.time _ c.section_plan-plan.result (rows_of c.members_in-rows.result) _ _
+    c.section_plan-plan.ensures
+    c.members_in-rows.ensures
+    c.fits.ensures
+    c.within_rule.ensures
     c.refuse_if.ensures)

@@ -8,19 +8,12 @@ use Rattle.book_image.proofs.writing.put_head.Goals as goal
 
 pub returns : goal.returns
 returns c =
-    let rows-length = c in
-    let rows-offset = rows-length in
-    let rows-number = rows-offset in
-    let plan-length = rows-number in
-    let plan-offset = plan-length in
-    let plan-number = plan-offset in
-    let count = plan-number in
-    let a = count.args in
+    let a = c.args in
     all-put a.out.now 0 (head_widths (sections a.rows)) (head_values (sections a.rows)) _
-    (put count.put8.ensures refl
-    (put plan-number.put8-2.ensures refl
-    (put plan-offset.put16.ensures refl
-    (put plan-length.put16-2.ensures refl
-    (put rows-number.put8-3.ensures refl
-    (put rows-offset.put16-3.ensures refl
-    (put rows-length.put16-4.ensures refl done)))))))
+    (put c.put8.ensures refl
+    (put c.put8-2.ensures refl
+    (put c.put16.ensures refl
+    (put c.put16-2.ensures refl
+    (put c.put8-3.ensures refl
+    (put c.put16-3.ensures refl
+    (put c.put16-4.ensures refl done)))))))

@@ -13,10 +13,8 @@ below d = search rules
 
 pub returns : goal.returns
 returns c =
-    let slots = c in
-    let unit = slots in
     let start = (goal.at.returns c).Start in
     let a = start.args in
     all-put a.out.now a.place row_widths (row_values (row_of a.member)) _
-    (put unit.put16.ensures (omega arith)
-    (put (rw (← mask_back a.member.slots (below start)) at slots.put64.ensures) refl done))
+    (put c.put16.ensures (omega arith)
+    (put (rw (← mask_back a.member.slots (below start)) at c.put64.ensures) refl done))

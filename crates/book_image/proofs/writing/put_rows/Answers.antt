@@ -12,30 +12,23 @@ pub shape_of-out-then-out-end : goal.shape_of-out-then-out-end
 shape_of-out-then-out-end c = c.put_row.auto.out ∙ c.loop-written.invariant.3
 
 -- the row that the end cuts
-
 pub returns-then-out-end : goal.returns-then-out-end
 returns-then-out-end c =
-    let cut = c in
-    let test = cut in
-    let turn = test in
-    let l = turn.loop-written in
-    let a = turn.args in
-    let h = turn.loop-written-test.true in
-    cut.put_row.ensures ∙ (rows_cut a.rows a.count l.invariant.2 l.out l.written (omega (arith, h, l.invariant.0)) test.if-out-end.true ∙ l.invariant.4)
+    let l = c.loop-written in
+    let a = c.args in
+    let h = c.loop-written-test.true in
+    c.put_row.ensures ∙ (rows_cut a.rows a.count l.invariant.2 l.out l.written (omega (arith, h, l.invariant.0)) c.if-out-end.true ∙ l.invariant.4)
 
 pub loop-written-preserved : goal.loop-written-preserved
 loop-written-preserved c =
-    let put = c in
-    let test = put in
-    let turn = test in
-    let l = turn.loop-written in
-    let a = turn.args in
-    let h = turn.loop-written-test.true in (
+    let l = c.loop-written in
+    let a = c.args in
+    let h = c.loop-written-test.true in (
       l.invariant.0,
       omega (arith, h),
       l.invariant.2,
       search rules,
-      rows-turn a.rows a.count l.invariant.2 l.out l.written (omega (arith, h, l.invariant.0)) _ test.if-out-end.false put.put_row-in-loop-written.ensures ∙ l.invariant.4,
+      rows-turn a.rows a.count l.invariant.2 l.out l.written (omega (arith, h, l.invariant.0)) _ c.if-out-end.false c.put_row-in-loop-written.ensures ∙ l.invariant.4,
     )
 
 pub returns : goal.returns

@@ -14,15 +14,10 @@ returns-then-refused-ne0 c =
 
 pub returns : goal.returns
 returns c =
-    let rows = c in
-    let plan = rows in
-    let head = plan in
-    let live = head in
-    let test = live in
-    let a = test.args in
+    let a = c.args in
     let count = a.book.plan.rows in
-    written (contents a.book) a.time _ a.out.now test.refusal-refused.ensures _ (take count (rows_of live.current-live.result)) _
-    (omega (arith, test.if-refused-ne0.false))
+    written (contents a.book) a.time _ a.out.now c.refusal-refused.ensures _ (take count (rows_of c.current-live.result)) _
+    (omega (arith, c.if-refused-ne0.false))
     c.size_for.ensures
-    (ap (take count) live.current-live.ensures ∙ take-current a.time count (rows_of a.book.rows))
-    (rows.put_rows.ensures ∙ rw (plan.put_section.ensures, head.put_head.ensures))
+    (ap (take count) c.current-live.ensures ∙ take-current a.time count (rows_of a.book.rows))
+    (c.put_rows.ensures ∙ rw (c.put_section.ensures, c.put_head.ensures))

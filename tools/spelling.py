@@ -32,7 +32,7 @@ FIXED = {
     "ask-short": "ask_short_lem",
     "asked-slots": "asked_slots_lem",
     "book-back": "book_back_lem",
-    "data-slots": "data_slots_lem",
+    "data-slots": "data_slots",
     "empty-is": "empty_is_lem",
     "empty-row": "empty_row_lem",
     "in-turn": "in_turn_lem",
@@ -42,7 +42,7 @@ FIXED = {
     "no-slots": "no_slots_lem",
     "out-of-rule": "out_of_rule_lem",
     "seen-fields": "seen_fields_lem",
-    "slot-ms": "slot_ms_lem",
+    "slot-ms": "slot_ms",
 }
 
 # Lemmas that port.py gave the name which a definition gets here. Behind a dot the word is a function of src/.

@@ -68,8 +68,8 @@ module _ (start : Start) (cs : List Call) (time : ℕ) (z : (begun start).refuse
             sym (ap value (answers_tell start cs u time z a o)) ∙ (of_row u some ∙ sym (held_by_lem weight u rows (ruled.units u some)))
 
 -- the data slots that a book has for a unit are those of its row
-data_slots_lem : (b : Contents) (unit time : ℕ) → length (drop 1 (slots_at b unit time)) ≡ cond (live_at b unit time) (count (holding b unit time)) 0
-data_slots_lem b unit time = go (live_at b unit time)
+data_slots : (b : Contents) (unit time : ℕ) → length (drop 1 (slots_at b unit time)) ≡ cond (live_at b unit time) (count (holding b unit time)) 0
+data_slots b unit time = go (live_at b unit time)
   where
     told : Slots 64 → List ℕ
     told = slots_told b.plan (place_for unit (rows_at b time))
@@ -81,7 +81,7 @@ data_slots_lem b unit time = go (live_at b unit time)
 pub always_d : AlwaysD
 always_d start cs time z o =
     let b = book_after start cs in
-    let all = granted-all start cs time z o (λ slots. length (drop 1 slots)) (λ r. count r.slots) (λ r t none. ap count none ∙ no_count) (λ unit some. data_slots_lem b unit time) last_address refl in
+    let all = granted-all start cs time z o (λ slots. length (drop 1 slots)) (λ r. count r.slots) (λ r t none. ap count none ∙ no_count) (λ unit some. data_slots b unit time) last_address refl in
     ap (λ (k : ℕ). count (free b.plan.data_slots (rows_at b time)) + k)
     (all ∙ sym (held-sum (rows_at b time)))
     ∙ all_accounted b time (stays_within_rule start cs z)

@@ -81,6 +81,6 @@ module _ (p : Plan) (time : ℕ) where
       ∙ by_parts (fresh_book p time) (record {
         plan = planned;
         few = few;
-        rows = rw some (fresh_ruled p.manager p.data_slots time (p.rows - 1) k.manager (omega (arith, k.rows, k.data_slots_lem)));
+        rows = rw some (fresh_ruled p.manager p.data_slots time (p.rows - 1) k.manager (omega (arith, k.rows, k.data_slots)));
         behind = rw some (every_empty empty_is empty_is_lem 20 (p.rows - 1)).1;
       })

@@ -25,9 +25,9 @@ granted-told b unit time at own out n planned there fits z =
     let k = kept p planned in
     let seated-below : at < p.rows = omega (arith, there, length-current time (rows_in b), length-take p.rows b.places) in
     let control : control_slot p at < 256 ^ 2 = omega (arith, k.few, seated-below) in
-    let data_slots_lem : data_slot_at p + 64 ≤ 256 ^ 2 = omega (arith, k.few) in
+    let data_slots : data_slot_at p + 64 ≤ 256 ^ 2 = omega (arith, k.few) in
     ap₂ {C = List ℕ} (λ (count : ℕ) (s : List ℕ). told_in (count / 13) s) (after-accepted n 0 _ z) (after-accepted n out _ z)
-    ∙ told_back p unit time (slots_told p at own) out (small-told 64 p at own control data_slots_lem) fits
+    ∙ told_back p unit time (slots_told p at own) out (small-told 64 p at own control data_slots) fits
 
 module _ (b : Contents) (s : List ℕ) (time : ℕ) (out : List ℕ) where
   pub join-told : (join_of b s time out).refused ≡ 0

@@ -69,7 +69,7 @@ module _ {b : Contents} {c : Call} {at : ℕ} {own : Slots 64} (t : Taken b c at
   below : Below 100 (slots_told p at own)
   below =
       let row : at < p.rows = omega (arith, t.place.there, length-current (time_of c) (rows_in b), length-take p.rows b.places) in
-      below-told 100 64 p at own (omega (arith, rule.few, row)) (omega (arith, rule.few, rule.data_slots_lem, rule.few-hops))
+      below-told 100 64 p at own (omega (arith, rule.few, row)) (omega (arith, rule.few, rule.data_slots, rule.few-hops))
 
   abbrev all : List ℕ → List ℕ
   all slots = responses_for p (unit_of c) (time_of c) slots

@@ -64,9 +64,9 @@ pub record Kept (p : Plan) : Type 0 where
   pub hops : 1 ≤ p.max_hops
   pub few-hops : p.max_hops ≤ 10
   pub rows : 2 ≤ p.rows
-  pub data_slots_lem : p.rows ≤ p.data_slots
+  pub data_slots : p.rows ≤ p.data_slots
   pub few : active p ≤ 50
-  pub slot_ms_lem : p.slot_ms ≤ 65535
+  pub slot_ms : p.slot_ms ≤ 65535
   pub beacon : p.beacon_type ≤ 255
 
 -- a beacon's type is a byte
@@ -88,9 +88,9 @@ kept p e =
       hops = leb-true _ _ least;
       few-hops = leb-true _ _ most;
       rows = leb-true _ _ (holds 3);
-      data_slots_lem = leb-true _ _ (holds 4);
+      data_slots = leb-true _ _ (holds 4);
       few = leb-true _ _ (holds 5);
-      slot_ms_lem = leb-true _ _ ((and-eq-true_iff (leb 1 p.slot_ms) (leb p.slot_ms 65535)).0 (holds 6)).1;
+      slot_ms = leb-true _ _ ((and-eq-true_iff (leb 1 p.slot_ms) (leb p.slot_ms 65535)).0 (holds 6)).1;
       beacon = kind_fits p.beacon_type (holds 7);
     }
 
@@ -103,8 +103,8 @@ pub rule_bounds : RuleBounds
 rule_bounds p e =
     let k = kept p e in
     record {
-      few-rows = omega (arith, k.hops, k.rows, k.data_slots_lem, k.few);
-      few_data_slots = omega (arith, k.hops, k.rows, k.data_slots_lem, k.few);
+      few-rows = omega (arith, k.hops, k.rows, k.data_slots, k.few);
+      few_data_slots = omega (arith, k.hops, k.rows, k.data_slots, k.few);
       few-slots = few-slots p;
       inside = room (active p) k.few;
     }
@@ -120,8 +120,8 @@ fitting p = all (fits p)
 pub record Fitting (p : Plan) : Type 0 where
   pub hops : p.max_hops ≤ 255
   pub rows : p.rows ≤ 255
-  pub data_slots_lem : p.data_slots ≤ 255
-  pub slot_ms_lem : p.slot_ms ≤ 65535
+  pub data_slots : p.data_slots ≤ 255
+  pub slot_ms : p.slot_ms ≤ 65535
   pub beacon : p.beacon_type ≤ 255
 
 pub fitted : (p : Plan) → fitting p ≡ true → Fitting p
@@ -130,8 +130,8 @@ fitted p e =
     record {
       hops = leb-true _ _ (holds 0);
       rows = leb-true _ _ (holds 1);
-      data_slots_lem = leb-true _ _ (holds 2);
-      slot_ms_lem = leb-true _ _ (holds 3);
+      data_slots = leb-true _ _ (holds 2);
+      slot_ms = leb-true _ _ (holds 3);
       beacon = leb-true _ _ (holds 4);
     }
 
@@ -143,7 +143,7 @@ fits_in_rule p e =
       le-leb p.max_hops 255 (omega (arith, k.few-hops)),
       le-leb p.rows 255 (omega (arith, k.few)),
       le-leb p.data_slots 255 (omega (arith, k.few)),
-      le-leb p.slot_ms 65535 k.slot_ms_lem,
+      le-leb p.slot_ms 65535 k.slot_ms,
       le-leb p.beacon_type 255 k.beacon,
     )
 

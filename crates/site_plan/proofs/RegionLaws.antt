@@ -69,7 +69,7 @@ kinds_by_region p row hop own s =
     record {
       beacons = λ e. rw e;
       controls = λ e. rw (le-ltb s a (in_from s a b e), e);
-      data_slots_lem = λ e. let l = in_from s b c e in rw (le-ltb s a (omega (arith, l)), past s a b l, e);
+      data_slots = λ e. let l = in_from s b c e in rw (le-ltb s a (omega (arith, l)), past s a b l, e);
       discovery = λ e.
           let l = in_from s c d e in
           rw (le-ltb s a (omega (arith, l)), past s a b (omega (arith, l)), past s b c l, e);
@@ -85,7 +85,7 @@ sends_where_told p row hop own = (
       rw (k, eq-eqb s s refl),
   λ i h held.
       let s = data_slot p i in
-      let k = (kinds_by_region p row hop own s).data_slots_lem (inside s (data_slot_at p) (discovery_slot_at p) (omega arith) (omega (arith, h))) in
+      let k = (kinds_by_region p row hop own s).data_slots (inside s (data_slot_at p) (discovery_slot_at p) (omega arith) (omega (arith, h))) in
       let place : s - data_slot_at p ≡ i = omega arith in
       rw (k, place, held),
 )

@@ -33,8 +33,8 @@ units_send_in_own p row hop own =
       controls = λ s e t.
           let k = (kinds_by_region p row hop own s).controls e in
           eqb-true s (control_slot p row) (at_row (eqb s (control_slot p row)) (rw k at t));
-      data_slots_lem = λ s e t.
-          let k = (kinds_by_region p row hop own s).data_slots_lem e in
+      data_slots = λ s e t.
+          let k = (kinds_by_region p row hop own s).data_slots e in
           at_held (has own (s - data_slot_at p)) (rw k at t);
     }
 
@@ -45,7 +45,7 @@ one_sender p row row' hop hop' own own' kinds kinds' u v rows apart s e =
     (λ x y.
     or_elim ⊥ (in_controls p s) (in_data p s) e
     (λ i. rows (omega (arith, u.controls s i x, v.controls s i y)))
-    (λ i. (disjoint_is_apart 64 own own').0 apart (s - data_slot_at p) (u.data_slots_lem s i x) (v.data_slots_lem s i y)))
+    (λ i. (disjoint_is_apart 64 own own').0 apart (s - data_slot_at p) (u.data_slots s i x) (v.data_slots s i y)))
 
 pub one_hop : OneHop
 one_hop p row row' hop hop' own own' kinds kinds' u v s i x y = sym (u.beacons s i x) ∙ v.beacons s i y

@@ -32,7 +32,7 @@ OneRegion = (p : Plan) (s : ℕ) → plan_rule p ≡ true → s < slots p → ho
 pub record ByRegion (p : Plan) (row hop : ℕ) (own : Slots 64) (s : ℕ) : Type 0 where
   pub beacons : in_beacons p s ≡ true → kind_of p row hop own s ≡ beacon_slot_kind hop s
   pub controls : in_controls p s ≡ true → kind_of p row hop own s ≡ control_slot_kind p row s
-  pub data_slots_lem : in_data p s ≡ true → kind_of p row hop own s ≡ data_slot_kind p own s
+  pub data_slots : in_data p s ≡ true → kind_of p row hop own s ≡ data_slot_kind p own s
   pub discovery : in_discovery p s ≡ true → kind_of p row hop own s ≡ discovery_slot_kind hop
   pub behind : sleep_slot_at p ≤ s → kind_of p row hop own s ≡ sleep
 
@@ -58,7 +58,7 @@ SendsWhereTold =
 pub record SendsInOwn (p : Plan) (row hop : ℕ) (own : Slots 64) (kinds : ℕ → ℕ) : Type 0 where
   pub beacons : (s : ℕ) → in_beacons p s ≡ true → sends (kinds s) ≡ true → s ≡ hop
   pub controls : (s : ℕ) → in_controls p s ≡ true → sends (kinds s) ≡ true → s ≡ control_slot p row
-  pub data_slots_lem : (s : ℕ) → in_data p s ≡ true → sends (kinds s) ≡ true → has own (s - data_slot_at p) ≡ true
+  pub data_slots : (s : ℕ) → in_data p s ≡ true → sends (kinds s) ≡ true → has own (s - data_slot_at p) ≡ true
 
 abbrev pub UnitsSendInOwn : Type 0
 UnitsSendInOwn = (p : Plan) (row hop : ℕ) (own : Slots 64) → SendsInOwn p row hop own (kind_of p row hop own)

@@ -34,7 +34,7 @@ pub one_sender_nearby : OneSenderNearby
 one_sender_nearby p links sheet says u v receiver other l heard row row' hop hop' kinds kinds' own own' s inside =
     let near : Near links u v = ⊎_elim (λ e. inl (rw e l)) (λ k. inr (receiver, l, k)) heard in
     let apart = apart_nearby p.data_slots links sheet (says_means p links sheet fine says) u v other near in
-    never_both (sends (kinds s)) (sends (kinds' s)) (λ x y. apart (s - data_slot_at p) (own.data_slots_lem s inside x) (own'.data_slots_lem s inside y))
+    never_both (sends (kinds s)) (sends (kinds' s)) (λ x y. apart (s - data_slot_at p) (own.data_slots s inside x) (own'.data_slots s inside y))
 
 pub one_sender_nearby_of_units : OneSenderNearbyOfUnits
 one_sender_nearby_of_units p links sheet says u v receiver other l heard row row' hop hop' =

@@ -24,7 +24,7 @@ returns-then-at-discovery_at c =
     let a = c.args in
     c.data_kind.ensures ∙
     (rw c.data_at-data.ensures
-    (sym ((kinds_by_region a.plan a.row a.hop (slots_of a.own) a.slot).data_slots_lem (inside a.slot (data_slot_at a.plan) (discovery_slot_at a.plan)
+    (sym ((kinds_by_region a.plan a.row a.hop (slots_of a.own) a.slot).data_slots (inside a.slot (data_slot_at a.plan) (discovery_slot_at a.plan)
     (omega (arith, c.if-at-data.false, c.data_at-data.ensures)) (omega (arith, c.if-at-discovery_at.true, c.discovery_at.ensures))))))
 
 pub returns-then-at-sleep_at : goal.returns-then-at-sleep_at

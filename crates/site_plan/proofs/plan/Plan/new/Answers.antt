@@ -31,11 +31,11 @@ overflow_cast-plan-2 c = omega (arith, (here c).rows)
 
 pub overflow_cast-plan-3 : goal.overflow_cast-plan-3
 unfolding plan_of
-overflow_cast-plan-3 c = omega (arith, (here c).data_slots_lem)
+overflow_cast-plan-3 c = omega (arith, (here c).data_slots)
 
 pub overflow_cast-plan-4 : goal.overflow_cast-plan-4
 unfolding plan_of
-overflow_cast-plan-4 c = omega (arith, (here c).slot_ms_lem)
+overflow_cast-plan-4 c = omega (arith, (here c).slot_ms)
 
 pub overflow_cast-plan-5 : goal.overflow_cast-plan-5
 unfolding plan_of

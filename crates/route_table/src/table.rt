@@ -42,7 +42,7 @@ pub struct Changed {
 
 // What a lookup answers: the number that refuses it, 0 where there is a next hop, and for how many ms more its row is usable; where it is refused the
 // others are 0.
-#[derive(Drop)]
+#[derive(Clone, Copy)]
 pub struct Found {
     pub refused: u8,
     pub next_hop: u16,

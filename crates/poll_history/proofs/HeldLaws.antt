@@ -1,20 +1,20 @@
 -- The theorems of polls, of the buffers that firmware holds.
 -- Assumes nothing.
-use Rattle.octets.proofs.Words.{◌≡◌, refl, sym, ap, ap₂, ◌∙◌, Bool, true, false, not, cond, List, [], ◌∷◌, ℕ, ◌<◌, ℕ_discrete, arith, eq-eqb, ne_eqb, eqb, length}
+use Rattle.octets.proofs.Words.{◌≡◌, refl, sym, ap, ◌∙◌, Bool, true, false, not, cond, List, [], ◌∷◌, ℕ, arith, eqb, length}
 use Rattle.octets.specs.Addresses.{address}
-use Rattle.octets.specs.Calls.{after, stored}
+use Rattle.octets.specs.Calls.{stored}
 use Rattle.octets.specs.Layouts.{Bytes}
 use Rattle.octets.specs.Lists.{every, Each}
 use Rattle.octets.proofs.CallLaws.{after-refused, stored-none}
 use Rattle.octets.proofs.NumberLaws.{num_lt}
 use Rattle.octets.proofs.OrderLaws.{by_place}
 use Rattle.unit_poll.specs.declared.voter.Voter.{Voter}
-use Rattle.unit_poll.specs.PollBytes.{poll_in, poll_bytes, holds_poll, WinnerLeft, winner_left, fresh_call, hear_call, winner_call}
+use Rattle.unit_poll.specs.PollBytes.{poll_in, poll_bytes, WinnerLeft, winner_left, fresh_call, hear_call, winner_call}
 use Rattle.unit_poll.specs.Polls.{Poll, poll_rule, fresh_poll, fresh_refusal, voter_in, hear_refusal, with_message, heard_by, winner_of}
 use Rattle.unit_poll.specs.Voters.{voter, unit_of, put}
 use Rattle.unit_poll.proofs.TripLaws.{VoterFits, Sized, poll_back, poll-held}
-use Rattle.poll_history.specs.Held.{buffer_after, taken_in_c, Held, begun, ended, log_in_c, Machine, RefusedLeaves, StaysStored, AlwaysNames, SameLastInC, SameWinnerInC, NeverTwoInC}
-use Rattle.poll_history.specs.Histories.{poll_after, taken, last_of, Course, ending, log}
+use Rattle.poll_history.specs.Held.{buffer_after, taken_in_c, Held, begun, Machine, RefusedLeaves, StaysStored, AlwaysNames, SameLastInC, SameWinnerInC, NeverTwoInC}
+use Rattle.poll_history.specs.Histories.{poll_after, taken, last_of, ending, log}
 use Rattle.poll_history.proofs.HistoryLaws.{one-rule, keeps_rule, same-winner, never_two}
 
 -- ---- a refused call leaves all as it was

@@ -9,7 +9,7 @@ use octets::answers::{Refusal, refuse_if};
 use octets::numbers::{number8, number16};
 
 // `original_source` is 0 where the kind has none.
-#[derive(Drop)]
+#[derive(Clone, Copy, Drop)]
 pub struct EitherBeacon {
     pub original_time: u32,
     pub delay: u32,

@@ -1,13 +1,13 @@
 -- The copy of a beacon: fields that fill the part they are put into, and the copy of either kind from that of its own.
 -- Assumes nothing.
-use Rattle.octets.proofs.Words.{◌≡◌, sym, ap, ◌∙◌, Bool, true, false, List, [], ◌++◌, ℕ, ◌+◌, ◌-◌, ◌≤◌, arith, drop, length, take, sets}
+use Rattle.octets.proofs.Words.{◌≡◌, ap, true, false, List, [], ◌++◌, ℕ, ◌+◌, ◌-◌, ◌≤◌, arith, drop, length, take, sets}
 use Rattle.octets.proofs.StoreLaws.{sets-part}
 use Rattle.frame_kinds.specs.Shape.{values_in, frame_of}
 use Rattle.frame_beacons.specs.declared.beacon.Beacon.{Beacon}
 use Rattle.frame_beacons.specs.declared.short.ShortBeacon.{ShortBeacon}
 use Rattle.frame_beacons.specs.Beacons.{beacon, beacon_values, beacon_from}
 use Rattle.frame_beacons.specs.ShortBeacons.{short_beacon, short_beacon_values, short_beacon_from}
-use Rattle.frame_beacons.specs.EitherBeacons.{of_beacon, of_short, is_short, either_in}
+use Rattle.frame_beacons.specs.EitherBeacons.{is_short}
 use Rattle.frame_beacons.proofs.EitherLaws.{short_read, beacon-read}
 use Rattle.route_forwards.specs.Copies.{passed_by, short_passed_by, copy_by, Fitting}
 

@@ -1,8 +1,6 @@
 -- Freshness: a row that is not withdrawn is at least as old as the last accepted update from its next hop.
 -- Assumes nothing.
-use Rattle.octets.proofs.Words.{◌≡◌, refl, sym, ap, subst, ◌∙◌, Bool, true, false, not, ◌||◌, cond, and-eq-true_iff, false≢true, List, [], ◌∷◌, ⊎_elim, ℕ, ◌+◌, ◌≤◌, arith, le-leb, leb-true, not-true, leb}
-use Rattle.octets.specs.Lists.{every}
-use Rattle.octets.proofs.AddressLaws.{address-some}
+use Rattle.octets.proofs.Words.{◌≡◌, refl, sym, subst, Bool, true, false, not, ◌||◌, cond, and-eq-true_iff, false≢true, List, [], ◌∷◌, ℕ, ◌+◌, ◌≤◌, arith, le-leb, leb-true, not-true, leb}
 use Rattle.moments.specs.Elapsed.{now_at, Clock}
 use Rattle.moments.specs.Moments.{age_at, in_order}
 use Rattle.moments.proofs.MomentLaws.{ages_add}

@@ -175,7 +175,7 @@ good-next t k times c g =
 
 pub good-after : (t : Table) (k : Clock) (times : Times) (cs : List Call) → Good t k times → After Good t k times cs
 good-after t k times [] g = g
-good-after t k times (c ∷ cs) g = good-after _ _ _ cs (good-next t k times c g)
+good-after t k times (c ∷ cs) g = good-after (next t c) _ _ cs (good-next t k times c g)
 
 fresh-good : (own began : ℕ) → (fresh_of own began).refused ≡ 0 → Good (fresh_of own began).table (started began) (λ unit. [])
 unfolding every fresh_of

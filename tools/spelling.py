@@ -45,6 +45,18 @@ FIXED = {
     "slot-ms": "slot_ms",
 }
 
+# Words of the kit's library that had a path in their name.
+PATHS = {
+    "List·getD-append": "get_or-append",
+    "List·getD-eq-default": "get_or-eq_default",
+    "List·getD-map": "get_or-map",
+    "List-as-Memᴰ": "Memᴰ",
+    "List·Memᴰ·head": "mem_head",
+    "List·Memᴰ·tail": "mem_tail",
+    "eqb·suc-suc": "eqb-suc-suc",
+    "leb·suc-suc": "leb-suc-suc",
+}
+
 # Lemmas that port.py gave the name which a definition gets here. Behind a dot the word is a function of src/.
 LEMMAS = {name: name + "_lem" for name in ("held_by", "in_order", "in_use", "laid_out", "passed_on", "place_at", "read_as", "read_left", "row_back", "rows_in")}
 
@@ -147,6 +159,8 @@ def main():
             word, dotted = m[0], line[m.start() - 1 : m.start()] == "."
             if word in LEMMAS and path.endswith(".antt"):
                 return word if dotted else LEMMAS[word]
+            if word in PATHS:
+                return PATHS[word]
             if "-" in word and (not path.endswith((".antt", ".edit")) or proof and dotted and word in steps):
                 return word
             return turned.get(word, word)
@@ -155,7 +169,7 @@ def main():
         for line in text.split("\n"):
             code, dashes, words = line.partition("-- ") if path.endswith(".antt") else (line, "", "")
             lines.append(TOKEN.sub(lambda m: one(m, code), code) + dashes + re.sub(r"(?<=`)[^`\s]+(?=`)", lambda m: turned.get(m[0], m[0]) if "-" not in m[0] else m[0], words))
-        new = "\n".join(lines)
+        new = re.sub(r"(?<![\w-])([\w\-ᴰ]+) as \1(?![\w-])", r"\1", "\n".join(lines))
         if new != text:
             with open(path, "w", encoding="utf-8") as f:
                 f.write(new)

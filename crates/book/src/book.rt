@@ -9,7 +9,7 @@ use site_plan::plan::Plan;
 use slot_sets::masks::below;
 
 // The plan uses as many rows as it has members; the places behind them are zeros.
-#[derive(Clone, Copy, Drop)]
+#[derive(Clone, Copy)]
 pub struct Book {
     pub plan: Plan,
     pub time: u32,

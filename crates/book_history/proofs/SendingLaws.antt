@@ -1,6 +1,6 @@
 -- Who sends in a slot, by schedules from one book: the statements of specs/Laws on it, proved.
 -- Assumes nothing.
-use Rattle.octets.proofs.Words.{◌≡◌, refl, ap, ◌∙◌, Bool, true, false, ◌||◌, and-eq-true_iff, List, ◌++◌, ℕ, ◌<◌, ◌≤◌, zero-add, arith, eq-eqb, ltb-true, leb, ltb, length, get_or, drop, List·getD-append, sets, sets-eq}
+use Rattle.octets.proofs.Words.{◌≡◌, refl, ap, ◌∙◌, Bool, true, false, ◌||◌, and-eq-true_iff, List, ◌++◌, ℕ, ◌<◌, ◌≤◌, zero-add, arith, eq-eqb, ltb-true, leb, ltb, length, get_or, drop, get_or-append, sets, sets-eq}
 use Rattle.octets.specs.Lists.{tab}
 use Rattle.octets.proofs.ListLaws.{length-tab, get_or-tab}
 use Rattle.site_plan.specs.declared.plan.Plan.{Plan}
@@ -25,7 +25,7 @@ stored n f out s d h l =
     let long = length-tab n f in
     let rest = drop (length (tab n f)) out in
     let whole : sets out 0 (tab n f) ≡ tab n f ++ rest = sets-eq (tab n f) out 0 (omega (arith, long)) ∙ rw zero-add in
-    ap (λ (t : List ℕ). get_or t s d) whole ∙ List·getD-append (tab n f) rest d s (omega (arith, long)) ∙ get_or-tab n f s d h
+    ap (λ (t : List ℕ). get_or t s d) whole ∙ get_or-append (tab n f) rest d s (omega (arith, long)) ∙ get_or-tab n f s d h
 
 module _ (b : Contents) (unit hop time : ℕ) (out : List ℕ) (e : (schedule_of b unit hop time out).said.refusal ≡ 0) where
   may : Schedulable b unit hop time (length out)

@@ -1,6 +1,6 @@
 -- Rows weighed unit by unit: over all units up to one that no row's is above, they weigh what all the rows do, if free rows weigh nothing.
 -- Assumes nothing.
-use Rattle.octets.proofs.Words.{◌≡◌, refl, sym, ap, ap₂, ◌∙◌, Bool, true, false, cond, and-eq-true_iff, List, [], ◌∷◌, ℕ, zero, suc, ◌+◌, ◌≤◌, ℕ_discrete, one-add, arith, eq-eqb, ne_eqb, eqb-true, leb-true, lt-ltb, leb, ltb, leb·suc-suc, length}
+use Rattle.octets.proofs.Words.{◌≡◌, refl, sym, ap, ap₂, ◌∙◌, Bool, true, false, cond, and-eq-true_iff, List, [], ◌∷◌, ℕ, zero, suc, ◌+◌, ◌≤◌, ℕ_discrete, one-add, arith, eq-eqb, ne_eqb, eqb-true, leb-true, lt-ltb, leb, ltb, leb-suc-suc, length}
 use Rattle.octets.specs.Lists.{every}
 use Rattle.octets.specs.Addresses.{address}
 use Rattle.slot_sets.specs.Sets.{no_slots}
@@ -94,4 +94,4 @@ module _ (weight : Row → ℕ) where
       go true q ih =
           let there : ltb 0 (suc (length rs)) ≡ true = lt-ltb 0 (suc (length rs)) (omega arith) in
           rw there (omega (arith, none_mine unit rs (alone_here (of_unit unit) r rs h q)))
-      go false q ih = rw (one-add, leb·suc-suc (suc (place_for unit rs)) (length rs)) (omega (arith, ih))
+      go false q ih = rw (one-add, leb-suc-suc (suc (place_for unit rs)) (length rs)) (omega (arith, ih))

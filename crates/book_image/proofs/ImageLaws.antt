@@ -1,6 +1,6 @@
 -- The bytes of an image: its rows one behind the other, how many bytes its parts have, and all of it stored.
 -- Assumes nothing.
-use Rattle.octets.proofs.Words.{◌≡◌, refl, ◌∙◌, Bool, true, false, ◌&&◌, List, ◌++◌, map, ℕ, ◌+◌, ◌-◌, ◌*◌, ◌≤◌, ◌<◌, min, arith, eqb, length, get_or, take, drop, length-append, List·getD-map, sets, get_or-take}
+use Rattle.octets.proofs.Words.{◌≡◌, refl, ◌∙◌, Bool, true, false, ◌&&◌, List, ◌++◌, map, ℕ, ◌+◌, ◌-◌, ◌*◌, ◌≤◌, ◌<◌, min, arith, eqb, length, get_or, take, drop, length-append, get_or-map, sets, get_or-take}
 use Rattle.octets.specs.Layouts.{bytes}
 use Rattle.octets.specs.Numbers.{num}
 use Rattle.octets.proofs.LayoutLaws.{length-bytes}
@@ -29,7 +29,7 @@ module _ (ms : List Member) (n : ℕ) (l : length ms ≡ 21) (s : List ℕ) (i :
 
   here : get_or (take n (rows_of ms)) i (row_of nobody) ≡ row_of (get_or ms i nobody)
   unfolding rows_of
-  here = get_or-take n (map row_of ms) i (row_of nobody) (omega (arith, h)) ∙ List·getD-map row_of ms i nobody
+  here = get_or-take n (map row_of ms) i (row_of nobody) (omega (arith, h)) ∙ get_or-map row_of ms i nobody
 
   pub rows-turn : (filled : List ℕ) → at + 10 ≤ length s → filled ≡ sets (take (at + 10 - at) (drop at s)) 0 row
       → sets (take at s ++ (filled ++ drop (at + 10 - at) (drop at s))) (20 + 10 * (i + 1)) (rows_bytes (drop (i + 1) (take n (rows_of ms))))

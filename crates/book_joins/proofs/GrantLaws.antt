@@ -1,6 +1,6 @@
 -- What a join and a slot request take from the rows, and the end of both.
 -- Assumes nothing.
-use Rattle.octets.proofs.Words.{◌≡◌, sym, ap, ◌∙◌, Bool, true, false, cond, List, [], ◌∷◌, ℕ, suc, ◌+◌, ◌*◌, ◌-◌, ◌≤◌, ◌<◌, min, arith, ne_eqb, le-leb, lt-leb, eqb, length, get_or, take, set, length-take, List·getD-eq-default, sets}
+use Rattle.octets.proofs.Words.{◌≡◌, sym, ap, ◌∙◌, Bool, true, false, cond, List, [], ◌∷◌, ℕ, suc, ◌+◌, ◌*◌, ◌-◌, ◌≤◌, ◌<◌, min, arith, ne_eqb, le-leb, lt-leb, eqb, length, get_or, take, set, length-take, get_or-eq_default, sets}
 use Rattle.octets.specs.Calls.{after}
 use Rattle.slot_sets.specs.Sets.{Slots, union, count, lowest, without_highest, slots_of}
 use Rattle.slot_sets.proofs.MaskLaws.{mask-nothing}
@@ -13,7 +13,7 @@ use Rattle.book_joins.proofs.ResponseLaws.{length-responses}
 -- past the rows that a plan uses there is nothing
 pub none-behind : (n : ℕ) (rs : List Row) (at : ℕ) → n ≤ at → slots_of 0 ≡ (get_or (take n rs) at empty_row).slots
 none-behind n rs at h =
-    mask-nothing ∙ ap (λ (r : Row). r.slots) (sym (List·getD-eq-default (take n rs) empty_row (omega (arith, length-take n rs))))
+    mask-nothing ∙ ap (λ (r : Row). r.slots) (sym (get_or-eq_default (take n rs) empty_row (omega (arith, length-take n rs))))
 
 -- a unit's row is one of the rows, or just past them
 pub row_within : (unit : ℕ) (rs : List Row) → place_for unit rs ≤ length rs

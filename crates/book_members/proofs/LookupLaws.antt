@@ -1,6 +1,6 @@
 -- The row of a unit: where it is found, and where it is found once a row was written.
 -- Assumes nothing.
-use Rattle.octets.proofs.Words.{◌≡◌, refl, sym, ap, ◌∙◌, Bool, true, false, not, ◌||◌, cond, List, [], ◌∷◌, ℕ, zero, suc, ◌+◌, ◌≤◌, ◌<◌, one-add, arith, eq-eqb, ne_eqb, eqb-true, lt-ltb, ltb-true, not-false, eqb, ltb, leb·suc-suc, length, set}
+use Rattle.octets.proofs.Words.{◌≡◌, refl, sym, ap, ◌∙◌, Bool, true, false, not, ◌||◌, cond, List, [], ◌∷◌, ℕ, zero, suc, ◌+◌, ◌≤◌, ◌<◌, one-add, arith, eq-eqb, ne_eqb, eqb-true, lt-ltb, ltb-true, not-false, eqb, ltb, leb-suc-suc, length, set}
 use Rattle.book_members.specs.Members.{Row, empty_row, place_for}
 use Rattle.book_members.proofs.RowLaws.{row}
 use Rattle.book_members.proofs.RowSums.{weigh_at, one, tally, passes_there, only_one, some_tally, of_unit}
@@ -12,7 +12,7 @@ found_tally unit = some_tally (of_unit unit) (λ rs. ltb (place_for unit rs) (le
   where
     go : (b : Bool) (at n : ℕ) → ltb (cond b 0 (1 + at)) (suc n) ≡ (b || ltb at n)
     go true at n = lt-ltb 0 (suc n) (omega arith)
-    go false at n = rw one-add (leb·suc-suc (suc at) n)
+    go false at n = rw one-add (leb-suc-suc (suc at) n)
 
 module _ (unit : ℕ) (rs : List Row) where
   pub found-one : 1 ≤ tally (of_unit unit) rs → place_for unit rs < length rs

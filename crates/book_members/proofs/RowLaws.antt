@@ -1,6 +1,6 @@
 -- Rows one by one: a test that every row passes, silent rows dropped, one row written, the rows at a time.
 -- Assumes nothing.
-use Rattle.octets.proofs.Words.{◌≡◌, refl, sym, ap, ap₂, ◌∙◌, Bool, true, false, cond, and-eq-true_iff, List, [], ◌∷◌, map, ◌⊎◌, inl, inr, ℕ, zero, suc, ℕ_discrete, arith, le-leb, lt-leb, leb-true, leb-false, leb, length, get_or, set, drop, length-map, List·getD-map}
+use Rattle.octets.proofs.Words.{◌≡◌, refl, sym, ap, ap₂, ◌∙◌, Bool, true, false, cond, and-eq-true_iff, List, [], ◌∷◌, map, ◌⊎◌, inl, inr, ℕ, zero, suc, ℕ_discrete, arith, le-leb, lt-leb, leb-true, leb-false, leb, length, get_or, set, drop, length-map, get_or-map}
 use Rattle.octets.specs.Lists.{every}
 use Rattle.octets.proofs.ListLaws.{every_map}
 use Rattle.octets.proofs.TestLaws.{of-cond}
@@ -129,7 +129,7 @@ pub others-kept : (time : ℕ) (rs : List Row) (i : ℕ) → (i ≡ 0 → ⊥) �
 unfolding current
 others-kept time [] i n = sym (kept_empty time)
 others-kept time (r ∷ rs) zero n = absurd (n refl)
-others-kept time (r ∷ rs) (suc i) n = ap (get_or (map (kept time) rs) i) (sym (kept_empty time)) ∙ List·getD-map (kept time) rs i empty_row
+others-kept time (r ∷ rs) (suc i) n = ap (get_or (map (kept time) rs) i) (sym (kept_empty time)) ∙ get_or-map (kept time) rs i empty_row
 
 -- one that is some unit's then is the row as it was
 pub still : (time : ℕ) (rs : List Row) (i : ℕ) → ((row (current time rs) i).unit ≡ 0 → ⊥) → row (current time rs) i ≡ row rs i

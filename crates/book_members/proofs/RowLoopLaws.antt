@@ -1,6 +1,6 @@
 -- The loops over the rows of a book: from the last row down, from the first up, and each row changed.
 -- Assumes nothing.
-use Rattle.octets.proofs.Words.{◌≡◌, refl, sym, ap, ◌∙◌, Bool, true, false, ◌&&◌, List, [], ◌∷◌, ◌++◌, map, append-nil, ℕ, zero, suc, ◌+◌, ◌-◌, ◌≤◌, ◌<◌, min, add-one, arith, eq-eqb, ne_eqb, lt-ltb, le-leb, lt-leb, eqb, leb, ltb, length, get_or, take, drop, set, length-map, length-take, List·getD-map, List·getD-eq-default, drop_of_length-le, drop-cons, get_or-take, take_all, take-suc-set, drop-set-lt, append_snoc, set_out}
+use Rattle.octets.proofs.Words.{◌≡◌, refl, sym, ap, ◌∙◌, Bool, true, false, ◌&&◌, List, [], ◌∷◌, ◌++◌, map, append-nil, ℕ, zero, suc, ◌+◌, ◌-◌, ◌≤◌, ◌<◌, min, add-one, arith, eq-eqb, ne_eqb, lt-ltb, le-leb, lt-leb, eqb, leb, ltb, length, get_or, take, drop, set, length-map, length-take, get_or-map, get_or-eq_default, drop_of_length-le, drop-cons, get_or-take, take_all, take-suc-set, drop-set-lt, append_snoc, set_out}
 use Rattle.book_members.specs.declared.member.Member.{Member}
 use Rattle.octets.specs.Lists.{every}
 use Rattle.moments.specs.Moments.{age_at}
@@ -27,7 +27,7 @@ module _ (ms : List Member) (n : ℕ) (l : length ms ≡ 21) where
   unfolding rows_of
   row_and_rest i h =
       drop-cons rows i (row_of nobody) (omega (arith, h, rows-length)) ∙
-      ap (λ (r : Row). r ∷ drop (suc i) rows) (get_or-take n (map row_of ms) i (row_of nobody) (omega (arith, h)) ∙ List·getD-map row_of ms i nobody)
+      ap (λ (r : Row). r ∷ drop (suc i) rows) (get_or-take n (map row_of ms) i (row_of nobody) (omega (arith, h)) ∙ get_or-map row_of ms i nobody)
 
   pub none_left : (i : ℕ) → min n 21 ≤ i → drop i rows ≡ []
   none_left i h = drop_of_length-le rows {i = i} (omega (arith, h, rows-length))
@@ -84,7 +84,7 @@ module _ (time i : ℕ) (ms : List Member) (whole : List Row) (e : take i (rows_
   current-turn l h m q =
       let long : length (map row_of ms) ≡ 21 = length-map ms row_of ∙ l in
       let here : drop i (map row_of ms) ≡ row_of (get_or ms i nobody) ∷ drop (suc i) (map row_of ms) =
-      drop-cons (map row_of ms) i (row_of nobody) (omega (arith, long)) ∙ ap (λ (r : Row). r ∷ drop (suc i) (map row_of ms)) (List·getD-map row_of ms i nobody) in
+      drop-cons (map row_of ms) i (row_of nobody) (omega (arith, long)) ∙ ap (λ (r : Row). r ∷ drop (suc i) (map row_of ms)) (get_or-map row_of ms i nobody) in
       rw (add-one, map-set row_of ms i m, take-suc-set (map row_of ms) i (row_of m) (omega (arith, long)), drop-set-lt (suc i) (map row_of ms) i (row_of m) (omega arith), append_snoc, q)
       ((rw here at e))
 
@@ -154,7 +154,7 @@ slots_of-row (m ∷ ms) (suc at) h = slots_of-row ms at (omega arith)
 
 pub slots_of-none : (ms : List Member) (at : ℕ) → length ms ≤ at → slots_of 0 ≡ (get_or (rows_of ms) at empty_row).slots
 unfolding rows_of
-slots_of-none ms at h = mask-nothing ∙ sym (ap (λ (r : Row). r.slots) (List·getD-eq-default (map row_of ms) empty_row {n = at} (omega (arith, h, length-map ms row_of))))
+slots_of-none ms at h = mask-nothing ∙ sym (ap (λ (r : Row). r.slots) (get_or-eq_default (map row_of ms) empty_row {n = at} (omega (arith, h, length-map ms row_of))))
 
 -- ---- zeros behind
 module _ (ms : List Member) (l : length ms ≡ 21) (i : ℕ) (whole : Bool) (e : every empty_is (drop i (rows_of ms)) ≡ whole) where
@@ -162,7 +162,7 @@ module _ (ms : List Member) (l : length ms ≡ 21) (i : ℕ) (whole : Bool) (e :
   unfolding rows_of
   here h =
       drop-cons (map row_of ms) i (row_of nobody) (omega (arith, l, length-map ms row_of)) ∙
-      ap (λ (r : Row). r ∷ drop (suc i) (map row_of ms)) (List·getD-map row_of ms i nobody)
+      ap (λ (r : Row). r ∷ drop (suc i) (map row_of ms)) (get_or-map row_of ms i nobody)
 
   pub empty_stop : i < 21 → empty_is (row_of (get_or ms i nobody)) ≡ false → false ≡ whole
   unfolding every

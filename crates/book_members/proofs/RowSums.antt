@@ -1,6 +1,6 @@
 -- Sums over the rows of a book. Rows that are free, slots held, rows of a unit, owners of a slot are each a sum, and to write a row changes one term.
 -- Assumes nothing.
-use Rattle.octets.proofs.Words.{◌≡◌, refl, sym, ap, ap₂, ◌∙◌, Bool, true, false, not, ◌&&◌, ◌||◌, cond, false≢true, and-eq-true_iff, List, [], ◌∷◌, map, ℕ, zero, suc, ◌+◌, ◌≤◌, ◌<◌, ℕ_discrete, one-add, arith, eq-eqb, ne_eqb, eqb-true, eqb-false, not-true, not-false, eqb, eqb·suc-suc, length, set}
+use Rattle.octets.proofs.Words.{◌≡◌, refl, sym, ap, ap₂, ◌∙◌, Bool, true, false, not, ◌&&◌, ◌||◌, cond, false≢true, and-eq-true_iff, List, [], ◌∷◌, map, ℕ, zero, suc, ◌+◌, ◌≤◌, ◌<◌, ℕ_discrete, one-add, arith, eq-eqb, ne_eqb, eqb-true, eqb-false, not-true, not-false, eqb, eqb-suc-suc, length, set}
 use Rattle.octets.specs.Lists.{every}
 use Rattle.octets.proofs.TestLaws.{of_choice}
 use Rattle.slot_sets.specs.Sets.{has, Subset, disjoint}
@@ -107,7 +107,7 @@ module _ (test : Row → Bool) where
   every_tally (r ∷ rs) = go (test r) (every_tally rs)
     where
       go : (b : Bool) → every test rs ≡ eqb (tally test rs) (length rs) → (b && every test rs) ≡ eqb (cond b 1 0 + tally test rs) (suc (length rs))
-      go true ih = rw one-add (ih ∙ sym (eqb·suc-suc (tally test rs) (length rs)))
+      go true ih = rw one-add (ih ∙ sym (eqb-suc-suc (tally test rs) (length rs)))
       go false ih = sym (ne_eqb (0 + tally test rs) (suc (length rs)) (λ z. omega (arith, z, tally_most rs)))
 
   pub every-many : (rs : List Row) (m n : ℕ) → m ≡ tally test rs → length rs ≡ n → every test rs ≡ eqb m n

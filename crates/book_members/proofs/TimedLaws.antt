@@ -1,6 +1,6 @@
 -- The times of rows within rule: but for the first, each is in order with the last accepted one.
 -- Assumes nothing.
-use Rattle.octets.proofs.Words.{◌≡◌, refl, sym, ◌∙◌, Bool, true, false, ◌||◌, List, inl, inr, ℕ, ◌<◌, dec_lt, arith, eqb-true, eqb, length, List·getD-eq-default}
+use Rattle.octets.proofs.Words.{◌≡◌, refl, sym, ◌∙◌, Bool, true, false, ◌||◌, List, inl, inr, ℕ, ◌<◌, dec_lt, arith, eqb-true, eqb, length, get_or-eq_default}
 use Rattle.octets.proofs.AddressLaws.{address-some}
 use Rattle.octets.proofs.ListLaws.{every-at}
 use Rattle.moments.specs.Moments.{in_order}
@@ -31,4 +31,4 @@ timed_rows {manager} {dataSlots} {last} {rs} g i z = there (dec_lt i (length rs)
 
     there : Dec (i < length rs) → Timed last r
     there (yes h) = by-unit (vacant_row r) refl (rule-at g i h) (every-at (past_time manager last) rs i empty_row g.past h)
-    there (no h) = inl (List·getD-eq-default rs empty_row {n = i} (omega arith))
+    there (no h) = inl (get_or-eq_default rs empty_row {n = i} (omega arith))

@@ -1,6 +1,6 @@
 -- A page is read as an update from this unit, with the entries of its rows.
 -- Assumes nothing.
-use Rattle.octets.proofs.Words.{◌≡◌, refl, sym, ap, ap₂, ◌∙◌, Bool, true, false, ◌&&◌, ◌||◌, cond, and-eq-true_iff, List, [], ◌∷◌, map, ℕ, ◌+◌, ◌*◌, ◌≤◌, ◌<◌, arith, leb-true, lt-ltb, le-ltb, ltb-true, ltb-false, not-false, eqb, leb, ltb, length, get_or, take, drop, length-take, length-map, List·getD-map}
+use Rattle.octets.proofs.Words.{◌≡◌, refl, sym, ap, ap₂, ◌∙◌, Bool, true, false, ◌&&◌, ◌||◌, cond, and-eq-true_iff, List, [], ◌∷◌, map, ℕ, ◌+◌, ◌*◌, ◌≤◌, ◌<◌, arith, leb-true, lt-ltb, le-ltb, ltb-true, ltb-false, not-false, eqb, leb, ltb, length, get_or, take, drop, length-take, length-map, get_or-map}
 use Rattle.octets.specs.Answers.{Said, accepted}
 use Rattle.octets.specs.Layouts.{Fit}
 use Rattle.octets.specs.Lists.{every}
@@ -128,7 +128,7 @@ module _ (own last time : ℕ) (a : address own ≡ true) (h : time < 0x10000000
   entry-there : (i : ℕ) → i < length rs → entry_at (entries_bytes es) i ≡ entry_for time (get_or rs i none)
   entry-there i k =
       sym (get_or-tab (length rs) (entry_at (entries_bytes es)) i (entry_for time none) k)
-      ∙ (ap (λ (l : List Entry). get_or l i (entry_for time none)) back ∙ List·getD-map (entry_for time) rs i none)
+      ∙ (ap (λ (l : List Entry). get_or l i (entry_for time none)) back ∙ get_or-map (entry_for time) rs i none)
 
   paged : Paged own time rs frame
   paged =

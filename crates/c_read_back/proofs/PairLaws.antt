@@ -1,6 +1,6 @@
 -- The two calls on frames, one after the other.
 -- Assumes nothing.
-use Rattle.octets.proofs.Words.{◌≡◌, refl, sym, ap, ap₂, subst, ◌∙◌, Bool, true, ◌&&◌, and-eq-true_iff, List, [], ◌∷◌, ◌++◌, append-nil, List-as-Memᴰ, ℕ, ◌+◌, ◌≤◌, ◌<◌, ◌-◌, ℕ_discrete, arith, eqb-true, le-ltb, lt-ltb, ltb-false, not-false, ne_eqb, ltb, length, get_or, take, drop, length-append, List·getD-append, sets, sets-eq}
+use Rattle.octets.proofs.Words.{◌≡◌, refl, sym, ap, ap₂, subst, ◌∙◌, Bool, true, ◌&&◌, and-eq-true_iff, List, [], ◌∷◌, ◌++◌, append-nil, Memᴰ, ℕ, ◌+◌, ◌≤◌, ◌<◌, ◌-◌, ℕ_discrete, arith, eqb-true, le-ltb, lt-ltb, ltb-false, not-false, ne_eqb, ltb, length, get_or, take, drop, length-append, get_or-append, sets, sets-eq}
 use Rattle.octets.specs.Answers.{Said, accepted, reason, refusing}
 use Rattle.octets.specs.Calls.{after, WriteLeft, write_left}
 use Rattle.octets.specs.Layouts.{Fit, Bytes}
@@ -48,7 +48,7 @@ module _ (s fields : List ℕ) (place extent : ℕ) (z : (read_call s fields pla
   numbers-left : (read_call s fields place extent).fields ≡ (read_frame s).values ++ drop (0 + length (read_frame s).values) fields
   numbers-left = numbers_are ∙ sets-eq (read_frame s).values fields 0 (omega (arith, none.1))
 
-  module _ (k : Kind) (m : List-as-Memᴰ k kinds) (c : num 1 s 0 ≡ k.code) where
+  module _ (k : Kind) (m : Memᴰ k kinds) (c : num 1 s 0 ≡ k.code) where
     -- where its part lies
     lies : (place_in s ≡ place_of k) × (length (part_in k s) ≡ k.extent (values_in k s)) × (length s - 1 - place_of k ≡ k.extent (values_in k s))
     lies = parts_in_place k m s (values_in k s) (accepted-read k m s (sym (refused-read k m s c) ∙ none.0))
@@ -116,21 +116,21 @@ no_numbers part out written = refl
 module _ (ns more : List ℕ) where
   given-first : (ws : List ℕ) (i : ℕ) → i + length ws ≤ length ns → given ws (ns ++ more) i ≡ given ws ns i
   given-first [] i h = refl
-  given-first (w ∷ ws) i h = ap₂ {C = List ℕ} ◌∷◌ (List·getD-append ns more 0 i (omega (arith, h))) (given-first ws (i + 1) (omega (arith, h)))
+  given-first (w ∷ ws) i h = ap₂ {C = List ℕ} ◌∷◌ (get_or-append ns more 0 i (omega (arith, h))) (given-first ws (i + 1) (omega (arith, h)))
 
   fitting-first : (ws : List ℕ) (i : ℕ) → i + length ws ≤ length ns → fitting ws (ns ++ more) i ≡ fitting ws ns i
   fitting-first [] i h = refl
   fitting-first (w ∷ ws) i h =
       let here : i < length ns = omega (arith, h) in
       let there : i < length (ns ++ more) = omega (arith, h, length-append ns more) in
-      rw (lt-ltb i (length (ns ++ more)) there, lt-ltb i (length ns) here, List·getD-append ns more 0 i here, fitting-first ws (i + 1) (omega (arith, h)))
+      rw (lt-ltb i (length (ns ++ more)) there, lt-ltb i (length ns) here, get_or-append ns more 0 i here, fitting-first ws (i + 1) (omega (arith, h)))
 
 pub surplus_ignored : SurplusIgnored
 unfolding write_call
 surplus_ignored k m ns more part out written c h =
     -- a number for the type, and one for each field
     let enough : 0 + length (1 ∷ k.widths) ≤ length ns = omega (arith, h) in
-    let first : get_or (ns ++ more) 0 0 ≡ get_or ns 0 0 = List·getD-append ns more 0 0 (omega (arith, enough)) in
+    let first : get_or (ns ++ more) 0 0 ≡ get_or ns 0 0 = get_or-append ns more 0 0 (omega (arith, enough)) in
     let same : write_numbers (ns ++ more) part out ≡ write_numbers ns part out =
     listed_as part out m (ns ++ more) (first ∙ c)
     ∙ (ap₂ (written-by k part out) (fitting-first ns more (1 ∷ k.widths) 0 enough) (given-first ns more k.widths 1 (omega (arith, enough)))
@@ -163,13 +163,13 @@ written_alike k m vs part out written f room fields place extent most =
 
 -- ---- written, then read
 -- numbers that are written are of one of the kinds
-write-of : (ns part out : List ℕ) → (write_numbers ns part out).said.refusal ≡ 0 → (k : Kind) × List-as-Memᴰ k kinds × (get_or ns 0 0 ≡ k.code)
+write-of : (ns part out : List ℕ) → (write_numbers ns part out).said.refusal ≡ 0 → (k : Kind) × Memᴰ k kinds × (get_or ns 0 0 ≡ k.code)
 write-of ns part out =
-    by_type part out ns (λ w. w.said.refusal ≡ 0 → (k : Kind) × List-as-Memᴰ k kinds × (get_or ns 0 0 ≡ k.code))
+    by_type part out ns (λ w. w.said.refusal ≡ 0 → (k : Kind) × Memᴰ k kinds × (get_or ns 0 0 ≡ k.code))
     (λ z e. absurd (omega (arith, e))) (λ k m c e. (k, m, c)) (λ e. absurd (omega (arith, e)))
 
 module _ (ns part out : List ℕ) (written : ℕ) (fields : List ℕ) (place extent : ℕ) (z : (write_numbers ns part out).said.refusal ≡ 0) (room : most_numbers ≤ length fields)
-    (k : Kind) (m : List-as-Memᴰ k kinds) (c : get_or ns 0 0 ≡ k.code) where
+    (k : Kind) (m : Memᴰ k kinds) (c : get_or ns 0 0 ≡ k.code) where
   abbrev vs : List ℕ
   vs = given k.widths ns 1
 

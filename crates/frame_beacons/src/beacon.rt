@@ -11,7 +11,7 @@ use octets::addresses::is_address;
 use octets::fixed::{put8, put16, put32};
 use octets::numbers::{number8, number16, number32};
 
-#[derive(Clone, Copy, Drop)]
+#[derive(Clone, Copy)]
 pub struct Beacon {
     pub destination: u16,
     pub source: u16,

@@ -9,7 +9,7 @@ use octets::answers::{Refusal, refuse_if};
 use octets::numbers::{number8, number16};
 
 // `original_source` is 0 where the kind has none.
-#[derive(Clone, Copy, Drop)]
+#[derive(Clone, Copy)]
 pub struct EitherBeacon {
     pub original_time: u32,
     pub delay: u32,

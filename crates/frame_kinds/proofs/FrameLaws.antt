@@ -1,6 +1,6 @@
 -- Frames of any kind as bytes: those that are not refused, and one field with another number.
 -- Assumes nothing.
-use Rattle.octets.proofs.Words.{◌≡◌, ap, ◌∙◌, List, [], ◌∷◌, ◌++◌, ℕ, zero, suc, ◌+◌, ◌≤◌, ◌<◌, arith, length, get_or, take, set, length-append, List·getD-append, get_or_at, set-append_left, take-add}
+use Rattle.octets.proofs.Words.{◌≡◌, ap, ◌∙◌, List, [], ◌∷◌, ◌++◌, ℕ, zero, suc, ◌+◌, ◌≤◌, ◌<◌, arith, length, get_or, take, set, length-append, get_or-append, get_or_at, set-append_left, take-add}
 use lib.Bits.{bit_xor}
 use Rattle.octets.specs.Layouts.{total, bytes, Bytes}
 use Rattle.octets.specs.Sums.{xors}
@@ -52,5 +52,5 @@ module _ (k : Kind) (vs part : List ℕ) (j v : ℕ) (some : j < length k.widths
       let here : at < length body = omega (arith, inside, length-append head part) in
       let end : length body ≡ last = omega (arith, length-append body (xors 0 body ∷ [])) in
       let tail : sum ≡ xors 0 body = s ∙ get_or_at body (xors 0 body) [] 0 last end in
-      let was : old ≡ get_or body at 0 = o ∙ List·getD-append body (xors 0 body ∷ []) 0 at here in
+      let was : old ≡ get_or body at 0 = o ∙ get_or-append body (xors 0 body ∷ []) 0 at here in
       rw (tail, was, ← end) (sealed-set body at v here ∙ ap sealed changed)

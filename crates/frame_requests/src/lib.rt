@@ -15,7 +15,7 @@ use octets::fixed::{put8, put16, put32};
 use octets::numbers::{number8, number16, number32};
 
 // 0x21, the join request: a unit asks to be a member.
-#[derive(Clone, Copy, Drop)]
+#[derive(Clone, Copy)]
 pub struct JoinRequest {
     pub node: u16,
     pub capabilities: u8,
@@ -61,7 +61,7 @@ impl JoinRequest {
 }
 
 // 0x22, the join response: the manager grants a slot, or none.
-#[derive(Clone, Copy, Drop)]
+#[derive(Clone, Copy)]
 pub struct JoinResponse {
     pub node: u16,
     pub status: u8,
@@ -119,7 +119,7 @@ impl JoinResponse {
 }
 
 // 0x23, the slot request: a member asks for more slots or fewer.
-#[derive(Clone, Copy, Drop)]
+#[derive(Clone, Copy)]
 pub struct SlotRequest {
     pub node: u16,
     pub slots: u8,
@@ -165,7 +165,7 @@ impl SlotRequest {
 }
 
 // 0x24, the discovery request: a unit looks for a network.
-#[derive(Clone, Copy, Drop)]
+#[derive(Clone, Copy)]
 pub struct DiscoveryRequest {
     pub node: u16,
     pub capabilities: u8,
@@ -205,7 +205,7 @@ impl DiscoveryRequest {
 }
 
 // 0x25, the discovery response: a manager answers a unit that looks for a network.
-#[derive(Clone, Copy, Drop)]
+#[derive(Clone, Copy)]
 pub struct DiscoveryResponse {
     pub manager: u16,
     pub network: u16,
@@ -251,7 +251,7 @@ impl DiscoveryResponse {
 }
 
 // 0x26, the election message: a unit stands for manager, at its priority.
-#[derive(Clone, Copy, Drop)]
+#[derive(Clone, Copy)]
 pub struct Election {
     pub node: u16,
     pub priority: u8,

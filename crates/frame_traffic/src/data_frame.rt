@@ -11,7 +11,7 @@ use octets::numbers::{number8, number16};
 use octets::parts::part;
 
 // `count` is how many bytes of payload follow.
-#[derive(Clone, Copy, Drop)]
+#[derive(Clone, Copy)]
 pub struct DataHeader {
     pub source: u16,
     pub destination: u16,

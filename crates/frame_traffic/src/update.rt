@@ -15,7 +15,7 @@ use octets::numbers::{number8, number16, number32};
 use octets::parts::part;
 
 // `count` is how many entries follow.
-#[derive(Clone, Copy, Drop)]
+#[derive(Clone, Copy)]
 pub struct UpdateHeader {
     pub origin: u16,
     pub count: u8,

@@ -1,6 +1,6 @@
 -- Numbers whose type is that of a kind: what the writer does with them is what the kind's definition says.
 -- Assumes nothing.
-use Rattle.octets.proofs.Words.{◌≡◌, refl, sym, ap, ap₂, ◌∙◌, Bool, true, false, ◌&&◌, false≢true, List, [], ◌∷◌, ◌++◌, List-as-Memᴰ, ⊎_elim, ℕ, suc, ◌+◌, ◌≤◌, ◌<◌, arith, length, get_or, take}
+use Rattle.octets.proofs.Words.{◌≡◌, refl, sym, ap, ap₂, ◌∙◌, Bool, true, false, ◌&&◌, false≢true, List, [], ◌∷◌, ◌++◌, Memᴰ, ⊎_elim, ℕ, suc, ◌+◌, ◌≤◌, ◌<◌, arith, length, get_or, take}
 use Rattle.octets.specs.Layouts.{total, bytes, Fit}
 use Rattle.octets.specs.declared.answers.Written.{Written}
 use Rattle.octets.specs.Told.{Wrote, wrote}
@@ -21,7 +21,7 @@ use Rattle.frame_kinds.proofs.StoredLaws.{frame-length, unwritten}
 -- the kind that numbers of this type are of, and what its layout holds
 pub record Known (code : ℕ) (layout : Layout) : Type 0 where
   pub kind : Kind
-  pub member : List-as-Memᴰ kind kinds
+  pub member : Memᴰ kind kinds
   pub typed : code ≡ kind.code
   pub counted : layout.count ≡ length (1 ∷ kind.widths)
   pub widths : take layout.count layout.widths ≡ 1 ∷ kind.widths
@@ -86,7 +86,7 @@ module _ (code : ℕ) (layout : Layout) (k : Known code layout) (ns part out : L
       ∙ sym (rw (same, f)))
 
 -- numbers that fit a kind are written as the frame with these values, whatever stands behind them
-pub written_as : (k : Kind) → List-as-Memᴰ k kinds → (vs more part out : List ℕ) → Fit k.widths vs → write_numbers (k.code ∷ (vs ++ more)) part out ≡ write_as k vs part out
+pub written_as : (k : Kind) → Memᴰ k kinds → (vs more part out : List ℕ) → Fit k.widths vs → write_numbers (k.code ∷ (vs ++ more)) part out ≡ write_as k vs part out
 written_as k m vs more part out f =
     listed_as part out m (k.code ∷ (vs ++ more)) refl
     ∙ ap₂ {C = Wrote} (λ (b : Bool) (us : List ℕ). writing (length_of k (k.extent us)) (b && k.rule us part) (frame_of k us part) out)
@@ -94,7 +94,7 @@ written_as k m vs more part out f =
 
 -- numbers whose type is that of no kind
 module _ (ns part out : List ℕ) (some : length ns ≡ 0 → ⊥) where
-  refused_two : ((k : Kind) → List-as-Memᴰ k kinds → get_or ns 0 0 ≡ k.code → ⊥) → wrote (Written.Refused (record { number = 2 })) out ≡ write_numbers ns part out
+  refused_two : ((k : Kind) → Memᴰ k kinds → get_or ns 0 0 ≡ k.code → ⊥) → wrote (Written.Refused (record { number = 2 })) out ≡ write_numbers ns part out
   refused_two h =
       by_type part out ns (λ w. wrote (Written.Refused (record { number = 2 })) out ≡ w) (λ z. absurd (some z)) (λ k m c. absurd (h k m c)) refl
 

@@ -1,6 +1,6 @@
 -- A frame from a list of numbers: the loop over its widths, and the reader's word for its rules.
 -- Assumes nothing.
-use Rattle.octets.proofs.Words.{◌≡◌, refl, sym, ap, ◌∙◌, Bool, true, false, not, ◌&&◌, cond, or-true, false≢true, List, [], ◌∷◌, ◌++◌, append_assoc, List-as-Memᴰ, ℕ, suc, ◌+◌, ◌^◌, ◌≤◌, ◌<◌, dec_le, ℕ_discrete, lt_of_lt_of_le, pow-le-pow_right, add-one, arith, eq-eqb, ne_eqb, le-ltb, lt-ltb, ltb-true, le-leb, eqb, ltb, length, get_or, take, drop, length-append, length-take, sets, drop-cons, get_or_at}
+use Rattle.octets.proofs.Words.{◌≡◌, refl, sym, ap, ◌∙◌, Bool, true, false, not, ◌&&◌, cond, or-true, false≢true, List, [], ◌∷◌, ◌++◌, append_assoc, Memᴰ, ℕ, suc, ◌+◌, ◌^◌, ◌≤◌, ◌<◌, dec_le, ℕ_discrete, lt_of_lt_of_le, pow-le-pow_right, add-one, arith, eq-eqb, ne_eqb, le-ltb, lt-ltb, ltb-true, le-leb, eqb, ltb, length, get_or, take, drop, length-append, length-take, sets, drop-cons, get_or_at}
 use Rattle.octets.specs.Answers.{Said, accepted, refused}
 use Rattle.octets.specs.Layouts.{Fit}
 use Rattle.octets.specs.declared.answers.Refusal.{Refusal}
@@ -109,7 +109,7 @@ told_late due g good frame out h = go (ℕ_discrete (length frame) due) (dec_le 
     go (no d) r = simp (ne_eqb (length frame) due d)
 
 -- what the reader takes keeps the rules
-module _ (k : Kind) (m : List-as-Memᴰ k kinds) (vs part : List ℕ) (f : Fit k.widths vs) where
+module _ (k : Kind) (m : Memᴰ k kinds) (vs part : List ℕ) (f : Fit k.widths vs) where
   pub takes-kept : length (frame_of k vs part) ≡ length_of k (k.extent vs) → length (frame_of k vs part) ≤ 255 → takes (frame_of k vs part) ≡ k.rule vs part
   unfolding takes write_refusal
   takes-kept d l =

@@ -1,6 +1,6 @@
 -- Numbers written as a frame: none at all, those of a kind, and those of no kind.
 -- Assumes nothing.
-use Rattle.octets.proofs.Words.{◌≡◌, refl, sym, subst, List, [], ◌∷◌, List-as-Memᴰ, ⊎_elim, ℕ, ◌<◌, arith, ltb-true, ltb, length, get_or}
+use Rattle.octets.proofs.Words.{◌≡◌, refl, sym, subst, List, [], ◌∷◌, Memᴰ, ⊎_elim, ℕ, ◌<◌, arith, ltb-true, ltb, length, get_or}
 use Rattle.octets.specs.Answers.{refused}
 use Rattle.octets.specs.Lists.{every}
 use Rattle.octets.specs.Told.{Wrote}
@@ -10,7 +10,7 @@ use Rattle.frames.specs.Listed.{write_listed, write_numbers}
 use Rattle.frames.proofs.KindLaws.{asked, known_or_not, of-each}
 
 -- no kind has type 0, which is what a missing number reads as
-code-some : {k : Kind} → List-as-Memᴰ k kinds → 0 < k.code
+code-some : {k : Kind} → Memᴰ k kinds → 0 < k.code
 unfolding every
 code-some {k} m = ltb-true 0 k.code (of-each (λ x. ltb 0 x.code) refl m)
 
@@ -21,14 +21,14 @@ module _ (part out : List ℕ) where
   none-listed (t ∷ fields) e = absurd (omega (arith, e))
 
   -- numbers that have a kind's type are written as that kind
-  pub listed_as : {k : Kind} → List-as-Memᴰ k kinds → (ns : List ℕ) → get_or ns 0 0 ≡ k.code → write_numbers ns part out ≡ write_listed k ns part out
+  pub listed_as : {k : Kind} → Memᴰ k kinds → (ns : List ℕ) → get_or ns 0 0 ≡ k.code → write_numbers ns part out ≡ write_listed k ns part out
   unfolding write_numbers
   listed_as m [] c = absurd (omega (arith, c, code-some m))
   listed_as m (t ∷ fields) c = asked (λ k. write_listed k (t ∷ fields) part out) _ m t c
 
   -- what holds of no numbers, of those of a kind and of those of no kind holds of all
   pub by_type : (ns : List ℕ) (P : Wrote → Type 0) → (length ns ≡ 0 → P (record { said = refused 1; held = out }))
-      → ((k : Kind) → List-as-Memᴰ k kinds → get_or ns 0 0 ≡ k.code → P (write_listed k ns part out)) → P (record { said = refused 2; held = out })
+      → ((k : Kind) → Memᴰ k kinds → get_or ns 0 0 ≡ k.code → P (write_listed k ns part out)) → P (record { said = refused 2; held = out })
       → P (write_numbers ns part out)
   unfolding write_numbers
   by_type [] P none one other = none refl

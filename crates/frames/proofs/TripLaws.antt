@@ -1,6 +1,6 @@
 -- The round trips, proved once over a kind.
 -- Assumes nothing.
-use Rattle.octets.proofs.Words.{◌≡◌, refl, sym, ap, ◌∙◌, Bool, true, false, not, ◌||◌, cond, List, [], ◌∷◌, ◌++◌, append_assoc, List-as-Memᴰ, ⊎_elim, ℕ, ◌≤◌, ◌<◌, arith, eq-eqb, ne_eqb, le-ltb, eqb-true, eqb, ltb, length, take, drop, length-append, take_at, drop_at}
+use Rattle.octets.proofs.Words.{◌≡◌, refl, sym, ap, ◌∙◌, Bool, true, false, not, ◌||◌, cond, List, [], ◌∷◌, ◌++◌, append_assoc, Memᴰ, ⊎_elim, ℕ, ◌≤◌, ◌<◌, arith, eq-eqb, ne_eqb, le-ltb, eqb-true, eqb, ltb, length, take, drop, length-append, take_at, drop_at}
 use Rattle.octets.specs.Answers.{Said, accepted, unless}
 use Rattle.octets.specs.Layouts.{total, fields, bytes, Fit}
 use Rattle.octets.specs.Numbers.{num}
@@ -79,7 +79,7 @@ module _ (k : Kind) (vs part : List ℕ) (small : k.code < 256) (f : Fit k.width
       (λ e. ap (k.rule vs) (frame-part (omega (arith, frame-length)))))
 
 -- ---- over the ten kinds
-module _ (k : Kind) (m : List-as-Memᴰ k kinds) (s : List ℕ) where
+module _ (k : Kind) (m : Memᴰ k kinds) (s : List ℕ) where
   -- bytes of a kind's type are read as that kind
   as_known : num 1 s 0 ≡ k.code → read_frame s ≡ read_as k s
   as_known c = of_type s (num 1 s 0) refl ∙ asked (λ x. read_as x s) (read_unknown s) m (num 1 s 0) c
@@ -117,7 +117,7 @@ reads_back k m vs part f e =
 -- what is known of bytes that are read: they are of one of the kinds, and it does not refuse them
 pub record Read (s : List ℕ) : Type 0 where
   pub kind : Kind
-  pub known : List-as-Memᴰ kind kinds
+  pub known : Memᴰ kind kinds
   pub typed : num 1 s 0 ≡ kind.code
   pub taken : refusal_as kind s ≡ 0
 

@@ -1,6 +1,6 @@
 -- A frame that is read is taken as what it is read as, its part in its place; and a frame that breaks no rule is read as what was written.
 -- Assumes nothing.
-use Rattle.octets.proofs.Words.{◌≡◌, sym, ap, ◌∙◌, true, List, [], ◌∷◌, List-as-Memᴰ, ℕ, ◌≤◌, arith, length, get_or, drop}
+use Rattle.octets.proofs.Words.{◌≡◌, sym, ap, ◌∙◌, true, List, [], ◌∷◌, Memᴰ, ℕ, ◌≤◌, arith, length, get_or, drop}
 use Rattle.octets.specs.Answers.{Said, accepted}
 use Rattle.octets.specs.Layouts.{total, Fit}
 use Rattle.octets.specs.Numbers.{num}
@@ -36,7 +36,7 @@ parts_in_place k m s vs e =
 
 -- ---- what is written
 -- values that fit, with a part as long as they say, at most 255 bytes in all, and the rules kept
-module _ (k : Kind) (m : List-as-Memᴰ k kinds) (vs part : List ℕ) (f : Fit k.widths vs) (e : length part ≡ k.extent vs) (short : length_of k (k.extent vs) ≤ 255)
+module _ (k : Kind) (m : Memᴰ k kinds) (vs part : List ℕ) (f : Fit k.widths vs) (e : length part ≡ k.extent vs) (short : length_of k (k.extent vs) ≤ 255)
     (good : k.rule vs part ≡ true) where
   abbrev frame : List ℕ
   frame = frame_of k vs part

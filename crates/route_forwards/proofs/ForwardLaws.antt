@@ -32,7 +32,7 @@ use Rattle.route_forwards.specs.Forwards.{origin_of, passing_of, copy_of, unread
 use Rattle.route_forwards.specs.Copies.{passed_by, short_passed_by, copy_size, longest_delay, Fitting}
 use Rattle.octets.proofs.ReasonLaws.{first_append, first-behind, first-refusing}
 use Rattle.octets.proofs.TestLaws.{all_hold, all_with}
-use Rattle.octets.proofs.CallLaws as CallLaws
+use Rattle.octets.proofs.CallLaws
 use Rattle.octets.proofs.CallLaws.{after-refused}
 
 -- what was heard is of the kind that the type says

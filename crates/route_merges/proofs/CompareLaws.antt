@@ -1,6 +1,6 @@
 -- How many rows a search compares, from where it stopped.
 -- Assumes nothing.
-use Rattle.octets.proofs.Words.{◌≡◌, refl, sym, ◌∙◌, true, false, cond, and-eq-true_iff, false≢true, List, [], ◌∷◌, ℕ, zero, suc, ◌+◌, ◌≤◌, ◌<◌, ℕ_discrete, dec_lt, arith, eq-eqb, ne_eqb, lt-ltb, le-ltb, ltb-true, ltb-false, eqb, ltb, length, get_or, take, drop, drop_of_length-le, drop-cons, List·getD-eq-default}
+use Rattle.octets.proofs.Words.{◌≡◌, refl, sym, ◌∙◌, true, false, cond, and-eq-true_iff, false≢true, List, [], ◌∷◌, ℕ, zero, suc, ◌+◌, ◌≤◌, ◌<◌, ℕ_discrete, dec_lt, arith, eq-eqb, ne_eqb, lt-ltb, le-ltb, ltb-true, ltb-false, eqb, ltb, length, get_or, take, drop, drop_of_length-le, drop-cons, get_or-eq_default}
 use mir.Val.{bool_byte}
 use Rattle.octets.specs.Lists.{every}
 use Rattle.octets.proofs.OrderLaws.{ascending-rest}
@@ -93,7 +93,7 @@ module _ (d : ℕ) (rs : List Row) (at : ℕ) (sound : Sound rs) (s : Searched d
           row h (no k) = at_row h (omega arith)
       go (no h) =
           let last : at ≡ length rs = omega (arith, s.within) in
-          let empty : seen ≡ none = pad-at rs at ∙ List·getD-eq-default rs none {n = at} (omega arith) in
+          let empty : seen ≡ none = pad-at rs at ∙ get_or-eq_default rs none {n = at} (omega arith) in
           at_end last ∙ rw empty (omega arith)
 
   -- and none where what was looked for is no unit

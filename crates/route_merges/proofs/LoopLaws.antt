@@ -8,7 +8,7 @@ use Rattle.route_table.specs.declared.row.Row.{Row}
 use Rattle.route_table.specs.Rows.{none, pad}
 use Rattle.route_table.proofs.StandingLaws.{pad-length}
 use Rattle.route_merges.specs.declared.candidate.Candidate.{Candidate}
-use Rattle.route_merges.specs.Comparing as Comparing
+use Rattle.route_merges.specs.Comparing
 use Rattle.route_merges.specs.Learning.{put, learned, learn, learn_all}
 use Rattle.route_merges.specs.Offering.{nothing, offer_at, candidate_no, walked, compared_walk, fair}
 use Rattle.route_merges.specs.Searching.{goes_on, compares_on, stores, skips, made}

@@ -1,6 +1,6 @@
 -- The 48 places of a list of rows in use: what stands at a place, a store, a row moved in.
 -- Assumes nothing.
-use Rattle.octets.proofs.Words.{◌≡◌, refl, sym, ap, ◌∙◌, true, not, and-eq-true_iff, List, [], ◌∷◌, ◌++◌, append_assoc, ℕ, zero, suc, ◌-◌, ◌≤◌, ◌<◌, dec_lt, arith, ne_eqb, ltb-true, lt-ltb, le-ltb, ltb, length, get_or, take, drop, set, replicate, length-append, length-set, length-take, length-drop, List·getD-eq-default, set-append_left, take-append-le, drop-append-le}
+use Rattle.octets.proofs.Words.{◌≡◌, refl, sym, ap, ◌∙◌, true, not, and-eq-true_iff, List, [], ◌∷◌, ◌++◌, append_assoc, ℕ, zero, suc, ◌-◌, ◌≤◌, ◌<◌, dec_lt, arith, ne_eqb, ltb-true, lt-ltb, le-ltb, ltb, length, get_or, take, drop, set, replicate, length-append, length-set, length-take, length-drop, get_or-eq_default, set-append_left, take-append-le, drop-append-le}
 use Rattle.octets.specs.Lists.{every}
 use Rattle.octets.proofs.ListLaws.{every_drop}
 use Rattle.route_table.specs.declared.row.Row.{Row}
@@ -38,7 +38,7 @@ module _ (rs : List Row) (u : every used rs ≡ true) (at : ℕ) where
       go : Dec (at < length rs) → at < length rs
       go (yes k) = k
       go (no k) =
-          let z : get_or rs at none ≡ none = List·getD-eq-default rs none {n = at} (omega arith) in
+          let z : get_or rs at none ≡ none = get_or-eq_default rs none {n = at} (omega arith) in
           absurd (omega (arith, h, ap (λ (r : Row). r.destination) (pad-at rs at ∙ z)))
 
   pub within_used : at < length rs → 0 < (get_or (pad rs) at none).destination
@@ -51,7 +51,7 @@ full rs u f = go (dec_lt 47 (length rs))
     go : Dec (47 < length rs) → ltb 0 (get_or (pad rs) 47 none).destination ≡ not (ltb (length rs) 48)
     go (yes k) = rw (lt-ltb 0 (get_or (pad rs) 47 none).destination (within_used rs u 47 k), le-ltb (length rs) 48 (omega arith))
     go (no k) =
-        let z : get_or rs 47 none ≡ none = List·getD-eq-default rs none {n = 47} (omega arith) in
+        let z : get_or rs 47 none ≡ none = get_or-eq_default rs none {n = 47} (omega arith) in
         rw (pad-at rs 47, z, lt-ltb (length rs) 48 (omega arith))
 
 pub set-pad : (rs : List Row) (at : ℕ) (w : Row) → at < length rs → set (pad rs) at w ≡ pad (set rs at w)

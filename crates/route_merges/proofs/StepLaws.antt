@@ -1,6 +1,6 @@
 -- One candidate: what it does to the list of rows is what it does at the place where its search stopped.
 -- Assumes nothing.
-use Rattle.octets.proofs.Words.{◌≡◌, refl, sym, ap, ◌∙◌, Bool, true, false, not, ◌&&◌, ◌||◌, cond, and-eq-true_iff, and-false, false≢true, or-false, List, [], ◌∷◌, ◌++◌, ℕ, ◌+◌, ◌≤◌, ◌<◌, ℕ_discrete, dec_lt, add-zero, arith, eq-eqb, ne_eqb, lt-ltb, ltb-true, eqb-true, eqb-false, eqb, ltb, length, get_or, take, drop, set, length-set, List·getD-eq-default}
+use Rattle.octets.proofs.Words.{◌≡◌, refl, sym, ap, ◌∙◌, Bool, true, false, not, ◌&&◌, ◌||◌, cond, and-eq-true_iff, and-false, false≢true, or-false, List, [], ◌∷◌, ◌++◌, ℕ, ◌+◌, ◌≤◌, ◌<◌, ℕ_discrete, dec_lt, add-zero, arith, eq-eqb, ne_eqb, lt-ltb, ltb-true, eqb-true, eqb-false, eqb, ltb, length, get_or, take, drop, set, length-set, get_or-eq_default}
 use mir.Val.{bool_byte}
 use Rattle.octets.specs.Lists.{every}
 use Rattle.octets.proofs.OrderLaws.{put-every, put-length, put-ascending}
@@ -116,7 +116,7 @@ module _ (via time : ℕ) (c : Candidate) where
         where
           go : Dec (at < length rows) → row ≡ none
           go (yes h) = absurd (omega (arith, within_used rows sound.in_use at h))
-          go (no h) = pad-at rows at ∙ List·getD-eq-default rows none {n = at} (omega arith)
+          go (no h) = pad-at rows at ∙ get_or-eq_default rows none {n = at} (omega arith)
 
       zero_stays : d ≡ 0 → after ≡ learned rows skipped
       zero_stays z =

@@ -6,7 +6,7 @@ use octets::addresses::is_address;
 use octets::answers::Refusal;
 
 // `beacon_type` is the kind of beacons that its manager sends, by its type.
-#[derive(Clone, Copy, Drop)]
+#[derive(Clone, Copy)]
 pub struct Plan {
     pub network: u16,
     pub manager: u16,

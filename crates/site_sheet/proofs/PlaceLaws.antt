@@ -1,6 +1,6 @@
 -- The place of a unit on a sheet: found or not, and where no unit is listed twice the only one.
 -- Assumes nothing.
-use Rattle.octets.proofs.Words.{◌≡◌, refl, sym, ap, ap₂, ◌∙◌, Bool, true, false, not, ◌&&◌, ◌||◌, cond, and-eq-true_iff, List, [], ◌∷◌, ℕ, zero, suc, ◌+◌, ◌-◌, ◌/◌, ◌<◌, ◌≤◌, not-suc-le-zero, le_of_suc-le-suc, arith, eq-eqb, ne_eqb, eqb-true, lt-ltb, ltb-true, ltb-false, not-true, eqb, eqb·suc-suc, ltb, leb·suc-suc, length, get_or, drop, length-drop, drop_of_length-le}
+use Rattle.octets.proofs.Words.{◌≡◌, refl, sym, ap, ap₂, ◌∙◌, Bool, true, false, not, ◌&&◌, ◌||◌, cond, and-eq-true_iff, List, [], ◌∷◌, ℕ, zero, suc, ◌+◌, ◌-◌, ◌/◌, ◌<◌, ◌≤◌, not-suc-le-zero, le_of_suc-le-suc, arith, eq-eqb, ne_eqb, eqb-true, lt-ltb, ltb-true, ltb-false, not-true, eqb, eqb-suc-suc, ltb, leb-suc-suc, length, get_or, drop, length-drop, drop_of_length-le}
 use Rattle.octets.specs.Lists.{some}
 use Rattle.octets.proofs.TestLaws.{neither, by_bool}
 use Rattle.site_sheet.specs.declared.rows.Row.{Row}
@@ -28,7 +28,7 @@ module _ (u : ℕ) where
     where
       go : (b : Bool) → listed l u ≡ ltb (place_of l u) (length l) → (b || listed l u) ≡ ltb (cond b 0 (suc (place_of l u))) (suc (length l))
       go true h = sym (lt-ltb 0 (suc (length l)) (omega arith))
-      go false h = h ∙ sym (leb·suc-suc (suc (place_of l u)) (length l))
+      go false h = h ∙ sym (leb-suc-suc (suc (place_of l u)) (length l))
 
   unlisted_at : (l : List Proposed) (d : Proposed) (i : ℕ) → listed l u ≡ false → i < length l → eqb (get_or l i d).unit u ≡ false
   unfolding listed some
@@ -51,7 +51,7 @@ module _ (u : ℕ) where
       go (suc k) h true q once later =
           ne_eqb (suc k) 0 (λ z. omega (arith, z))
           ∙ sym (unlisted_at l d k (ap (listed l) (sym (eqb-true g.unit u q)) ∙ once) (le_of_suc-le-suc h))
-      go (suc k) h false q once later = eqb·suc-suc k (place_of l u) ∙ later k (le_of_suc-le-suc h)
+      go (suc k) h false q once later = eqb-suc-suc k (place_of l u) ∙ later k (le_of_suc-le-suc h)
 
 -- ---- the search for a unit
 module _ (s : List ℕ) (u place all : ℕ) where

@@ -1,6 +1,6 @@
 -- The tests of a sheet say what the sentence says: of a unit, of two that are near, of two that share a slot.
 -- Assumes nothing.
-use Rattle.octets.proofs.Words.{◌≡◌, sym, subst, ◌∙◌, Bool, true, false, not, ◌&&◌, and-eq-true_iff, or_comm, false≢true, List, [], ◌∷◌, List-as-Memᴰ, inl, inr, ℕ, arith, le-leb, leb-true, lt-ltb, ltb-true, ltb-false, eqb-true, not-true, eqb, leb, ltb}
+use Rattle.octets.proofs.Words.{◌≡◌, sym, subst, ◌∙◌, Bool, true, false, not, ◌&&◌, and-eq-true_iff, or_comm, false≢true, List, [], ◌∷◌, Memᴰ, inl, inr, ℕ, arith, le-leb, leb-true, lt-ltb, ltb-true, ltb-false, eqb-true, not-true, eqb, leb, ltb}
 use Rattle.octets.specs.Lists.{every}
 use Rattle.octets.proofs.ListLaws.{every_in, some_in, in_some}
 use Rattle.octets.proofs.TestLaws.{or_elim, or_left, or_right, by_bool, all_hold}
@@ -84,7 +84,7 @@ module _ (links : List Link) (sheet : List Proposed) (g h : Proposed) where
   abbrev apart : Bool
   apart = disjoint g.slots h.slots
 
-  pub clash-says : List-as-Memᴰ g sheet → List-as-Memᴰ h sheet → clash links sheet g h ≡ true → Clash links sheet g h
+  pub clash-says : Memᴰ g sheet → Memᴰ h sheet → clash links sheet g h ≡ true → Clash links sheet g h
   clash-says m n e =
       let hold = all_hold (ltb g.unit h.unit ∷ not apart ∷ near links sheet g.unit h.unit ∷ []) e in
       record {

@@ -1,6 +1,6 @@
 -- Who sends near a receiver, on a sheet that is fine.
 -- Assumes nothing.
-use Rattle.octets.proofs.Words.{◌≡◌, refl, sym, ◌∙◌, true, false≢true, List, [], ◌∷◌, List-as-Memᴰ, List·Memᴰ·head, List·Memᴰ·tail, inl, inr, ⊎_elim, ℕ, ◌-◌, eqb-true, eqb}
+use Rattle.octets.proofs.Words.{◌≡◌, refl, sym, ◌∙◌, true, false≢true, List, [], ◌∷◌, Memᴰ, mem_head, mem_tail, inl, inr, ⊎_elim, ℕ, ◌-◌, eqb-true, eqb}
 use Rattle.octets.proofs.TestLaws.{by_bool}
 use Rattle.slot_sets.specs.Sets.{has, Apart}
 use Rattle.slot_sets.proofs.SetLaws.{never_both, nothing-has}
@@ -14,13 +14,13 @@ use Rattle.site_sheet.proofs.VerdictLaws.{says_means}
 
 -- a slot that a sheet proposes for a unit is one of a row of this unit
 slot_in : (sheet : List Proposed) (u i : ℕ) → has (slots_for sheet u) i ≡ true
-    → (g : Proposed) × List-as-Memᴰ g sheet × (g.unit ≡ u) × (has g.slots i ≡ true)
+    → (g : Proposed) × Memᴰ g sheet × (g.unit ≡ u) × (has g.slots i ≡ true)
 unfolding slots_for
 slot_in [] u i h = absurd (false≢true (sym (nothing-has 64 i) ∙ h))
 slot_in (g ∷ sheet) u i h =
     by_bool _ (eqb g.unit u)
-    (λ e. (g, List·Memᴰ·head refl, eqb-true g.unit u e, rw e at h))
-    (λ e. let (k, m, q, t) = slot_in sheet u i (rw e at h) in (k, List·Memᴰ·tail m, q, t))
+    (λ e. (g, mem_head refl, eqb-true g.unit u e, rw e at h))
+    (λ e. let (k, m, q, t) = slot_in sheet u i (rw e at h) in (k, mem_tail m, q, t))
 
 -- of two units that are near, listed or not, the slots are apart
 apart_nearby : (d : ℕ) (links : List Link) (sheet : List Proposed) → Sound d links sheet

@@ -1,6 +1,6 @@
 -- The verdict on a sheet: that it is fine exactly if the sentence holds, and that who is named is the first that offends.
 -- Assumes nothing.
-use Rattle.octets.proofs.Words.{◌≡◌, sym, ap, ap₂, subst, ◌∙◌, true, not, false≢true, List, List-as-Memᴰ, ℕ, ◌<◌, arith, ltb-true, ltb-false, not-true, not-false, ltb}
+use Rattle.octets.proofs.Words.{◌≡◌, sym, ap, ap₂, subst, ◌∙◌, true, not, false≢true, List, Memᴰ, ℕ, ◌<◌, arith, ltb-true, ltb-false, not-true, not-false, ltb}
 use Rattle.octets.specs.Answers.{Said, accepted, first}
 use Rattle.octets.specs.Lists.{every}
 use Rattle.octets.proofs.AnswerLaws.{unless-none, none-holds}
@@ -17,15 +17,15 @@ use Rattle.site_sheet.proofs.ToldLaws.{verdict-one}
 
 -- ---- who offends is named, and nobody else
 module _ (d : ℕ) (sheet : List Proposed) where
-  bad-unit : {n : Named} → List-as-Memᴰ n (bad_units d sheet)
-      → (g : Proposed) × List-as-Memᴰ g sheet × (n ≡ alone g.unit) × (Allotted d g → ⊥)
+  bad-unit : {n : Named} → Memᴰ n (bad_units d sheet)
+      → (g : Proposed) × Memᴰ g sheet × (n ≡ alone g.unit) × (Allotted d g → ⊥)
   unfolding bad_units
   bad-unit k =
       let (g, m, o) = in_gather (bad_unit d) sheet k in
       let (t, e) = in_only (not (unit_rule d g)) (alone g.unit) o in
       (g, m, e, λ a. false≢true (sym (not-true (unit_rule d g) t) ∙ allotted_rule d g a))
 
-  good-unit : (g : Proposed) → List-as-Memᴰ g sheet → (List-as-Memᴰ (alone g.unit) (bad_units d sheet) → ⊥) → Allotted d g
+  good-unit : (g : Proposed) → Memᴰ g sheet → (Memᴰ (alone g.unit) (bad_units d sheet) → ⊥) → Allotted d g
   unfolding bad_units
   good-unit g m h =
       by_bool _ (unit_rule d g) (rule_allotted d g)
@@ -38,7 +38,7 @@ module _ (links : List Link) (sheet : List Proposed) where
   abbrev pairs_of : Proposed → List Named
   pairs_of g = gather (pair_of g) sheet
 
-  bad-pair : {n : Named} → List-as-Memᴰ n (bad_pairs links sheet)
+  bad-pair : {n : Named} → Memᴰ n (bad_pairs links sheet)
       → (g : Proposed) × (h : Proposed) × Clash links sheet g h × (n ≡ both g.unit h.unit)
   unfolding bad_pairs
   bad-pair k =
@@ -48,14 +48,14 @@ module _ (links : List Link) (sheet : List Proposed) where
       (g, h, clash-says links sheet g h m n c, e)
 
   pair-bad : every (link_rule sheet) links ≡ true
-      → (g h : Proposed) → Clash links sheet g h → List-as-Memᴰ (both g.unit h.unit) (bad_pairs links sheet)
+      → (g h : Proposed) → Clash links sheet g h → Memᴰ (both g.unit h.unit) (bad_pairs links sheet)
   unfolding bad_pairs
   pair-bad good g h c =
       let given = only_in (clash links sheet g h) (both g.unit h.unit) (says-clash links sheet g h good c) in
       gather_in pairs_of sheet c.lower-there (gather_in (pair_of g) sheet c.higher-there given)
 
   -- two that are near and have one slot clash, the lower first
-  a_clash : (g h : Proposed) → List-as-Memᴰ g sheet → List-as-Memᴰ h sheet → Near links g.unit h.unit
+  a_clash : (g h : Proposed) → Memᴰ g sheet → Memᴰ h sheet → Near links g.unit h.unit
       → (i : ℕ) → has g.slots i ≡ true → has h.slots i ≡ true → g.unit < h.unit → Clash links sheet g h
   a_clash g h m n near i p q below = record { lower-there = m; higher-there = n; ascending = below; near = near; shared = λ apart. apart i p q }
 

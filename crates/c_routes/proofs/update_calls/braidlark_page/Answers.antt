@@ -1,0 +1,20 @@
+-- `braidlark_page`: the page that was written, or why none was.
+-- Assumes nothing.
+use Rattle.octets.proofs.Words.{arith}
+use Rattle.c_routes.proofs.UpdateCallLaws.{page-size, page-done, page_undone}
+use Rattle.c_routes.proofs.update_calls.braidlark_page.Goals as goal
+
+pub overflow_cast-written : goal.overflow_cast-written
+overflow_cast-written c =
+    let a = c.args in
+    omega (arith, page-size a.table.now a.page a.time a.out.now 0 c.page_in.result _ c.page_in.ensures c.in-Done.size c.in-Done.is)
+
+pub returns-in-Done : goal.returns-in-Done
+returns-in-Done c =
+    let a = c.args in
+    page-done a.table.now a.page a.time a.out.now _ c.page_in.result _ c.page_in.ensures c.in-Done.size c.in-Done.is
+
+pub returns-in-Refused : goal.returns-in-Refused
+returns-in-Refused c =
+    let a = c.args in
+    page_undone a.table.now a.page a.time a.out.now _ c.page_in.result _ c.page_in.ensures c.in-Refused.refusal c.in-Refused.is

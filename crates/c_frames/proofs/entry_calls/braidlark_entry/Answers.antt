@@ -9,16 +9,14 @@ use Rattle.c_frames.proofs.entry_calls.braidlark_entry.Goals as goal
 pub returns-then-entry-lt-ENTRY_FIELDS : goal.returns-then-entry-lt-ENTRY_FIELDS
 returns-then-entry-lt-ENTRY_FIELDS c =
     let a = c.args in
-    entry_short a.frame.now a.position a.entry.now _ c.walk.result c.walk.ensures c.in-One.step c.in-One.is
-    c.if-entry-lt-ENTRY_FIELDS.true
+    entry_short a.frame.now a.position a.entry.now _ c.walk.result c.walk.ensures c.in-One.step c.in-One.is c.if-entry-lt-ENTRY_FIELDS.true
 
 pub overflow_cast-next : goal.overflow_cast-next
 overflow_cast-next c =
     let a = c.args in
     omega (
       arith,
-      next-few a.frame.now a.position c.in-One.step (sym (ap told_walked c.in-One.is) ∙
-          c.walk.ensures),
+      next-few a.frame.now a.position c.in-One.step (sym (ap told_walked c.in-One.is) ∙ c.walk.ensures),
     )
 
 pub returns-else-entry-lt-ENTRY_FIELDS : goal.returns-else-entry-lt-ENTRY_FIELDS
@@ -35,5 +33,4 @@ returns-in-End c =
 pub returns-in-Refused : goal.returns-in-Refused
 returns-in-Refused c =
     let a = c.args in
-    entry-refused a.frame.now a.position a.entry.now _ c.walk.result c.walk.ensures c.in-Refused.refusal
-    c.in-Refused.is
+    entry-refused a.frame.now a.position a.entry.now _ c.walk.result c.walk.ensures c.in-Refused.refusal c.in-Refused.is

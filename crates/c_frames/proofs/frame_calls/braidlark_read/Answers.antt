@@ -9,9 +9,9 @@ use Rattle.c_frames.proofs.FrameCallLaws.{unread, read_left_lem, shown_read}
 use Rattle.c_frames.proofs.frame_calls.braidlark_read.Goals as goal
 use Rattle.c_frames.proofs.frame_calls.braidlark_read.Goals.{After-layout_of-place}
 
+-- what was shown: the layout of its type, and that its checksum stands behind its fields
 place : (d : After-layout_of-place) → d.layout_of-place.result.head ≡ place_in d.args.frame.now
-place d = (laid_out_lem d.layout_of-place.result _ (d.layout_of-place.ensures ∙ ap layout_of
-    d.number8.ensures)).summed
+place d = (laid_out_lem d.layout_of-place.result _ (d.layout_of-place.ensures ∙ ap layout_of d.number8.ensures)).summed
 
 size : (d : After-layout_of-place) → (length d.args.frame.now ≤ 255)
     × (d.layout_of-place.result.head < length d.args.frame.now)
@@ -27,8 +27,6 @@ returns-then-status-ne0 c =
     let h = c.show-status.ensures in
     unread a.frame.now a.fields.now _ _ _ _ h.0 h.1 c.if-status-ne0.true
 
--- what was shown: the layout of its type, and that its checksum stands behind its fields
-
 pub overflow_sub-part_length : goal.overflow_sub-part_length
 overflow_sub-part_length c = omega (arith, size c)
 
@@ -42,5 +40,4 @@ pub returns : goal.returns
 returns c =
     let a = c.args in
     let h = c.show-status.ensures in
-    read_left_lem a.frame.now a.fields.now _ _ c.show-status.result _ h.0 h.1 c.if-status-ne0.false _ _ (place
-    c) (rw (place c))
+    read_left_lem a.frame.now a.fields.now _ _ c.show-status.result _ h.0 h.1 c.if-status-ne0.false _ _ (place c) (rw (place c))

@@ -9,8 +9,7 @@ use Rattle.frame_entries.proofs.walking.entry_at.Goals as goal
 use Rattle.frame_entries.proofs.walking.entry_at.Goals.{After-of-count}
 
 pub returns-then-number-ne0 : goal.returns-then-number-ne0
-returns-then-number-ne0 c = step-refused c.args.frame.now c.args.position _ c.refusal-number.ensures
-    c.if-number-ne0.true
+returns-then-number-ne0 c = step-refused c.args.frame.now c.args.position _ c.refusal-number.ensures c.if-number-ne0.true
 
 -- the count that the header has is the update's
 counted : (c : After-of-count) → c.of-count.result.count ≡ count_in c.args.frame.now

@@ -14,6 +14,5 @@ returns-in-2 c = c.number16.ensures ∙ sym (ap (λ (w : ℕ). num (seen_width w
 pub returns-in_default : goal.returns-in_default
 returns-in_default c = c.number32.ensures ∙ simp (
   ne_eqb c.args.width 1 (omega arith),
-  ne_eqb c.args.width 2
-      (omega arith),
+  ne_eqb c.args.width 2 (omega arith),
 )

@@ -6,8 +6,7 @@ use Rattle.frame_reading.proofs.numbers.put_numbers.Given as goal
 
 abbrev pub invariant-loop-k : goal.invariant-loop-k
 invariant-loop-k l = (l.k ≤ length l.widths) × (l.place ≤ 255 * l.k) × (length l.out ≡ length l.initial.out) ×
-    (sets l.out l.k (seen_fields (drop l.k l.widths) l.s l.place) ≡ sets l.initial.out 0 (seen_fields l.widths
-    l.s 0))
+    (sets l.out l.k (seen_fields (drop l.k l.widths) l.s l.place) ≡ sets l.initial.out 0 (seen_fields l.widths l.s 0))
 
 abbrev pub decreases-loop-k : goal.decreases-loop-k
 decreases-loop-k l = length l.widths - l.k

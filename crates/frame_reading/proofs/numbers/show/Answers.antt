@@ -12,6 +12,7 @@ use Rattle.frame_reading.proofs.ShowLaws.{refused-shown, short_shown, whole-show
 use Rattle.frame_reading.proofs.numbers.show.Goals as goal
 use Rattle.frame_reading.proofs.numbers.show.Goals.{After-layout_of-layout}
 
+-- the layout of the frame's type
 here : (c : After-layout_of-layout) → Laid c.layout_of-layout.result (widths_of (num 1 c.args.s.now 0))
 here c = laid_out_lem c.layout_of-layout.result _ (c.layout_of-layout.ensures ∙ ap layout_of c.number8.ensures)
 
@@ -29,8 +30,6 @@ returns-then-refused-ne0 c =
     let a = c.args in
     refused-shown a.s.now a.out.now c.refusal-refused.result c.refusal-refused.ensures c.if-refused-ne0.true
 
--- the layout of the frame's type
-
 pub returns-then-out-count : goal.returns-then-out-count
 returns-then-out-count c =
     let d = (goal.at.returns-then-out-count c).After-layout_of-layout in
@@ -41,8 +40,7 @@ pub slice_bounds-widths-end : goal.slice_bounds-widths-end
 slice_bounds-widths-end c = (here ((goal.at.slice_bounds-widths-end c).After-layout_of-layout)).within
 
 pub slice_bounds-put_numbers-end : goal.slice_bounds-put_numbers-end
-slice_bounds-put_numbers-end c = laid-count (here ((goal.at.slice_bounds-put_numbers-end
-    c).After-layout_of-layout))
+slice_bounds-put_numbers-end c = laid-count (here ((goal.at.slice_bounds-put_numbers-end c).After-layout_of-layout))
 
 pub put_numbers-requires : goal.put_numbers-requires
 put_numbers-requires c = let l = here ((goal.at.put_numbers-requires c).After-layout_of-layout) in let e = ap
@@ -54,7 +52,6 @@ returns c =
     let a = c.args in
     let t = num 1 a.s.now 0 in
     whole-shown a.s.now a.out.now (unrefused d) _ (omega (arith, values_length d))
-    (c.put_numbers.ensures ∙
-    ap (sets a.out.now 0)
+    (c.put_numbers.ensures ∙ ap (sets a.out.now 0)
     (ap (λ (ws : List ℕ). seen_fields ws a.s.now 0) (here d).firsts ∙ (seen_fields_lem t a.s.now ∙ sym
     (values-read a.s.now (unrefused d)))))

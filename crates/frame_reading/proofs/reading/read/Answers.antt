@@ -12,8 +12,7 @@ use Rattle.frame_reading.proofs.reading.read.Goals as goal
 
 pub returns-in-17 : goal.returns-in-17
 unfolding refusal_typed
-returns-in-17 c = c.unless.ensures ∙ frame_as data_kind _ _ c.in-17.is _ refl _ refl c.number8-code.ensures
-    c.wanted.ensures c.of.ensures
+returns-in-17 c = c.unless.ensures ∙ frame_as data_kind _ _ c.in-17.is _ refl _ refl c.number8-code.ensures c.wanted.ensures c.of.ensures
 
 pub returns-in-33 : goal.returns-in-33
 unfolding refusal_typed
@@ -65,16 +64,12 @@ unfolding refusal_typed
 returns-in_default c = unknown-read _ _ c.unknown.ensures (of_type _ _ (sym c.number8-code.ensures) ∙ simp (
   ne_eqb c.number8-code.result 0x11 (omega arith),
   ne_eqb c.number8-code.result 0x21 (omega arith),
-  ne_eqb
-      c.number8-code.result 0x22 (omega arith),
+  ne_eqb c.number8-code.result 0x22 (omega arith),
   ne_eqb c.number8-code.result 0x23 (omega arith),
-  ne_eqb
-      c.number8-code.result 0x24 (omega arith),
+  ne_eqb c.number8-code.result 0x24 (omega arith),
   ne_eqb c.number8-code.result 0x25 (omega arith),
-  ne_eqb
-      c.number8-code.result 0x26 (omega arith),
+  ne_eqb c.number8-code.result 0x26 (omega arith),
   ne_eqb c.number8-code.result 0x31 (omega arith),
-  ne_eqb
-      c.number8-code.result 0x46 (omega arith),
+  ne_eqb c.number8-code.result 0x46 (omega arith),
   ne_eqb c.number8-code.result 0x47 (omega arith),
 ))

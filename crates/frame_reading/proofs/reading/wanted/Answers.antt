@@ -19,8 +19,7 @@ returns-in-33 c = wanted_as join_request _ _ c.in-33.is _ refl c.refusal-in-33.e
 
 pub returns-in-34 : goal.returns-in-34
 unfolding refusal_typed
-returns-in-34 c = wanted_by join_response _ _ c.in-34.is _ refl _ _ c.refused.ensures c.good.ensures
-    c.of.ensures
+returns-in-34 c = wanted_by join_response _ _ c.in-34.is _ refl _ _ c.refused.ensures c.good.ensures c.of.ensures
 
 pub returns-in-35 : goal.returns-in-35
 unfolding refusal_typed
@@ -28,13 +27,11 @@ returns-in-35 c = wanted_as slot_request _ _ c.in-35.is _ refl c.refusal-in-35.e
 
 pub returns-in-36 : goal.returns-in-36
 unfolding refusal_typed
-returns-in-36 c = wanted_by discovery_request _ _ c.in-36.is _ refl _ _ c.refused-in-36.ensures
-    c.good-in-36.ensures c.of-in-36.ensures
+returns-in-36 c = wanted_by discovery_request _ _ c.in-36.is _ refl _ _ c.refused-in-36.ensures c.good-in-36.ensures c.of-in-36.ensures
 
 pub returns-in-37 : goal.returns-in-37
 unfolding refusal_typed
-returns-in-37 c = wanted_by discovery_response _ _ c.in-37.is _ refl _ _ c.refused-in-37.ensures
-    c.good-in-37.ensures c.of-in-37.ensures
+returns-in-37 c = wanted_by discovery_response _ _ c.in-37.is _ refl _ _ c.refused-in-37.ensures c.good-in-37.ensures c.of-in-37.ensures
 
 pub returns-in-38 : goal.returns-in-38
 unfolding refusal_typed
@@ -56,17 +53,13 @@ pub returns-in_default : goal.returns-in_default
 unfolding refusal_typed
 returns-in_default c = c.unknown.ensures ∙ simp (
   ne_eqb c.args.code 0x11 (omega arith),
-  ne_eqb c.args.code 0x21
-      (omega arith),
+  ne_eqb c.args.code 0x21 (omega arith),
   ne_eqb c.args.code 0x22 (omega arith),
   ne_eqb c.args.code 0x23 (omega arith),
-  ne_eqb
-      c.args.code 0x24 (omega arith),
+  ne_eqb c.args.code 0x24 (omega arith),
   ne_eqb c.args.code 0x25 (omega arith),
-  ne_eqb c.args.code 0x26 (omega
-      arith),
+  ne_eqb c.args.code 0x26 (omega arith),
   ne_eqb c.args.code 0x31 (omega arith),
   ne_eqb c.args.code 0x46 (omega arith),
-  ne_eqb c.args.code
-      0x47 (omega arith),
+  ne_eqb c.args.code 0x47 (omega arith),
 )

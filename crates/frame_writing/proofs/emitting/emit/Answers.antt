@@ -10,8 +10,7 @@ returns-then-number-ne0 c =
     let a = c.args in
     let p = c.requires in
     let l = frame-length a.widths.now a.values.now a.part.now a.out.now a.head p.0 p.1 in
-    unwritten a.due a.good _ a.out.now c.why_unwritten-number.result (rw l c.why_unwritten-number.ensures)
-    c.if-number-ne0.true
+    unwritten a.due a.good _ a.out.now c.why_unwritten-number.result (rw l c.why_unwritten-number.ensures) c.if-number-ne0.true
 
 pub bounds-out-end : goal.bounds-out-end
 bounds-out-end c =
@@ -33,10 +32,8 @@ returns c =
     let p = c.requires in
     let l = frame-length a.widths.now a.values.now a.part.now a.out.now a.head p.0 p.1 in
     let held = c.put_bytes.ensures ∙ ap (λ (o : List ℕ). sets o a.head a.part.now) c.put_layout.ensures in
-    stored a.due a.good _ a.out.now c.why_unwritten-number.result (rw l c.why_unwritten-number.ensures) _ _
-    c.if-number-ne0.false (sym l)
-    (rw held (sealed-stored a.widths.now a.values.now a.part.now a.out.now a.head p.0 p.1 c.xor_of-sum.result
-    (omega (
+    stored a.due a.good _ a.out.now c.why_unwritten-number.result (rw l c.why_unwritten-number.ensures) _ _ c.if-number-ne0.false (sym l)
+    (rw held (sealed-stored a.widths.now a.values.now a.part.now a.out.now a.head p.0 p.1 c.xor_of-sum.result (omega (
       arith,
       (put a.due (a.head + length a.part.now + 1) a.good (length a.out.now) (sym
           c.why_unwritten-number.ensures ∙ c.if-number-ne0.false)).fits,

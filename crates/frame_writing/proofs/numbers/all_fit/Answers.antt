@@ -11,8 +11,7 @@ pub returns-then-numbers-k : goal.returns-then-numbers-k
 returns-then-numbers-k c =
     let l = c.loop-k in
     let a = c.args in
-    sym (sym l.invariant ∙ (fitting-turn a.widths.now a.numbers.now l.k c.loop-k-test.true ∙ simp (le-ltb _ _
-    c.if-numbers-k.true)))
+    sym (sym l.invariant ∙ (fitting-turn a.widths.now a.numbers.now l.k c.loop-k-test.true ∙ simp (le-ltb _ _ c.if-numbers-k.true)))
 
 pub returns-then-not-fits : goal.returns-then-not-fits
 returns-then-not-fits c =

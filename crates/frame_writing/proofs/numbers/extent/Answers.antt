@@ -9,15 +9,13 @@ pub returns-in-17 : goal.returns-in-17
 unfolding extent_of
 returns-in-17 c = (
   c.number_at.ensures ∙ sym (ap (λ (t : ℕ). extent_of t c.args.numbers.now) c.in-17.is),
-  omega
-      arith,
+  omega arith,
 )
 
 pub returns-in-49 : goal.returns-in-49
 unfolding extent_of
 returns-in-49 c = (
-  ap (λ (n : ℕ). 10 * n) c.number_at-in-49.ensures ∙ sym (ap (λ (t : ℕ). extent_of t
-      c.args.numbers.now) c.in-49.is),
+  ap (λ (n : ℕ). 10 * n) c.number_at-in-49.ensures ∙ sym (ap (λ (t : ℕ). extent_of t c.args.numbers.now) c.in-49.is),
   omega arith,
 )
 

@@ -9,19 +9,16 @@ use Rattle.frame_writing.proofs.ListedLaws.{fitting-within}
 use Rattle.frame_writing.proofs.numbers.listed.Goals as goal
 use Rattle.frame_writing.proofs.numbers.listed.Goals.{Else-not-all_fit}
 
-widths-count : {code : ℕ} {layout : Layout} → Known code layout → layout.count ≡ length (take layout.count
-    layout.widths)
+widths-count : {code : ℕ} {layout : Layout} → Known code layout → layout.count ≡ length (take layout.count layout.widths)
 widths-count k = k.counted ∙ sym (ap length k.widths)
 
 here : (d : Else-not-all_fit) → Known d.args.code d.args.layout
 here d = known d.args.code d.args.layout d.requires.0 d.requires.1
 
 fits : (d : Else-not-all_fit) → fitting (1 ∷ (here d).kind.widths) d.args.numbers.now 0 ≡ true
-fits d = sym (d.all_fit.ensures ∙ ap (λ (ws : List ℕ). fitting ws d.args.numbers.now 0) (here d).widths) ∙
-    d.if-not-all_fit.false
+fits d = sym (d.all_fit.ensures ∙ ap (λ (ws : List ℕ). fitting ws d.args.numbers.now 0) (here d).widths) ∙ d.if-not-all_fit.false
 
-numbers-count : (d : Else-not-all_fit) → d.args.layout.count ≡ length (take d.args.layout.count
-    d.args.numbers.now)
+numbers-count : (d : Else-not-all_fit) → d.args.layout.count ≡ length (take d.args.layout.count d.args.numbers.now)
 numbers-count d =
     let ns = d.args.numbers.now in
     omega (
@@ -50,8 +47,7 @@ pub returns-then-not-all_fit : goal.returns-then-not-all_fit
 returns-then-not-all_fit c =
     let a = c.args in
     let k = known a.code a.layout c.requires.0 c.requires.1 in
-    let f = sym (c.all_fit.ensures ∙ ap (λ (ws : List ℕ). fitting ws a.numbers.now 0) k.widths) ∙
-    c.if-not-all_fit.true in
+    let f = sym (c.all_fit.ensures ∙ ap (λ (ws : List ℕ). fitting ws a.numbers.now 0) k.widths) ∙ c.if-not-all_fit.true in
     unfit a.code a.layout k a.numbers.now a.part.now a.out.now c.requires.2 c.why_unwritten-number.result f
     (rw (← c.extent.ensures.0) c.why_unwritten-number.ensures)
 

@@ -15,8 +15,7 @@ abbrev frame : After-emit → List ℕ
 frame d = sealed (bytes d.args.widths.now d.args.values.now ++ d.args.part.now)
 
 sized : (d : After-emit) → length (frame d) ≡ d.args.head + length d.args.part.now + 1
-sized d = frame-length d.args.widths.now d.args.values.now d.args.part.now [] d.args.head d.requires.0
-    d.requires.1
+sized d = frame-length d.args.widths.now d.args.values.now d.args.part.now [] d.args.head d.requires.0 d.requires.1
 
 -- what was written apart is the frame
 here : (d : After-emit) (n : ℕ) → d.emit.result ≡ Written.Done n → (n ≡ length (frame d)) × (length (frame d) ≤
@@ -44,6 +43,5 @@ pub returns-in-Refused : goal.returns-in-Refused
 unfolding takes
 returns-in-Refused c =
     let d = (goal.at.returns-in-Refused c).After-emit in
-    let h = apart-refused _ (frame d) c.room-apart.result _ _ c.room-apart.ensures (sized d) c.emit.ensures _
-    c.in-Refused.is in
+    let h = apart-refused _ (frame d) c.room-apart.result _ _ c.room-apart.ensures (sized d) c.emit.ensures _ c.in-Refused.is in
     rw (lt-leb _ _ h)

@@ -6,6 +6,7 @@ use Rattle.frames.proofs.ListedLaws.{none-listed}
 use Rattle.frame_writing.proofs.KnownLaws.{too_large, unknown}
 use Rattle.frame_writing.proofs.numbers.write.Goals as goal
 
+-- a type that is not too large is the same as a byte
 as_byte : (t : ℕ) → t ≤ 255 → t % 256 ≡ t
 as_byte t h = omega (arith, h)
 
@@ -18,8 +19,6 @@ pub returns-then-first-gt255 : goal.returns-then-first-gt255
 returns-then-first-gt255 c =
     let a = c.args in
     too_large a.numbers.now a.part.now a.out.now c.if-numbers-eq0.false c.if-first-gt255.true
-
--- a type that is not too large is the same as a byte
 
 pub returns-then-layout-eq0 : goal.returns-then-layout-eq0
 returns-then-layout-eq0 c =

@@ -48,17 +48,13 @@ pub returns-in_default : goal.returns-in_default
 unfolding layout_of
 returns-in_default c = c.laid-in_default.ensures ∙ simp (
   ne_eqb c.args.code 0x11 (omega arith),
-  ne_eqb
-      c.args.code 0x21 (omega arith),
+  ne_eqb c.args.code 0x21 (omega arith),
   ne_eqb c.args.code 0x22 (omega arith),
-  ne_eqb c.args.code 0x23 (omega
-      arith),
+  ne_eqb c.args.code 0x23 (omega arith),
   ne_eqb c.args.code 0x24 (omega arith),
   ne_eqb c.args.code 0x25 (omega arith),
-  ne_eqb c.args.code
-      0x26 (omega arith),
+  ne_eqb c.args.code 0x26 (omega arith),
   ne_eqb c.args.code 0x31 (omega arith),
   ne_eqb c.args.code 0x46 (omega arith),
-  ne_eqb
-      c.args.code 0x47 (omega arith),
+  ne_eqb c.args.code 0x47 (omega arith),
 )

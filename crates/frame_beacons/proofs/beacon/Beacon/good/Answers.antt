@@ -6,8 +6,7 @@ use Rattle.frame_beacons.proofs.beacon.Beacon.good.Goals as goal
 pub overflow_mul-result : goal.overflow_mul-result
 overflow_mul-result c =
     let b = c.args.self in
-    let h : b.total_slots * b.slot_ms ≤ 255 * 4294967295 = mul-le-mul {n₂ = 255} {m₂ = 4294967295} (omega
-    arith) (omega arith) in
+    let h : b.total_slots * b.slot_ms ≤ 255 * 4294967295 = mul-le-mul {n₂ = 255} {m₂ = 4294967295} (omega arith) (omega arith) in
     omega arith
 
 pub returns : goal.returns

@@ -82,7 +82,7 @@ views_tell_apart =
       writings_into = with_buffer told_written told_written-one;
       relayings = undone any _ (λ v. (v.answer, v.held)) (λ a p. refl);
       forwardings = undone any _ (λ v. (v.answer, v.held)) (λ a p. refl);
-      parts = λ name a a' p p' e i. record { ref_ptr = ((e i).block, (e i).start); ghost_name = (p ∙ sym p') i; now = (e i).bytes };
+      parts = undone any _ (λ l. record { ref_ptr = (l.block, l.start); now = l.bytes }) (λ a p. refl);
       readers = undone any _ (λ v. record { frame = v.0; position = v.1 }) (λ e p. refl);
       masks = undone mask slots_of mask_of mask_back;
       rows = undone mask_rows rows_of (map row_back) rows_back;

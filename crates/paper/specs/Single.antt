@@ -3,7 +3,7 @@
 -- `contracts/check` holds every public contract against this list, and the list against the contracts.
 -- Assumes nothing.
 use Rattle.std.specs.Prelude.{◌≡◌, List, [], ◌∷◌, ℕ, ◌^◌, ◌<◌}
-use Rattle.std.specs.Borrow.{GName, MutBor}
+use Rattle.std.specs.Borrow.{Bor}
 use Rattle.octets.specs.Calls.{write_left}
 use Rattle.octets.specs.Parts.{lent}
 use Rattle.octets.specs.declared.answers.Written.{Written}
@@ -105,10 +105,10 @@ pub record ViewsTellApart : Type 1 where
   pub writings_into : TellsApart any (λ (a : Written × List ℕ). wrote a.0 a.1)
   pub relayings : TellsApart any (λ (a : Relayed × List ℕ). relayed a.0 a.1)
   pub forwardings : TellsApart any (λ (a : Forwarded × List ℕ). passed a.0 a.1)
-  -- a part of lent bytes: where it lies, and what it holds; the name that a proof tracks it by is none that code has
-  pub parts : (name : GName) → TellsApart (λ (part : MutBor (List ℕ)). part.ghost_name ≡ name) lent
+  -- a part of lent bytes: where it lies, and what it holds
+  pub parts : TellsApart {A = Bor (List ℕ)} any lent
   -- a reader of entries: the bytes that it was lent, and its position
-  pub readers : TellsApart {B = MutBor (List ℕ) × ℕ} any (λ (e : Entries). (e.frame, e.position))
+  pub readers : TellsApart {B = Bor (List ℕ) × ℕ} any (λ (e : Entries). (e.frame, e.position))
   -- sets for masks
   pub masks : TellsApart mask slots_of
   pub rows : TellsApart mask_rows rows_of

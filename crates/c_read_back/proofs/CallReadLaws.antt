@@ -1,7 +1,7 @@
 -- What the calls from C that answer requests, forward beacons and write pages leave is read.
 -- Assumes nothing.
 use Rattle.octets.proofs.Words.{◌≡◌, ap, ◌∙◌, cond, List, [], ◌∷◌, ℕ, eqb, length, get_or}
-use Rattle.octets.specs.Answers.{Said, accepted, refused}
+use Rattle.octets.specs.Answers.{Said, accepted}
 use Rattle.octets.proofs.CallLaws.{after-accepted, stored-none}
 use Rattle.octets.specs.Told.{written_in}
 use Rattle.octets.proofs.AnsweredLaws.{said-none}
@@ -9,7 +9,6 @@ use Rattle.route_table.specs.declared.table.Table.{Table}
 use Rattle.route_forwards.specs.Forwards.{forward_of}
 use Rattle.route_pages.specs.Pages.{page_frame, page_refusal, page_of}
 use Rattle.route_bytes.specs.TableBytes.{table_in, is_table}
-use Rattle.route_bytes.specs.TableTrips.{Sized}
 use Rattle.route_bytes.proofs.SizeLaws.{sized-read}
 use Rattle.book_joins.specs.Joins.{Answered, join_in, join_of, ask_in, ask_of}
 use Rattle.book_history.specs.Calls.{join, ask}

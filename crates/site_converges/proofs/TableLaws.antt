@@ -137,7 +137,7 @@ module _ (s : Site) (c : Course) (z : Sited s) (r : ℕ) (before : ℕ → Table
           }
 
       apart : tb.own ≡ t.own → ⊥
-      apart e = false≢true (sym (z.apart u) ∙ subst (λ (n : ℕ). s.linked u n ≡ true) (sym (same o unit).own_val ∙ (e ∙ k.own)) f.near)
+      apart e = false≢true (sym (z.apart u) ∙ subst (λ (n : ℕ). s.linked u n ≡ true) (sym (same o unit).own ∙ (e ∙ k.own)) f.near)
 
       -- it is merged
       taken : merge_refusal t heard h.quality h.time ≡ 0
@@ -155,8 +155,8 @@ module _ (s : Site) (c : Course) (z : Sited s) (r : ℕ) (before : ℕ → Table
       teaches =
           offers.learnt t h.quality h.time
           ∙ (λ i.
-          learn_all ((same o unit).own_val i) h.time
-          (candidates (k.own i) ((same o unit).own_val i) h.quality (map (entry_for h.written) (on_page (standing h.written ((same o unit).holds i)) h.page)))
+          learn_all ((same o unit).own i) h.time
+          (candidates (k.own i) ((same o unit).own i) h.quality (map (entry_for h.written) (on_page (standing h.written ((same o unit).holds i)) h.page)))
           (learned (standing h.time (k.holds i)) 0))
 
       pub unskipped : (merge_of t heard h.quality h.time).skipped ≡ 0

@@ -59,7 +59,7 @@ timely-same last ticked s (c ∷ cs) [] m f = refl
 timely-same last ticked s (c ∷ cs) (now ∷ nows) m f =
     let here : ℕ → Type 0 → Type 0 = λ n later. (time_of c ≡ now % 2 ^ 32) × ((n ≡ 0 → (last ≤ now) × (now ≤ ticked + 2 ^ 30)) × later) in
     turn (λ n b. here n (TicksTimelyInC (cond (eqb n 0) now last) (cond (is_tick c && eqb n 0) now ticked) b cs nows)) s f c
-    ∙ ap (here (answer s c).refused) (timely-same _ _ (answer s c).state cs nows m.1 (next-sized s c m.0 f))
+    ∙ ap (here (answer s c).refused) (timely-same (cond (eqb (answer s c).refused 0) now last) (cond (is_tick c && eqb (answer s c).refused 0) now ticked) (answer s c).state cs nows m.1 (next-sized s c m.0 f))
 
 -- ---- from a fresh state on
 pub only_for_superframes_in_c : OnlyForSuperframesInC

@@ -9,12 +9,10 @@ use Rattle.c_book.proofs.plan_calls.braidlark_plan_numbers.Goals.{After-refuse_i
 number : (d : After-refuse_if-refused-3)
     → d.refuse_if-refused-3.result ≡ numbers_status d.args.plan.now d.args.numbers.now
 number d =
-    let ruled = d in
-    let few = ruled in
-    let held = few in
-    let a = held.args in
-    numbers-status a.plan.now a.numbers.now held.plan_of-held.result ruled.within_rule.result few.refuse_if-refused.result ruled.refuse_if-refused-2.result d.refuse_if-refused-3.result
-    held.plan_of-held.ensures ruled.within_rule.ensures few.refuse_if-refused.ensures ruled.refuse_if-refused-2.ensures d.refuse_if-refused-3.ensures
+    let a = d.args in
+    numbers-status a.plan.now a.numbers.now d.plan_of-held.result d.within_rule.result d.refuse_if-refused.result d.refuse_if-refused-2.result
+    d.refuse_if-refused-3.result d.plan_of-held.ensures d.within_rule.ensures d.refuse_if-refused.ensures d.refuse_if-refused-2.ensures
+    d.refuse_if-refused-3.ensures
 
 pub returns-then-refused-ne0 : goal.returns-then-refused-ne0
 returns-then-refused-ne0 c = not-told _ _ _ (number ((goal.at.returns-then-refused-ne0 c).After-refuse_if-refused-3)) c.if-refused-ne0.true
@@ -28,5 +26,4 @@ put_numbers-requires c =
 pub returns : goal.returns
 returns c =
     let d = (goal.at.returns c).After-refuse_if-refused-3 in
-    let held = d in
-    all_told _ _ _ (number d) c.if-refused-ne0.false held.plan_of-held.result _ held.plan_of-held.ensures c.put_numbers.ensures
+    all_told _ _ _ (number d) c.if-refused-ne0.false d.plan_of-held.result _ d.plan_of-held.ensures c.put_numbers.ensures

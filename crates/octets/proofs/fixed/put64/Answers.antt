@@ -11,6 +11,4 @@ returns-then-n-at c = sym (sets-past (digits 8 _) _ _ c.if-n-at.true)
 
 pub returns : goal.returns
 returns c =
-    let second = c in
-    let first = second in
-    second.put_whole32-2.ensures.0 ∙ rw (first.put_whole32.ensures.0, digits_halves 4 4, sets_append, length_digits)
+    c.put_whole32-2.ensures.0 ∙ rw (c.put_whole32.ensures.0, digits_halves 4 4, sets_append, length_digits)

@@ -5,8 +5,12 @@ use book_drawing::viewing::view;
 use std::io::Write;
 use std::{env, fs, io};
 
+// One that cannot be read is told, and the next ones are drawn all the same.
 fn draw(rt: &HostRuntime, path: &str) -> io::Result<()> {
-    let image = fs::read(rt, path)?;
+    let image = match fs::read(rt, path) {
+        Ok(image) => image,
+        Err(error) => return eprintln!(rt; "{path}: {error}"),
+    };
     let mut text = [0u8; 4096];
     let size = view(&image, &mut text);
     let mut out = rt.stdout();

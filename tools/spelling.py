@@ -25,7 +25,7 @@ FIXED = {
     "dataAt": "data_slot_at",
     "discoveryAt": "discovery_slot_at",
     "sleepAt": "sleep_slot_at",
-    "nextHop": "next_hop_of",
+    "nextHop": "next_hop",
     "superframeMs": "superframe_ms_of",
     "tooShort": "is_too_short",
     "passedOver": "passed_over_of",

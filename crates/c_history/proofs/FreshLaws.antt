@@ -22,21 +22,21 @@ use Rattle.c_history.proofs.StoredLaws.{status-same, sized-after, fresh-accepted
 
 -- what the bytes of a table answer is what it answers as a value
 module _ (t : Table) (z : Sized t) (k : Clock) (times : Times) (answers : AnswersHeard t k times) where
-  by-lookup : (d time next_hop_of hops left : ℕ)
-      → let call = lookup_call (table_bytes t) d time next_hop_of hops left in call.status ≡ 0 → Heard (times call.next_hop_of) (now_at k time) call.left
+  by-lookup : (d time next_hop hops left : ℕ)
+      → let call = lookup_call (table_bytes t) d time next_hop hops left in call.status ≡ 0 → Heard (times call.next_hop) (now_at k time) call.left
   unfolding lookup_call
-  by-lookup d time next_hop_of hops left q =
-      let n = sym (status-same t z (lookup d time) (λ i. get_or (next_hop_of ∷ hops ∷ left ∷ []) i 0)) ∙ q in
+  by-lookup d time next_hop hops left q =
+      let n = sym (status-same t z (lookup d time) (λ i. get_or (next_hop ∷ hops ∷ left ∷ []) i 0)) ∙ q in
       rw (reads_back t z, writes-tables t z, n) ((answers time).0 d n)
 
-  by-relay : (frame : List ℕ) (time least : ℕ) (out : List ℕ) (next_hop_of place extent left : ℕ)
-      → let call = relay_call (table_bytes t) frame time least out next_hop_of place extent left in
-      call.status ≡ 0 → (call.next_hop_of ≡ 0 → ⊥) → Heard (times call.next_hop_of) (now_at k time) call.left
+  by-relay : (frame : List ℕ) (time least : ℕ) (out : List ℕ) (next_hop place extent left : ℕ)
+      → let call = relay_call (table_bytes t) frame time least out next_hop place extent left in
+      call.status ≡ 0 → (call.next_hop ≡ 0 → ⊥) → Heard (times call.next_hop) (now_at k time) call.left
   unfolding relay_call
-  by-relay frame time least out next_hop_of place extent left q some =
-      let n = sym (status-same t z (relay frame time least out) (λ i. get_or (next_hop_of ∷ place ∷ extent ∷ left ∷ []) i 0)) ∙ q in
-      let call = relay_call (table_bytes t) frame time least out next_hop_of place extent left in
-      let hop : call.next_hop_of ≡ (relay_of t frame time least out).answer.next_hop = rw (reads_back t z, writes-tables t z, n) in
+  by-relay frame time least out next_hop place extent left q some =
+      let n = sym (status-same t z (relay frame time least out) (λ i. get_or (next_hop ∷ place ∷ extent ∷ left ∷ []) i 0)) ∙ q in
+      let call = relay_call (table_bytes t) frame time least out next_hop place extent left in
+      let hop : call.next_hop ≡ (relay_of t frame time least out).answer.next_hop = rw (reads_back t z, writes-tables t z, n) in
       let lasts : call.left ≡ (relay_of t frame time least out).answer.left = rw (reads_back t z, writes-tables t z, n) in
       rw (hop, lasts) (go (relay_of t frame time least out).answer.ours refl n (λ y. some (hop ∙ y)))
     where

@@ -61,10 +61,10 @@ returned s (forward network manager frame delay time out) filled =
     record { status = call.status; memory = holds call.table call.out (call.written ∷ []) }
 returned s (lookup d time) filled =
     let call = lookup_call s d time (filled 0) (filled 1) (filled 2) in
-    record { status = call.status; memory = holds s [] (call.next_hop_of ∷ call.hops ∷ call.left ∷ []) }
+    record { status = call.status; memory = holds s [] (call.next_hop ∷ call.hops ∷ call.left ∷ []) }
 returned s (relay frame time least out) filled =
     let call = relay_call s frame time least out (filled 0) (filled 1) (filled 2) (filled 3) in
-    record { status = call.status; memory = holds s call.out (call.next_hop_of ∷ call.place ∷ call.extent ∷ call.left ∷ []) }
+    record { status = call.status; memory = holds s call.out (call.next_hop ∷ call.place ∷ call.extent ∷ call.left ∷ []) }
 returned s (page p time out) filled =
     let call = page_call s p time out (filled 0) in
     record { status = call.status; memory = holds s call.out (call.written ∷ []) }

@@ -58,21 +58,21 @@ OnlyForPagesInC =
 -- been accepted, the last of them at most 300,000 ms before, less those that the call says are left, in elapsed ms
 abbrev pub AnswersHeardInC : List ℕ → Clock → Times → Type 0
 AnswersHeardInC s k times =
-    ((d time next_hop_of hops left : ℕ)
-    → let call = lookup_call s d time next_hop_of hops left in call.status ≡ 0 → Heard (times call.next_hop_of) (now_at k time) call.left)
-    × ((frame : List ℕ) (time least : ℕ) (out : List ℕ) (next_hop_of place extent left : ℕ)
-    → let call = relay_call s frame time least out next_hop_of place extent left in
-    call.status ≡ 0 → (call.next_hop_of ≡ 0 → ⊥) → Heard (times call.next_hop_of) (now_at k time) call.left)
+    ((d time next_hop hops left : ℕ)
+    → let call = lookup_call s d time next_hop hops left in call.status ≡ 0 → Heard (times call.next_hop) (now_at k time) call.left)
+    × ((frame : List ℕ) (time least : ℕ) (out : List ℕ) (next_hop place extent left : ℕ)
+    → let call = relay_call s frame time least out next_hop place extent left in
+    call.status ≡ 0 → (call.next_hop ≡ 0 → ⊥) → Heard (times call.next_hop) (now_at k time) call.left)
 
 -- what `braidlark_lookup` says is left of a route can be relied on while no call changes the buffer: asked again within so many ms it answers the same next
 -- hop and hops, and that so many are left as then remain; one ms later it is 11
 pub record LastsAsTold (s : List ℕ) (d time : ℕ) : Type 0 where
-  pub lasts : (again next_hop_of hops left nextHop' hops' left' : ℕ)
-      → let first = lookup_call s d time next_hop_of hops left in
+  pub lasts : (again next_hop hops left nextHop' hops' left' : ℕ)
+      → let first = lookup_call s d time next_hop hops left in
       first.status ≡ 0 → age_at again time ≤ first.left
-      → lookup_call s d again nextHop' hops' left' ≡ lookup_left 0 first.next_hop_of first.hops (first.left - age_at again time)
-  pub ends : (again next_hop_of hops left nextHop' hops' left' : ℕ)
-      → let first = lookup_call s d time next_hop_of hops left in
+      → lookup_call s d again nextHop' hops' left' ≡ lookup_left 0 first.next_hop first.hops (first.left - age_at again time)
+  pub ends : (again next_hop hops left nextHop' hops' left' : ℕ)
+      → let first = lookup_call s d time next_hop hops left in
       first.status ≡ 0 → age_at again time ≡ suc first.left → lookup_call s d again nextHop' hops' left' ≡ lookup_left 11 nextHop' hops' left'
 
 abbrev pub LastsInC : Type 0

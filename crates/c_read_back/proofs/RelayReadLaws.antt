@@ -31,19 +31,19 @@ hop_some t s time least room z o h =
     let rule = led_every t d time k.found (row_rule t.own t.time) (within t k.right).rules in
     address-some row.next_hop (ruled t.own t.time row rule).hop (rw (lookup-told t d time k.found) at h)
 
-module _ (s frame : List ℕ) (time least : ℕ) (out : List ℕ) (next_hop_of place extent left : ℕ) (z : (relay_call s frame time least out next_hop_of place extent left).status ≡ 0) where
+module _ (s frame : List ℕ) (time least : ℕ) (out : List ℕ) (next_hop place extent left : ℕ) (z : (relay_call s frame time least out next_hop place extent left).status ≡ 0) where
   abbrev t : Table
   t = table_in s
 
   abbrev here : RelayLeft
-  here = relay_call s frame time least out next_hop_of place extent left
+  here = relay_call s frame time least out next_hop place extent left
 
   -- what the call leaves, by whether the bytes are a table, and what relaying gives
   abbrev leaves : Bool → Relaying → RelayLeft
   leaves known relays =
       let a = relays.answer in
       let status = cond known a.refused 14 in
-      relay_left status (after status out relays.held) (after status next_hop_of a.next_hop) (after status place (cond a.ours (place_of data_kind) 0)) (after status extent a.size) (after status left a.left)
+      relay_left status (after status out relays.held) (after status next_hop a.next_hop) (after status place (cond a.ours (place_of data_kind) 0)) (after status extent a.size) (after status left a.left)
 
   both : (is_table s ≡ true) × ((relay_of t frame time least out).answer.refused ≡ 0)
   unfolding relay_call
@@ -63,25 +63,25 @@ module _ (s frame : List ℕ) (time least : ℕ) (out : List ℕ) (next_hop_of p
       λ i. leaves (both.0 i) (gives i)
 
 pub copies_are_read_in_c : CopiesReadInC
-copies_are_read_in_c s frame time least out next_hop_of place extent left b z h = go (for_us (table_in s) frame) refl
+copies_are_read_in_c s frame time least out next_hop place extent left b z h = go (for_us (table_in s) frame) refl
   where
     go : (ours : Bool) → for_us (table_in s) frame ≡ ours
-        → let r = relay_call s frame time least out next_hop_of place extent left in
+        → let r = relay_call s frame time least out next_hop place extent left in
         Copied frame (take r.extent (drop r.place r.out))
-    go true o = absurd (h (ap (λ (r : RelayLeft). r.next_hop_of) (handed_over s frame time least out next_hop_of place extent left z o)))
+    go true o = absurd (h (ap (λ (r : RelayLeft). r.next_hop) (handed_over s frame time least out next_hop place extent left z o)))
     go false o =
-        subst (λ (r : RelayLeft). Copied frame (take r.extent (drop r.place r.out))) (sym (passed_on_lem s frame time least out next_hop_of place extent left z o))
-        (sent (table_in s) frame time least out b (unrefused s frame time least out next_hop_of place extent left z) o)
+        subst (λ (r : RelayLeft). Copied frame (take r.extent (drop r.place r.out))) (sym (passed_on_lem s frame time least out next_hop place extent left z o))
+        (sent (table_in s) frame time least out b (unrefused s frame time least out next_hop place extent left z) o)
 
 pub payload_is_told : PayloadTold
-payload_is_told s frame time least out next_hop_of place extent left z h = go (for_us (table_in s) frame) refl
+payload_is_told s frame time least out next_hop place extent left z h = go (for_us (table_in s) frame) refl
   where
     go : (ours : Bool) → for_us (table_in s) frame ≡ ours
-        → let r = relay_call s frame time least out next_hop_of place extent left in
+        → let r = relay_call s frame time least out next_hop place extent left in
         Delivered (table_in s).own frame r.place r.extent × (r.out ≡ out) × (r.left ≡ 0)
     go true o =
-        let told = handed_over s frame time least out next_hop_of place extent left z o in
-        let unread = relayed-read (table_in s) frame time least (length out) (unrefused s frame time least out next_hop_of place extent left z) in
+        let told = handed_over s frame time least out next_hop place extent left z o in
+        let unread = relayed-read (table_in s) frame time least (length out) (unrefused s frame time least out next_hop place extent left z) in
         rw told (
           record {
             frame = data_in frame;
@@ -95,5 +95,5 @@ payload_is_told s frame time least out next_hop_of place extent left z h = go (f
           refl,
         )
     go false o =
-        let told = passed_on_lem s frame time least out next_hop_of place extent left z o in
-        absurd (hop_some (table_in s) frame time least (length out) (unrefused s frame time least out next_hop_of place extent left z) o (sym (ap (λ (r : RelayLeft). r.next_hop_of) told) ∙ h))
+        let told = passed_on_lem s frame time least out next_hop place extent left z o in
+        absurd (hop_some (table_in s) frame time least (length out) (unrefused s frame time least out next_hop place extent left z) o (sym (ap (λ (r : RelayLeft). r.next_hop) told) ∙ h))

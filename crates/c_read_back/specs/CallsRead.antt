@@ -32,9 +32,9 @@ ResponsesReadInC =
 -- a relay that answers a next hop: the copy stands in the buffer, at the place and with the length that it tells
 abbrev pub CopiesReadInC : Type 0
 CopiesReadInC =
-    (s frame : List ℕ) (time least : ℕ) (out : List ℕ) (next_hop_of place extent left : ℕ) → Bytes frame
-    → let r = relay_call s frame time least out next_hop_of place extent left in
-    r.status ≡ 0 → (r.next_hop_of ≡ 0 → ⊥) → Copied frame (take r.extent (drop r.place r.out))
+    (s frame : List ℕ) (time least : ℕ) (out : List ℕ) (next_hop place extent left : ℕ) → Bytes frame
+    → let r = relay_call s frame time least out next_hop place extent left in
+    r.status ≡ 0 → (r.next_hop ≡ 0 → ⊥) → Copied frame (take r.extent (drop r.place r.out))
 
 -- a data frame for this unit, and where its payload stands in it: behind the fields, as many bytes as the frame says
 pub record Delivered (own : ℕ) (s : List ℕ) (place extent : ℕ) : Type 0 where
@@ -49,9 +49,9 @@ pub record Delivered (own : ℕ) (s : List ℕ) (place extent : ℕ) : Type 0 wh
 -- left, whatever time was named
 abbrev pub PayloadTold : Type 0
 PayloadTold =
-    (s frame : List ℕ) (time least : ℕ) (out : List ℕ) (next_hop_of place extent left : ℕ)
-    → let r = relay_call s frame time least out next_hop_of place extent left in
-    r.status ≡ 0 → r.next_hop_of ≡ 0 → Delivered (table_in s).own frame r.place r.extent × (r.out ≡ out) × (r.left ≡ 0)
+    (s frame : List ℕ) (time least : ℕ) (out : List ℕ) (next_hop place extent left : ℕ)
+    → let r = relay_call s frame time least out next_hop place extent left in
+    r.status ≡ 0 → r.next_hop ≡ 0 → Delivered (table_in s).own frame r.place r.extent × (r.out ≡ out) × (r.left ≡ 0)
 
 -- a forward
 abbrev pub ForwardsReadInC : Type 0

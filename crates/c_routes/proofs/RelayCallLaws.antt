@@ -13,7 +13,7 @@ use Rattle.route_bytes.specs.TableBytes.{table_in, is_table}
 use Rattle.c_routes.specs.RelayCalls.{RelayLeft, relay_left, relay_call}
 
 -- ---- relaying, by bytes that are a table or by others
-module _ (s frame : List ℕ) (time least : ℕ) (out : List ℕ) (next_hop_of place extent left : ℕ) (r : Relayed) (held : List ℕ) (e : relayed r held ≡ relay_in s frame time least out) where
+module _ (s frame : List ℕ) (time least : ℕ) (out : List ℕ) (next_hop place extent left : ℕ) (r : Relayed) (held : List ℕ) (e : relayed r held ≡ relay_in s frame time least out) where
   abbrev inside : Relaying
   inside = relay_of (table_in s) frame time least out
 
@@ -21,7 +21,7 @@ module _ (s frame : List ℕ) (time least : ℕ) (out : List ℕ) (next_hop_of p
   leaves known =
       let a = inside.answer in
       let status = cond known a.refused 14 in
-      relay_left status (after status out inside.held) (after status next_hop_of a.next_hop) (after status place (cond a.ours (place_of data_kind) 0)) (after status extent a.size) (after status left a.left)
+      relay_left status (after status out inside.held) (after status next_hop a.next_hop) (after status place (cond a.ours (place_of data_kind) 0)) (after status extent a.size) (after status left a.left)
 
   pub relay-size : r.refused ≡ 0 → r.size ≤ 255
   unfolding relay_in
@@ -31,7 +31,7 @@ module _ (s frame : List ℕ) (time least : ℕ) (out : List ℕ) (next_hop_of p
       go true q = rw (ap (λ (x : Relaying). x.answer) q) (relay_short (table_in s) frame time least out (ap (λ (x : Relaying). x.answer.refused) (sym q) ∙ z))
       go false q = absurd (omega (arith, z, ap (λ (x : Relaying). x.answer.refused) q))
 
-  pub relay-accepted : r.refused ≡ 0 → relay_left 0 held r.next_hop (cond r.ours (place_of data_kind) 0) r.size r.left ≡ relay_call s frame time least out next_hop_of place extent left
+  pub relay-accepted : r.refused ≡ 0 → relay_left 0 held r.next_hop (cond r.ours (place_of data_kind) 0) r.size r.left ≡ relay_call s frame time least out next_hop place extent left
   unfolding relay_call relay_in
   relay-accepted z = go (is_table s) e
     where
@@ -39,15 +39,15 @@ module _ (s frame : List ℕ) (time least : ℕ) (out : List ℕ) (next_hop_of p
       go true q = rw (← q, z)
       go false q = absurd (omega (arith, z, ap (λ (x : Relaying). x.answer.refused) q))
 
-  pub relay-refused : (r.refused ≡ 0 → ⊥) → relay_left r.refused held next_hop_of place extent left ≡ relay_call s frame time least out next_hop_of place extent left
+  pub relay-refused : (r.refused ≡ 0 → ⊥) → relay_left r.refused held next_hop place extent left ≡ relay_call s frame time least out next_hop place extent left
   unfolding relay_call relay_in
   relay-refused z = go (is_table s) e
     where
-      go : (b : Bool) → relayed r held ≡ cond b inside (relayed (unwritten 14 0) out) → relay_left r.refused held next_hop_of place extent left ≡ leaves b
+      go : (b : Bool) → relayed r held ≡ cond b inside (relayed (unwritten 14 0) out) → relay_left r.refused held next_hop place extent left ≡ leaves b
       go true q =
           let kept = ap (λ (x : Relaying). x.held) q ∙ relay-kept (table_in s) frame time least out (λ n. z (ap (λ (x : Relaying). x.answer.refused) q ∙ n)) in
           rw (← q, ne_eqb r.refused 0 z, kept)
-      go false q = ap (λ (x : Relaying). relay_left x.answer.refused x.held next_hop_of place extent left) q
+      go false q = ap (λ (x : Relaying). relay_left x.answer.refused x.held next_hop place extent left) q
 
 -- ---- forwarding: the call on the bytes says no number where it is refused
 module _ (s : List ℕ) (network manager : ℕ) (frame : List ℕ) (delay time : ℕ) (out : List ℕ) (written : ℕ) (a : ForwardedIn) (last held : List ℕ)

@@ -14,16 +14,16 @@ use Rattle.route_in_place.specs.Lookups.{lookup_in}
 use Rattle.c_routes.specs.TableCalls.{fresh_call, LookupLeft, lookup_left, lookup_call}
 
 -- ---- looking up, in bytes that are a table or in others
-module _ (destination time next_hop_of hops left : ℕ) (s : List ℕ) (found : Found) (e : found ≡ lookup_in s destination time) where
+module _ (destination time next_hop hops left : ℕ) (s : List ℕ) (found : Found) (e : found ≡ lookup_in s destination time) where
   abbrev inside : Found
   inside = lookup_of (table_in s) destination time
 
   abbrev leaves : Bool → LookupLeft
   leaves known =
       let status = cond known inside.refused 14 in
-      lookup_left status (after status next_hop_of inside.next_hop) (after status hops inside.hops) (after status left inside.left)
+      lookup_left status (after status next_hop inside.next_hop) (after status hops inside.hops) (after status left inside.left)
 
-  pub hop_found : found.refused ≡ 0 → lookup_left 0 found.next_hop found.hops found.left ≡ lookup_call s destination time next_hop_of hops left
+  pub hop_found : found.refused ≡ 0 → lookup_left 0 found.next_hop found.hops found.left ≡ lookup_call s destination time next_hop hops left
   unfolding lookup_call lookup_in
   hop_found z = go (is_table s) e
     where
@@ -31,13 +31,13 @@ module _ (destination time next_hop_of hops left : ℕ) (s : List ℕ) (found : 
       go true q = rw (← q, z)
       go false q = absurd (omega (arith, z, ap (λ (f : Found). f.refused) q))
 
-  pub none_found : (found.refused ≡ 0 → ⊥) → lookup_left found.refused next_hop_of hops left ≡ lookup_call s destination time next_hop_of hops left
+  pub none_found : (found.refused ≡ 0 → ⊥) → lookup_left found.refused next_hop hops left ≡ lookup_call s destination time next_hop hops left
   unfolding lookup_call lookup_in
   none_found z = go (is_table s) e
     where
-      go : (b : Bool) → found ≡ cond b inside (found_or 14 none 0) → lookup_left found.refused next_hop_of hops left ≡ leaves b
+      go : (b : Bool) → found ≡ cond b inside (found_or 14 none 0) → lookup_left found.refused next_hop hops left ≡ leaves b
       go true q = rw (← q, ne_eqb found.refused 0 z)
-      go false q = ap (λ (f : Found). lookup_left f.refused next_hop_of hops left) q
+      go false q = ap (λ (f : Found). lookup_left f.refused next_hop hops left) q
 
 -- ---- a fresh table
 module _ (s : List ℕ) (own time : ℕ) (fresh : Changed) (e : fresh ≡ fresh_of own time) (n : ℕ) (f : n ≡ cond (not (eqb (length s) 539)) 14 fresh.refused) where

@@ -12,20 +12,20 @@ use Rattle.route_relays.specs.Relays.{relay_of}
 pub record RelayLeft : Type 0 where
   pub status : ℕ
   pub out : List ℕ
-  pub next_hop_of : ℕ
+  pub next_hop : ℕ
   pub place : ℕ
   pub extent : ℕ
   pub left : ℕ
 
 abbrev pub relay_left : ℕ → List ℕ → ℕ → ℕ → ℕ → ℕ → RelayLeft
-relay_left status out next_hop_of place extent left =
-    record { status = status; out = out; next_hop_of = next_hop_of; place = place; extent = extent; left = left }
+relay_left status out next_hop place extent left =
+    record { status = status; out = out; next_hop = next_hop; place = place; extent = extent; left = left }
 
 -- for this unit: no next hop, the payload's place in the frame and its length; else the next hop, the bytes written from the buffer's start, and what is left
 unfoldable pub relay_call : List ℕ → List ℕ → ℕ → ℕ → List ℕ → ℕ → ℕ → ℕ → ℕ → RelayLeft
-relay_call s frame time least out next_hop_of place extent left =
+relay_call s frame time least out next_hop place extent left =
     let relayed = relay_of (table_in s) frame time least out in
     let answer = relayed.answer in
     let status = stored_table s answer.refused in
-    relay_left status (after status out relayed.held) (after status next_hop_of answer.next_hop)
+    relay_left status (after status out relayed.held) (after status next_hop answer.next_hop)
     (after status place (cond answer.ours (place_of data_kind) 0)) (after status extent answer.size) (after status left answer.left)

@@ -18,15 +18,15 @@ forget_call s unit time = changed_by s (λ t. forget_of t unit time)
 -- ---- looking up: the status, the next hop, the hops, and the ms for which the row is usable
 pub record LookupLeft : Type 0 where
   pub status : ℕ
-  pub next_hop_of : ℕ
+  pub next_hop : ℕ
   pub hops : ℕ
   pub left : ℕ
 
 abbrev pub lookup_left : ℕ → ℕ → ℕ → ℕ → LookupLeft
-lookup_left status next_hop_of hops left = record { status = status; next_hop_of = next_hop_of; hops = hops; left = left }
+lookup_left status next_hop hops left = record { status = status; next_hop = next_hop; hops = hops; left = left }
 
 unfoldable pub lookup_call : List ℕ → ℕ → ℕ → ℕ → ℕ → ℕ → LookupLeft
-lookup_call s destination time next_hop_of hops left =
+lookup_call s destination time next_hop hops left =
     let found = lookup_of (table_in s) destination time in
     let status = stored_table s found.refused in
-    lookup_left status (after status next_hop_of found.next_hop) (after status hops found.hops) (after status left found.left)
+    lookup_left status (after status next_hop found.next_hop) (after status hops found.hops) (after status left found.left)

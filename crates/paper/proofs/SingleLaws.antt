@@ -96,9 +96,9 @@ views_tell_apart =
       entries = undone any _ (λ l. (l.status, l.entry, l.next)) (λ a p. refl);
       writes = undone any _ (λ l. (l.status, l.out, l.written)) (λ a p. refl);
       tables = undone any _ (λ l. (l.status, l.table)) (λ a p. refl);
-      lookups = undone any _ (λ l. (l.status, l.next_hop_of, l.hops, l.left)) (λ a p. refl);
+      lookups = undone any _ (λ l. (l.status, l.next_hop, l.hops, l.left)) (λ a p. refl);
       merges = undone any _ (λ l. (l.status, l.table, l.skipped, l.compared)) (λ a p. refl);
-      relays = undone any _ (λ l. (l.status, l.out, l.next_hop_of, l.place, l.extent, l.left)) (λ a p. refl);
+      relays = undone any _ (λ l. (l.status, l.out, l.next_hop, l.place, l.extent, l.left)) (λ a p. refl);
       merges_in = undone any _ (λ l. (record { refused = l.status; skipped = l.skipped; compared = l.compared }, l.table)) (λ a p. refl);
       forwards_in = undone any _ (λ l. (record { refused = l.status; written = l.written }, l.table, l.out)) (λ a p. refl);
       forwards = undone any _ (λ l. (l.status, l.table, l.out, l.written)) (λ a p. refl);

@@ -70,7 +70,7 @@ keeps_rule = (fresh-within, every_call)
 -- ---- gone rows
 -- the answer to a call that is not about a next hop
 abbrev plain : ℕ → ℕ → ℕ → ℕ → List ℕ → Answer
-plain refused skipped compared size held = record { refused = refused; ours = false; next_hop_of = 0; hops = 0; left = 0; skipped = skipped; compared = compared; size = size; held = held }
+plain refused skipped compared size held = record { refused = refused; ours = false; next_hop = 0; hops = 0; left = 0; skipped = skipped; compared = compared; size = size; held = held }
 
 pub gone_rows_do_not_matter : GoneRowsDoNotMatter
 gone_rows_do_not_matter t (merge s quality time) e =

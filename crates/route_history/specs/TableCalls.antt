@@ -54,7 +54,7 @@ time_of c = (about c).time
 pub record Answer : Type 0 where
   pub refused : ℕ
   pub ours : Bool
-  pub next_hop_of : ℕ
+  pub next_hop : ℕ
   pub hops : ℕ
   pub left : ℕ
   pub skipped : ℕ
@@ -70,24 +70,24 @@ pub record Outcome : Type 0 where
 -- of a call that gives a number, and may fill a buffer
 abbrev gives : ℕ → ℕ → List ℕ → Table → Outcome
 gives refused size held table =
-    record { answer = record { refused = refused; ours = false; next_hop_of = 0; hops = 0; left = 0; skipped = 0; compared = 0; size = size; held = held }; table = table }
+    record { answer = record { refused = refused; ours = false; next_hop = 0; hops = 0; left = 0; skipped = 0; compared = 0; size = size; held = held }; table = table }
 
 -- merge, forget and forward hand a table back, also where they are refused; the others only read
 abbrev pub outcome : Table → Call → Outcome
 outcome t (merge s quality time) =
     let m = merge_of t s quality time in
-    record { answer = record { refused = m.refused; ours = false; next_hop_of = 0; hops = 0; left = 0; skipped = m.skipped; compared = m.compared; size = 0; held = [] }; table = m.table }
+    record { answer = record { refused = m.refused; ours = false; next_hop = 0; hops = 0; left = 0; skipped = m.skipped; compared = m.compared; size = 0; held = [] }; table = m.table }
 outcome t (forget unit time) = let f = forget_of t unit time in gives f.refused 0 [] f.table
 outcome t (forward network manager s delay time out) =
     let f = forward_of t network manager s delay time out in
     gives f.answer.refused f.answer.written f.held f.answer.table
 outcome t (lookup d time) =
     let f = lookup_of t d time in
-    record { answer = record { refused = f.refused; ours = false; next_hop_of = f.next_hop; hops = f.hops; left = f.left; skipped = 0; compared = 0; size = 0; held = [] }; table = t }
+    record { answer = record { refused = f.refused; ours = false; next_hop = f.next_hop; hops = f.hops; left = f.left; skipped = 0; compared = 0; size = 0; held = [] }; table = t }
 outcome t (relay s time least out) =
     let r = relay_of t s time least out in
     let a = r.answer in
-    record { answer = record { refused = a.refused; ours = a.ours; next_hop_of = a.next_hop; hops = 0; left = a.left; skipped = 0; compared = 0; size = a.size; held = r.held }; table = t }
+    record { answer = record { refused = a.refused; ours = a.ours; next_hop = a.next_hop; hops = 0; left = a.left; skipped = 0; compared = 0; size = a.size; held = r.held }; table = t }
 outcome t (page p time out) = let w = page_of t p time out in gives w.said.refusal (written_in w) w.held t
 
 abbrev pub answer : Table → Call → Answer

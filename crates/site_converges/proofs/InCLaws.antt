@@ -126,5 +126,5 @@ all_known_in_c s c r p a anything l u d time hop hops left m k e q =
 
 pub all_arrive_in_c : AllArriveInC
 all_arrive_in_c s c r p a anything l at asked hop hops left u d m k =
-    all_arrive_by s p.site d (λ v. (lookup_call (buffer_after anything c r v) d (at v) hop hops left).next_hop_of) (λ v. (lookup_call (buffer_after anything c r v) d (at v) hop hops left).hops)
+    all_arrive_by s p.site d (λ v. (lookup_call (buffer_after anything c r v) d (at v) hop hops left).next_hop) (λ v. (lookup_call (buffer_after anything c r v) d (at v) hop hops left).hops)
     (λ v i e. (all_known_in_c s c r p a anything l v d (at v) hop hops left i k e (asked v i)).1) u m

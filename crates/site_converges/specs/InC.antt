@@ -50,18 +50,18 @@ abbrev pub ConvergesInC : Type 0
 ConvergesInC =
     (s : Site) (c : Course) (r : ℕ) → Played s c r → (anything : ℕ → List ℕ) → Buffers anything
     → (u d time hop hops left : ℕ) → among u s.units ≡ true → address d ≡ true → Asked c r u time
-    → let call = lookup_call (buffer_after anything c r u) d time hop hops left in Told s r u d call.status call.next_hop_of call.hops
+    → let call = lookup_call (buffer_after anything c r u) d time hop hops left in Told s r u d call.status call.next_hop call.hops
 
 -- from as many rounds on as the diameter it leads to every other unit, ..
 abbrev pub AllKnownInC : Type 0
 AllKnownInC =
     (s : Site) (c : Course) (r : ℕ) → Played s c r → Ready s r → (anything : ℕ → List ℕ) → Buffers anything
     → (u d time hop hops left : ℕ) → among u s.units ≡ true → among d s.units ≡ true → (d ≡ u → ⊥) → Asked c r u time
-    → let call = lookup_call (buffer_after anything c r u) d time hop hops left in (call.status ≡ 0) × Leads s u d call.next_hop_of call.hops
+    → let call = lookup_call (buffer_after anything c r u) d time hop hops left in (call.status ≡ 0) × Leads s u d call.next_hop call.hops
 
 -- .. and following its next hops from buffer to buffer arrives
 abbrev pub AllArriveInC : Type 0
 AllArriveInC =
     (s : Site) (c : Course) (r : ℕ) → Played s c r → Ready s r → (anything : ℕ → List ℕ) → Buffers anything
     → (at : ℕ → ℕ) → ((v : ℕ) → among v s.units ≡ true → Asked c r v (at v)) → (hop hops left : ℕ)
-    → (u d : ℕ) → among u s.units ≡ true → among d s.units ≡ true → Arrives s (λ v. (lookup_call (buffer_after anything c r v) d (at v) hop hops left).next_hop_of) u d
+    → (u d : ℕ) → among u s.units ≡ true → among d s.units ≡ true → Arrives s (λ v. (lookup_call (buffer_after anything c r v) d (at v) hop hops left).next_hop) u d

@@ -1,19 +1,32 @@
 # Judges contracts: awk -f clauses.awk -f judge.awk LIST SOURCE..
 #
-# LIST has the views, as fields `pub NAME : TellsApart POSSIBLE VIEW` of a record. The sources have public functions and their
-# contracts, `ensures { (view of the answer ≡ what is given) × .. }`, one such clause or several that have names. The parts of an
-# answer are the result and what is left in each buffer that is lent with `&mut`. An equation fixes the parts on its left side,
-# if that is a view on the list and its right side names no part. Every part has to be fixed; what else a contract says only
-# narrows it.
+# LIST has the views, as fields `pub NAME : TellsApart POSSIBLE VIEW` of a record, some for each value that may stand before the
+# call. The sources have public functions, and methods of a trait to which an impl gives contracts of their own. A contract is
+# `ensures { (view of the answer ≡ what is given) × .. }`, one such clause or several that have names. The parts of an answer
+# are the result and what is left in each buffer that is lent with `&mut`. An equation fixes the parts on its left side, if that
+# is a view on the list and its right side names no part. Every part has to be fixed; what else a contract says only narrows it.
 #
 # Below, `@` stands for `result` and `@out` for `out.new`. A view is known by its form: its words, each name with the module that
-# it comes from, and `_` for each part. The sources are in the formatter's layout: a body begins with the first line that ends in
-# a bracket, or is `{}`.
+# it comes from, `_` for each part, and `$` for an argument that names no part, which is what the call was given. The sources are
+# in the formatter's layout: a body begins with the first line that ends in a bracket, or is `{}`.
+
+# A text with `$` for each argument that names no part.
+function with_given(text,    argument, i, n, said) {
+    n = words_of(text, argument)
+    for (i = 1; i <= n; i++) {
+        if (argument[i] " " !~ /(^| )@/ && i > 1 && argument[i] !~ /^[.]/)
+            argument[i] = "$"
+        else if (argument[i] ~ /^[(] /)
+            argument[i] = "( " with_given(substr(argument[i], 3, length(argument[i]) - 4)) " )"
+        said = said " " argument[i]
+    }
+    return substr(said, 2)
+}
 
 function form(text,    word, n, i, said) {
-    n = split(text, word, " ")
+    n = split(with_given(text), word, " ")
     for (i = 1; i <= n; i++)
-        said = said " " (word[i] ~ /^@/ ? "_" : word[i] in home ? home[word[i]] "." word[i] : word[i])
+        said = said " " (word[i] ~ /^@/ ? "_" : word[i] in home ? home[word[i]] : word[i])
     return said
 }
 
@@ -104,13 +117,15 @@ FNR == 1 {
     split("", home)
 }
 
-# `use MODULE.{NAME, ..}`
+# `use MODULE.{NAME, NAME as OTHER, ..}`
 /^(ghost )?use .*[.][{]/ {
     module = $0
     gsub(/^(ghost )?use |[.][{].*/, "", module)
     gsub(/.*[.][{]|[}].*/, "")
-    for (i = split($0, name, / *, */); i > 0; i--)
-        home[name[i]] = module
+    for (i = split($0, name, / *, */); i > 0; i--) {
+        split(name[i], called, " as ")
+        home[2 in called ? called[2] : called[1]] = module "." called[1]
+    }
 }
 
 FNR == NR && /^  pub .* TellsApart / {
@@ -120,12 +135,15 @@ FNR == NR && /^  pub .* TellsApart / {
 
 FNR < NR {
     sub(/\/\/.*/, "")
-    if (/(^|[ \t])pub ([a-z]+ |"C" )*fn /)
+    if (/^[^ \t]/)
+        of_trait = /^impl.* for /
+    if (/(^|[ \t])pub ([a-z]+ |"C" )*fn / || (of_trait && /^    fn /))
         where = FILENAME ":" FNR
     if (where)
         text = text " " $0
     if (where && /[{][ \t]*[}]?[ \t]*$/) {
-        judge(text, where)
+        if (!of_trait || text ~ / ensures /)
+            judge(text, where)
         where = text = ""
     }
 }

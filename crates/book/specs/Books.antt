@@ -1,9 +1,11 @@
 -- A book with sets for masks, when it is within rule, and what fresh book, heard and leave answer.
 -- Assumes nothing.
-use Rattle.std.specs.Prelude.{ℕ, Bool, not, ◌&&◌, List, [], ◌∷◌, eqb, ltb, length, get_or, take, drop, set, replicate}
+use Rattle.std.specs.Prelude.{ℕ, Bool, not, ◌&&◌, List, [], ◌∷◌, Result, Ok, Err, eqb, ltb, length, get_or, take, drop, set, replicate}
 use Rattle.octets.specs.Answers.{Reason, reason, first}
 use Rattle.octets.specs.Calls.{after}
 use Rattle.octets.specs.Lists.{every}
+use Rattle.octets.specs.Refusals.{number_of}
+use Rattle.octets.specs.declared.refusals.Refusal.{Refusal}
 use Rattle.moments.specs.Moments.{in_order}
 use Rattle.octets.specs.Addresses.{address}
 use Rattle.slot_sets.specs.Sets.{Slots, firsts}
@@ -12,7 +14,6 @@ use Rattle.site_plan.specs.Plans.{plan_rule}
 use Rattle.book_members.specs.Members.{Row, member_with, rows_of, empty_row, heard_at, current, place_for}
 use Rattle.book_members.specs.Rules.{rows_rule, empty_is}
 use Rattle.book.specs.declared.book.Book.{Book}
-use Rattle.book.specs.declared.book.Changed.{Changed}
 
 -- a plan, the last accepted time, and 21 places for rows, of which the plan uses the first
 pub record Contents : Type 0 where
@@ -65,9 +66,10 @@ pub record BookChange : Type 0 where
 abbrev pub change_to : ℕ → Contents → Contents → BookChange
 change_to refused b new = record { refused = refused; book = after refused b new }
 
--- what an answer of the code stands for
-abbrev pub change_of : Changed → BookChange
-change_of c = record { refused = c.refused; book = contents c.book }
+-- what an answer of the code stands for: the new book, or the one that was there with the number that refuses the call
+abbrev pub changed : Contents → Result Book Refusal → BookChange
+changed b (Ok new) = record { refused = 0; book = contents new }
+changed b (Err r) = record { refused = number_of r; book = b }
 
 -- fresh: the manager in row 0 with the lowest data slot, the time as last accepted; a plan out of rule is 14, and then all is zeros
 abbrev pub fresh_row : ℕ → ℕ → Row

@@ -1,104 +1,60 @@
 // The schedule of a member: what it does in each slot, one byte a slot.
-ghost use Rattle.std.specs.Prelude.{◌≡◌, ◌-◌, ◌≤◌, length, replicate};
-ghost use Rattle.std.proofs.lemmas.List.Edits.{sets};
+ghost use Rattle.std.specs.Prelude.{◌≡◌, ◌≤◌, length};
 ghost use Rattle.octets.specs.Lists.{tab};
 ghost use Rattle.octets.specs.Told.{wrote};
 ghost use Rattle.slot_sets.specs.Sets.{slots_of};
-ghost use Rattle.site_plan.specs.Schedules.{sleep, kind_of};
-ghost use Rattle.book.specs.Books.{contents, live_at};
-ghost use Rattle.book.specs.Schedules.{hop_rule, schedule_refusal, schedule_of};
+ghost use Rattle.site_plan.specs.Schedules.{kind_of};
+ghost use Rattle.book.specs.Books.{contents};
+ghost use Rattle.book.specs.Schedules.{hop_rule, schedule_of};
 
 use crate::book::Book;
-use book_members::rows::{current, in_use, place_for, slots_at};
-use moments::in_order;
-use octets::addresses::is_address;
-use octets::answers::{Refusal, Written, refuse_if};
-use octets::parts::smaller;
+use book_members::rows::{current, place_for, used};
+use octets::refusals::{Refusal, refuse_if};
 use site_plan::plan::Plan;
-use site_plan::schedules::kind_at;
+use site_plan::schedules::{Seat, SlotKind, kind_at};
 
 // Whether a unit may be at a hop: the manager at 0, and no other there.
+// Kept: a hop is any number of 32 bits, since a caller may name any: one out of rule is refused, and not cut.
 fn hop_within_rule(plan: Plan, unit: u16, hop: u32) -> bool
     ensures { result ≡ hop_rule plan unit hop }
 {
     if unit == plan.manager {
         return hop == 0;
     }
-    (1 <= hop) & (hop <= plan.max_hops as u32)
+    (1 <= hop) & (hop <= u32::from(plan.max_hops))
 }
 
-// The kinds of the first slots, from the buffer's start on.
-fn put_awake(out: &mut [u8], plan: Plan, row: u8, hop: u8, own: u64, count: u8)
-    requires { count ≤ length out.old }
-    ensures { out.new ≡ sets out.old 0 (tab count (kind_of plan row hop (slots_of own))) }
+// The kinds of all slots. Half of them are asleep, and need not be asked for one by one.
+fn put_kinds(out: &mut [u8], plan: Plan, seat: Seat)
+    requires { length out.old ≤ 255 }
+    ensures { out.new ≡ tab (length out.old) (kind_of plan seat.row seat.hop (slots_of seat.slots)) }
 {
-    let mut slot: u8 = 0;
-    while slot < count {
-        out[slot as usize] = kind_at(plan, row, hop, own, slot);
-        slot += 1;
+    let awake = out.len().min(plan.sleep_at() as usize);
+    for slot in 0..awake {
+        out[slot] = kind_at(plan, seat, slot as u8).number();
     }
-}
-
-// Sleep in the slots from one on, as far as to another.
-fn put_sleep(out: &mut [u8], from: usize, to: usize)
-    requires { to ≤ length out.old }
-    ensures { out.new ≡ sets out.old from (replicate (to - from) sleep) }
-{
-    let mut slot = from;
-    while slot < to {
-        out[slot] = Plan::SLEEP;
-        slot += 1;
-    }
-}
-
-// The kinds of so many slots. Half of them are asleep, and need not be asked for one by one.
-fn put_kinds(out: &mut [u8], plan: Plan, row: u8, hop: u8, own: u64, count: u8)
-    requires { count ≤ length out.old }
-    ensures { out.new ≡ sets out.old 0 (tab count (kind_of plan row hop (slots_of own))) }
-{
-    let all = count as usize;
-    let awake = smaller(plan.sleep_at() as usize, all);
-    put_awake(out, plan, row, hop, own, awake as u8);
-    put_sleep(out, awake, all);
-}
-
-// Why there is no schedule for a unit, which is a live member or not; 0 where there is one.
-fn refusal(book: Book, unit: u16, hop: u32, time: u32, live: bool, room: usize) -> u8
-    requires { live ≡ live_at (contents book) unit time }
-    ensures { result ≡ schedule_refusal (contents book) unit hop time room }
-{
-    let plan = book.plan;
-    let refused = refuse_if(room < plan.slots() as usize, Refusal::ROOM, 0);
-    let refused = refuse_if(!live, Refusal::NO_MEMBER, refused);
-    let refused = refuse_if(!hop_within_rule(plan, unit, hop), Refusal::RULE, refused);
-    let refused = refuse_if(!in_order(book.time, time), Refusal::EARLIER, refused);
-    let refused = refuse_if(!is_address(unit), Refusal::FIELD, refused);
-    refuse_if(!book.within_rule(), Refusal::RULE, refused)
+    out[awake..].fill(SlotKind::Sleep.number());
 }
 
 impl Book {
     // Writes the kinds of all slots for a live member at a hop.
-    pub fn schedule(self, unit: u16, hop: u32, time: u32, out: &mut [u8]) -> Written
+    #[tactic(auto, unfolding(crate::specs::Schedules::schedule_of))]
+    pub fn schedule(self, unit: u16, hop: u32, time: u32, out: &mut [u8]) -> Result<usize, Refusal>
         ensures { wrote result out.new ≡ schedule_of (contents self) unit hop time out.old }
     {
         let plan = self.plan;
-        let rows = self.rows;
-        let now = current(rows, time);
-        let at = place_for(now, plan.rows, unit);
-        let live = at < in_use(plan.rows);
-        let refused = refusal(self, unit, hop, time, live, out.len());
-        if refused != 0 {
-            return Written::Refused(Refusal { number: refused });
-        }
-        let count = plan.slots();
-        put_kinds(
-            out,
-            plan,
-            at as u8,
-            hop as u8,
-            slots_at(now, at),
-            count as u8,
-        );
-        Written::Done(count as usize)
+        self.refuse_visit(unit, time)?;
+        refuse_if(!hop_within_rule(plan, unit, hop), Refusal::Rule)?;
+        let rows = current(self.rows, time);
+        let at = place_for(used(&rows, plan.rows), unit).ok_or(Refusal::NoMember)?;
+        let count = plan.slots() as usize;
+        refuse_if(out.len() < count, Refusal::Room)?;
+        let seat = Seat {
+            row: at as u8,
+            hop: hop as u8,
+            slots: rows[at].slots,
+        };
+        put_kinds(&mut out[..count], plan, seat);
+        Ok(count)
     }
 }

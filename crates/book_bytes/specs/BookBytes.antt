@@ -1,12 +1,15 @@
 -- A book as 308 bytes: the plan 10, the last accepted time 4, then 21 rows: unit 2, slots 8 (bit i is data slot i), time 4.
 -- Assumes nothing.
-use Rattle.std.specs.Prelude.{ℕ, ◌+◌, ◌*◌, List, [], ◌∷◌, ◌++◌, get_or}
+use Rattle.std.specs.Prelude.{ℕ, ◌+◌, ◌*◌, List, [], ◌∷◌, ◌++◌, Result, Ok, Err, get_or}
+use Rattle.std.proofs.lemmas.List.Edits.{sets}
 use Rattle.octets.specs.Layouts.{total, fields, in_turn}
 use Rattle.octets.specs.Lists.{tab}
 use Rattle.octets.specs.Numbers.{num, digits}
+use Rattle.octets.specs.declared.refusals.Refusal.{Refusal}
 use Rattle.slot_sets.specs.Sets.{slots_of, mask_of}
 use Rattle.book_members.specs.Members.{Row, member_with}
-use Rattle.book.specs.Books.{Contents}
+use Rattle.book.specs.declared.book.Book.{Book}
+use Rattle.book.specs.Books.{Contents, contents}
 use Rattle.site_plan.specs.PlanBytes.{plan_size, plan_at, bytes_of_plan}
 
 -- ---- a row
@@ -42,3 +45,8 @@ book_in s = record { plan = plan_at s 0; time = num 4 s plan_size; places = tab 
 
 unfoldable pub bytes_of_book : Contents → List ℕ
 bytes_of_book b = bytes_of_plan b.plan ++ digits 4 b.time ++ rows_bytes b.places
+
+-- what a buffer then holds that held a book and is to hold the new one, where there is one
+abbrev pub book_over : List ℕ → Result Book Refusal → List ℕ
+book_over held (Ok b) = sets held 0 (bytes_of_book (contents b))
+book_over held (Err r) = held

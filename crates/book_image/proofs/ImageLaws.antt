@@ -1,44 +1,24 @@
 -- The bytes of an image: its rows one behind the other, how many bytes its parts have, and all of it stored.
 -- Assumes nothing.
-use Rattle.octets.proofs.Words.{◌≡◌, refl, ◌∙◌, Bool, true, false, ◌&&◌, List, ◌++◌, map, ℕ, ◌+◌, ◌-◌, ◌*◌, ◌≤◌, ◌<◌, min, arith, eqb, length, get_or, take, drop, length-append, get_or-map, sets, get_or-take}
-use Rattle.octets.specs.Layouts.{bytes}
+use Rattle.octets.proofs.Words.{◌≡◌, refl, Bool, true, false, ◌&&◌, List, ◌++◌, ℕ, eqb, length, length-append, sets}
 use Rattle.octets.specs.Numbers.{num}
 use Rattle.octets.proofs.LayoutLaws.{length-bytes}
-use Rattle.octets.proofs.RunLaws.{Run, part-turn, cut_turn}
+use Rattle.octets.proofs.RunLaws.{Run}
 use Rattle.octets.proofs.StoreLaws.{sets_append}
 use Rattle.site_plan.specs.declared.plan.Plan.{Plan}
 use Rattle.site_plan.specs.PlanBytes.{section_bytes}
 use Rattle.site_plan.proofs.PlanByteLaws.{length-section}
-use Rattle.book_members.specs.declared.member.Member.{Member}
 use Rattle.book_members.specs.Members.{Row, row_of, rows_of}
-use Rattle.book_members.proofs.RowLoopLaws.{nobody, rows-length}
-use Rattle.book_image.specs.Forms.{head_widths, head_values, head_bytes, form_size, fits}
+use Rattle.book_image.specs.Forms.{head_widths, head_values, head_bytes}
 use Rattle.book_image.specs.Images.{row_widths, row_values, sections, rows_bytes}
 
 -- ---- rows
 pub rows_run : Run row_widths row_values rows_bytes
 rows_run = record { none = refl; more = λ r rs. refl; full = λ r. refl }
 
--- a turn of the loop that writes those that a plan uses: the next fills its part of the bytes, or is the last
-module _ (ms : List Member) (n : ℕ) (l : length ms ≡ 21) (s : List ℕ) (i : ℕ) (h : i < min n 21) where
-  abbrev at : ℕ
-  at = 20 + 10 * i
-
-  abbrev row : List ℕ
-  row = bytes row_widths (row_values (row_of (get_or ms i nobody)))
-
-  here : get_or (take n (rows_of ms)) i (row_of nobody) ≡ row_of (get_or ms i nobody)
-  unfolding rows_of
-  here = get_or-take n (map row_of ms) i (row_of nobody) (omega (arith, h)) ∙ get_or-map row_of ms i nobody
-
-  pub rows-turn : (filled : List ℕ) → at + 10 ≤ length s → filled ≡ sets (take (at + 10 - at) (drop at s)) 0 row
-      → sets (take at s ++ (filled ++ drop (at + 10 - at) (drop at s))) (20 + 10 * (i + 1)) (rows_bytes (drop (i + 1) (take n (rows_of ms))))
-      ≡ sets s at (rows_bytes (drop i (take n (rows_of ms))))
-  rows-turn filled room e =
-      part-turn rows_run s (take n (rows_of ms)) 20 i (row_of nobody) (omega (arith, h, rows-length ms n l)) filled room (rw here e)
-
-  pub rows_cut : length s < at + 10 → sets s at row ≡ sets s at (rows_bytes (drop i (take n (rows_of ms))))
-  rows_cut short = rw here at (cut_turn rows_run s (take n (rows_of ms)) 20 i (row_of nobody) (omega (arith, h, rows-length ms n l)) short)
+pub members_run : Run row_widths (λ m. row_values (row_of m)) (λ ms. rows_bytes (rows_of ms))
+unfolding rows_of
+members_run = record { none = refl; more = λ m ms. refl; full = λ m. refl }
 
 -- ---- all of it
 pub length-head : (rows : ℕ) → length (head_bytes (sections rows)) ≡ 11
@@ -70,6 +50,3 @@ regroup true true true true true true true h = refl
 module _ (s : List ℕ) (rows : ℕ) where
   abbrev is : ℕ → ℕ → ℕ → Bool
   is width at n = eqb (num width s at) n
-
-  pub fits_flat : (is 1 0 2 && is 1 1 1 && is 2 2 11 && is 2 4 9 && is 1 6 2 && is 2 7 20 && is 2 9 (10 * rows) && eqb (length s) (form_size (sections rows))) ≡ fits (sections rows) s
-  fits_flat = regroup (is 1 0 2) (is 1 1 1) (is 2 2 11) (is 2 4 9) (is 1 6 2) (is 2 7 20) (is 2 9 (10 * rows)) (eqb (length s) (form_size (sections rows)))

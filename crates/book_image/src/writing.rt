@@ -1,21 +1,19 @@
 // Writing the image of a book: the head with its contents, the plan, then the rows of live members.
-ghost use Rattle.std.specs.Prelude.{◌≡◌, take, [], ◌∷◌};
+ghost use Rattle.std.specs.Prelude.{◌≡◌, ◌+◌, ◌*◌, ◌≤◌, length};
 ghost use Rattle.std.proofs.lemmas.List.Edits.{sets};
-ghost use Rattle.octets.specs.Answers.{first};
 ghost use Rattle.octets.specs.Layouts.{bytes};
 ghost use Rattle.octets.specs.Told.{wrote};
-ghost use Rattle.slot_sets.specs.Sets.{slots_of, mask_of};
-ghost use Rattle.book_members.specs.Members.{rows_of};
+ghost use Rattle.book_members.specs.Members.{row_of, rows_of};
 ghost use Rattle.book.specs.Books.{contents};
 ghost use Rattle.book_image.specs.Forms.{head_bytes, form_size};
-ghost use Rattle.book_image.specs.Images.{row_widths, sections, rows_place, rows_bytes, image_reasons, image_written};
+ghost use Rattle.book_image.specs.Images.{row_widths, row_values, sections, rows_place, rows_bytes, image_written};
 
 use book::book::Book;
 use book_members::member::Member;
-use book_members::rows::{current, in_use};
+use book_members::rows::{current, used};
 use moments::in_order;
-use octets::answers::{Refusal, Written, refuse_if};
-use octets::fixed::{put8, put16, put64};
+use octets::refusals::{Refusal, refuse_if};
+use octets::stored::Stored;
 use site_plan::plan::Plan;
 use site_plan::plan_bytes::put_section;
 
@@ -23,75 +21,56 @@ use site_plan::plan_bytes::put_section;
 pub(crate) fn size_for(rows: u8) -> usize
     ensures { result ≡ form_size (sections rows) }
 {
-    20 + 10 * (rows as usize)
+    20 + 10 * usize::from(rows)
 }
 
 // Two sections: the plan, 9 bytes from 11 on, and the rows, 10 bytes each from 20 on.
 fn put_head(out: &mut [u8], rows: u8)
     ensures { out.new ≡ sets out.old 0 (head_bytes (sections rows)) }
 {
-    put8(out, 0, 2);
-    put8(out, 1, 1);
-    put16(out, 2, 11);
-    put16(out, 4, 9);
-    put8(out, 6, 2);
-    put16(out, 7, 20);
-    put16(out, 9, 10 * (rows as u16));
+    2u8.store(out, 0);
+    1u8.store(out, 1);
+    11u16.store(out, 2);
+    9u16.store(out, 4);
+    2u8.store(out, 6);
+    20u16.store(out, 7);
+    (10 * u16::from(rows)).store(out, 9);
 }
 
-// The bytes of a row, from a place on.
-fn put_row(out: &mut [u8], place: u16, member: Member)
-    ensures { out.new ≡ sets out.old place (bytes row_widths (member.unit ∷ mask_of (slots_of member.slots) ∷ [])) }
+// The bytes of a row.
+fn put_row(out: &mut [u8], member: Member)
+    ensures { out.new ≡ sets out.old 0 (bytes row_widths (row_values (row_of member))) }
 {
-    let at = place as usize;
-    put16(out, at, member.unit);
-    put64(out, at + 2, member.slots);
+    member.unit.store(out, 0);
+    member.slots.store(out, 2);
 }
 
-// The rows that a plan uses, each put into a part of known length. The row that the end cuts is the last.
-fn put_rows(out: &mut [u8], rows: [Member; 21], count: u8)
-    ensures { out.new ≡ sets out.old rows_place (rows_bytes (take count (rows_of rows))) }
+// The bytes of rows. Each is put into a part of known length, which spares a test of the buffer's end before each number.
+// Kept: a loop of its own beside those of a book's rows and a table's. One for the three would need a trait, and is no plainer than three of four lines.
+fn put_rows(out: &mut [u8], rows: &[Member])
+    requires { 20 + 10 * length rows.now ≤ length out.old }
+    ensures { out.new ≡ sets out.old rows_place (rows_bytes (rows_of rows.now)) }
 {
-    let used = in_use(count);
-    let mut written: u8 = 0;
-    while (written as usize) < used {
-        let member = rows[written as usize];
-        let place = 20 + 10 * (written as u16);
-        let start = place as usize;
-        let end = start + 10;
-        if out.len() < end {
-            put_row(out, place, member);
-            return;
-        }
-        put_row(&mut out[start..end], 0, member);
-        written += 1;
+    for (written, member) in rows.iter().enumerate() {
+        let start = 20 + 10 * written;
+        put_row(&mut out[start..start + 10], *member);
     }
 }
 
-// Why no image is written in a buffer with this room; 0 where one is. Form 1 has no place for the kind of beacons.
-fn refusal(book: Book, time: u32, room: usize) -> u8
-    ensures { result ≡ first (image_reasons (contents book) time room) }
-{
-    let plan = book.plan;
-    let refused = refuse_if(room < size_for(plan.rows), Refusal::ROOM, 0);
-    let refused = refuse_if(!(plan.beacon_type == Plan::BEACON), Refusal::RULE, refused);
-    let refused = refuse_if(!in_order(book.time, time), Refusal::EARLIER, refused);
-    refuse_if(!book.within_rule(), Refusal::RULE, refused)
-}
-
-// Writes the image of a book at a time.
-pub fn write_image(book: Book, time: u32, out: &mut [u8]) -> Written
+// Writes the image of a book at a time. Form 1 has no place for the kind of beacons.
+#[tactic(auto, unfolding(crate::specs::Images::image_written))]
+pub fn write_image(book: Book, time: u32, out: &mut [u8]) -> Result<usize, Refusal>
     ensures { wrote result out.new ≡ image_written (contents book) time out.old }
 {
-    let refused = refusal(book, time, out.len());
-    if refused != 0 {
-        return Written::Refused(Refusal { number: refused });
-    }
     let plan = book.plan;
-    let rows = book.rows;
-    let live = current(rows, time);
+    let size = size_for(plan.rows);
+    refuse_if(!book.within_rule(), Refusal::Rule)?;
+    refuse_if(!in_order(book.time, time), Refusal::Earlier)?;
+    refuse_if(plan.beacon_type != Plan::BEACON, Refusal::Rule)?;
+    refuse_if(out.len() < size, Refusal::Room)?;
+    let live = current(book.rows, time);
     put_head(out, plan.rows);
     put_section(out, 11, plan);
-    put_rows(out, live, plan.rows);
-    Written::Done(size_for(plan.rows))
+    put_rows(out, used(&live, plan.rows));
+    Ok(size)
 }

@@ -1,6 +1,6 @@
 -- Response frames: their lengths, and a turn of the loop that stores them.
 -- Assumes nothing.
-use Rattle.octets.proofs.Words.{◌≡◌, refl, sym, ap, ap₂, ◌∙◌, Bool, true, false, ◌&&◌, cond, List, [], ◌∷◌, ◌++◌, map, append-nil, append_assoc, ℕ, zero, suc, ◌+◌, ◌*◌, ◌-◌, ◌/◌, ◌^◌, ◌≤◌, ◌<◌, zero-add, add-one, arith, ltb-false, ltb, length, drop, length-append, length-map, sets, sets-eq, drop_at}
+use Rattle.octets.proofs.Words.{◌≡◌, refl, sym, ap, ap₂, ◌∙◌, Bool, true, false, cond, List, [], ◌∷◌, ◌++◌, map, append-nil, append_assoc, ℕ, zero, suc, ◌+◌, ◌*◌, ◌-◌, ◌/◌, ◌^◌, ◌≤◌, ◌<◌, zero-add, add-one, arith, length, drop, length-append, length-map, sets, sets-eq, drop_at}
 use Rattle.octets.specs.Layouts.{bytes}
 use Rattle.octets.specs.Numbers.{num, digits}
 use Rattle.octets.specs.Sums.{xors}
@@ -58,7 +58,7 @@ unfolding left
 left-all w s = let e : w - 0 ≡ w = omega arith in sym (ap (λ (n : ℕ). length (listed s 0 n)) e ∙ listed-all w s)
 
 module _ (w : ℕ) (s : Slots w) (i : ℕ) where
-  none_left : left w s i ≡ 0 → listed s i (w - i) ≡ []
+  pub none_left : left w s i ≡ 0 → listed s i (w - i) ≡ []
   unfolding left
   none_left = go (listed s i (w - i))
     where
@@ -66,18 +66,10 @@ module _ (w : ℕ) (s : Slots w) (i : ℕ) where
       go [] e = refl
       go (x ∷ l) e = absurd (omega (arith, e))
 
-  none-behind : w ≤ i → listed s i (w - i) ≡ []
+  pub none-behind : w ≤ i → listed s i (w - i) ≡ []
   none-behind h =
       let e : w - i ≡ 0 = omega (arith, h) in
       ap (listed s i) e
-
-  -- the turns end where none is left, or no slot
-  pub listed_end : (n : ℕ) → n ≡ left w s i → (ltb 0 n && ltb i w) ≡ false → listed s i (w - i) ≡ []
-  listed_end n q e = go (ltb 0 n) refl e
-    where
-      go : (b : Bool) → ltb 0 n ≡ b → (b && ltb i w) ≡ false → listed s i (w - i) ≡ []
-      go true p t = none-behind (ltb-false i w t)
-      go false p t = none_left (omega (arith, q, ltb-false 0 n p))
 
   pub left-on : i < w → left w s i ≡ cond (has s i) 1 0 + left w s (i + 1)
   unfolding left
@@ -88,17 +80,6 @@ module _ (w : ℕ) (s : Slots w) (i : ℕ) where
       go : (b : Bool) (l : List ℕ) → length (cond b (i ∷ l) l) ≡ cond b 1 0 + length l
       go true l = omega arith
       go false l = omega arith
-
-  -- a slot that is none of the set's, and one that is
-  pub left_over : (n : ℕ) → i < w → n ≡ left w s i → has s i ≡ false → n ≡ left w s (i + 1)
-  left_over n h q e =
-      let on : left w s i ≡ 0 + left w s (i + 1) = rw e at (left-on h) in
-      omega (arith, q, on)
-
-  pub left-told : (n : ℕ) → i < w → n ≡ left w s i → has s i ≡ true → n - 1 ≡ left w s (i + 1)
-  left-told n h q e =
-      let on : left w s i ≡ 1 + left w s (i + 1) = rw e at (left-on h) in
-      omega (arith, q, on)
 
 -- the control slot and each data slot are told in 13 bytes; said of any width first, since the list of 64 slots would be computed
 length-told : (w : ℕ) (p : Plan) (unit time row : ℕ) (own : Slots w) → length (responses_for p unit time (control_slot p row ∷ map (data_slot p) (listed own 0 w))) ≡ 13 * (1 + count own)
@@ -173,8 +154,12 @@ abbrev pub later : Plan → ℕ → ℕ → Slots 64 → ℕ → List ℕ
 later p unit time own slot = responses_for p unit time (map (data_slot p) (listed own slot (64 - slot)))
 
 module _ (p : Plan) (unit time : ℕ) (own : Slots 64) (slot : ℕ) where
-  pub none-later : (n : ℕ) → n ≡ left 64 own slot → (ltb 0 n && ltb slot 64) ≡ false → later p unit time own slot ≡ []
-  none-later n q e = ap (λ (l : List ℕ). responses_for p unit time (map (data_slot p) l)) (listed_end 64 own slot n q e)
+  -- nothing is, where no slot of the set is left, or none at all
+  pub none-told : left 64 own slot ≡ 0 → later p unit time own slot ≡ []
+  none-told e = ap (λ (l : List ℕ). responses_for p unit time (map (data_slot p) l)) (none_left 64 own slot e)
+
+  pub none-later : 64 ≤ slot → later p unit time own slot ≡ []
+  none-later h = ap (λ (l : List ℕ). responses_for p unit time (map (data_slot p) l)) (none-behind 64 own slot h)
 
   module _ (h : slot < 64) where
     listed-on : listed own slot (64 - slot) ≡ cond (has own slot) (slot ∷ listed own (slot + 1) (64 - (slot + 1))) (listed own (slot + 1) (64 - (slot + 1)))

@@ -1,9 +1,11 @@
 -- Joining and asking for slots: how many are granted, which, and what is written.
 -- Assumes nothing.
-use Rattle.std.specs.Prelude.{ℕ, ◌+◌, ◌-◌, min, max, Bool, not, ◌&&◌, cond, List, [], ◌∷◌, eqb, leb, ltb, length}
+use Rattle.std.specs.Prelude.{ℕ, ◌+◌, ◌-◌, min, max, Bool, not, ◌&&◌, cond, List, [], ◌∷◌, Result, Ok, Err, eqb, leb, ltb, length}
 use Rattle.std.proofs.lemmas.List.Edits.{sets}
 use Rattle.octets.specs.Answers.{Reason, reason, refusing, first}
 use Rattle.octets.specs.Calls.{after}
+use Rattle.octets.specs.Refusals.{number_of}
+use Rattle.octets.specs.declared.refusals.Refusal.{Refusal}
 use Rattle.moments.specs.Moments.{in_order}
 use Rattle.frame_kinds.specs.Reading.{refusal_as}
 use Rattle.frame_kinds.specs.Shape.{values_in}
@@ -41,9 +43,10 @@ pub record Answered : Type 0 where
   pub book : Contents
   pub held : List ℕ
 
--- what an answer of the code and its buffer stand for
-abbrev pub answered_by : Granted → List ℕ → Answered
-answered_by g held = record { refused = g.refused; written = g.written; book = contents g.book; held = held }
+-- what an answer of the code and its buffer stand for: what is granted, or the book that was there with the number that refuses the call
+abbrev pub answered_by : Contents → Result Granted Refusal → List ℕ → Answered
+answered_by b (Ok g) held = record { refused = 0; written = g.written; book = contents g.book; held = held }
+answered_by b (Err r) held = record { refused = number_of r; written = 0; book = b; held = held }
 
 -- where nothing refuses it, the unit's row is written, and its responses
 abbrev pub grants : ℕ → Contents → ℕ → ℕ → ℕ → Slots 64 → List ℕ → Answered

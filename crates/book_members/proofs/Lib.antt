@@ -1,5 +1,4 @@
 pub mod CensusLaws
-pub mod DistinctLaws
 pub mod LookupLaws
 pub mod PairLaws
 pub mod RowLaws

@@ -1,7 +1,8 @@
 -- The row of a unit: where it is found, and where it is found once a row was written.
 -- Assumes nothing.
-use Rattle.octets.proofs.Words.{◌≡◌, refl, sym, ap, ◌∙◌, Bool, true, false, not, ◌||◌, cond, List, [], ◌∷◌, ℕ, zero, suc, ◌+◌, ◌≤◌, ◌<◌, one-add, arith, eq-eqb, ne_eqb, eqb-true, lt-ltb, ltb-true, not-false, eqb, ltb, leb-suc-suc, length, set}
-use Rattle.book_members.specs.Members.{Row, empty_row, place_for}
+use Rattle.octets.proofs.Words.{◌≡◌, refl, sym, ap, ◌∙◌, Bool, true, false, not, ◌||◌, cond, List, [], ◌∷◌, ℕ, zero, suc, ◌+◌, ◌≤◌, ◌<◌, one-add, arith, eq-eqb, ne_eqb, eqb-true, lt-ltb, ltb-true, ltb-false, not-false, eqb, ltb, leb-suc-suc, length, set}
+use Rattle.std.specs.Prelude.{Some, None}
+use Rattle.book_members.specs.Members.{Row, empty_row, place_for, placed}
 use Rattle.book_members.proofs.RowLaws.{row}
 use Rattle.book_members.proofs.RowSums.{weigh_at, one, tally, passes_there, only_one, some_tally, of_unit}
 
@@ -72,3 +73,19 @@ module _ (unit : ℕ) (some : unit ≡ 0 → ⊥) (rs : List Row) (i : ℕ) (own
   found_is most =
       let first = eq-eqb (row rs (place_for unit rs)).unit unit (found-unit unit rs found-there) in
       only_one (of_unit unit) no_empty rs most (place_for unit rs) i first is_own
+
+-- ---- the place, if there is one
+module _ (unit : ℕ) (rs : List Row) where
+  pub placed-there : (at : ℕ) → placed unit rs ≡ Some at → (place_for unit rs ≡ at) × (at < length rs)
+  placed-there at e = go (ltb (place_for unit rs) (length rs)) refl e
+    where
+      go : (b : Bool) → ltb (place_for unit rs) (length rs) ≡ b → cond b (Some (place_for unit rs)) None ≡ Some at → (place_for unit rs ≡ at) × (at < length rs)
+      go true t q = let same : place_for unit rs ≡ at = cc in (same, omega (arith, same, ltb-true (place_for unit rs) (length rs) t))
+      go false t q = cc
+
+  pub placed-nowhere : placed unit rs ≡ None → length rs ≤ place_for unit rs
+  placed-nowhere e = go (ltb (place_for unit rs) (length rs)) refl e
+    where
+      go : (b : Bool) → ltb (place_for unit rs) (length rs) ≡ b → cond b (Some (place_for unit rs)) None ≡ None → length rs ≤ place_for unit rs
+      go true t q = cc
+      go false t q = omega (arith, ltb-false (place_for unit rs) (length rs) t)

@@ -1,6 +1,7 @@
 -- The rows of a member book, with sets for masks: who is live, which slots are free, how many are spare.
 -- Assumes nothing.
-use Rattle.std.specs.Prelude.{ℕ, ◌+◌, ◌-◌, Bool, cond, List, [], ◌∷◌, map, eqb, leb}
+use Rattle.std.specs.Prelude.{ℕ, ◌+◌, ◌-◌, Bool, cond, List, [], ◌∷◌, map, length, take, Option, Some, None, eqb, leb, ltb}
+use Rattle.std.specs.Borrow.{Bor}
 use Rattle.moments.specs.Moments.{age_at}
 use Rattle.slot_sets.specs.Sets.{Slots, slots_of, no_slots, union, minus, count, firsts}
 use Rattle.book_members.specs.declared.member.Member.{Member}
@@ -22,6 +23,19 @@ row_of m = member_with m.unit (slots_of m.slots) m.time
 -- the rows that the code's places stand for
 unfoldable pub rows_of : List Member → List Row
 rows_of ms = map row_of ms
+
+-- rows that are lent: the block of memory that they lie in, the byte of it that they start at, and what they are
+pub record LentRows : Type 0 where
+  pub block : ℕ
+  pub start : ℕ
+  pub rows : List Row
+
+abbrev pub lent_rows : Bor (List Member) → LentRows
+lent_rows s = record { block = s.ref_ptr.0; start = s.ref_ptr.1; rows = rows_of s.now }
+
+-- the first so many of them
+abbrev pub first_rows : LentRows → ℕ → LentRows
+first_rows l n = record { block = l.block; start = l.start; rows = take n l.rows }
 
 -- a row that is not in use is zeros
 abbrev pub empty_row : Row
@@ -59,6 +73,10 @@ current time (r ∷ rs) = r ∷ map (kept time) rs
 unfoldable pub place_for : ℕ → List Row → ℕ
 place_for unit [] = 0
 place_for unit (r ∷ rs) = cond (eqb r.unit unit) 0 (1 + place_for unit rs)
+
+-- that place, if there is such a row
+abbrev pub placed : ℕ → List Row → Option ℕ
+placed unit rs = cond (ltb (place_for unit rs) (length rs)) (Some (place_for unit rs)) None
 
 -- ---- slots
 -- those that some row holds

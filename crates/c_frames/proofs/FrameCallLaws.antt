@@ -1,11 +1,13 @@
 -- The calls on frames, from what the core answers.
 -- Assumes nothing.
-use Rattle.octets.proofs.Words.{◌≡◌, refl, sym, ap, ◌∙◌, Bool, true, false, not, ◌||◌, cond, List, [], ◌∷◌, ◌⊎◌, inl, inr, ⊎_elim, ℕ, ◌-◌, ◌≤◌, ℕ_discrete, arith, ltb-false, eqb-true, eqb, ltb, length, get_or}
+use Rattle.octets.proofs.Words.{◌≡◌, refl, ap, ◌∙◌, Bool, true, false, not, ◌||◌, cond, List, [], ◌∷◌, ◌⊎◌, inl, inr, ⊎_elim, ℕ, ◌-◌, ◌≤◌, ℕ_discrete, arith, ltb-false, eqb-true, eqb, ltb, length, get_or}
 use Rattle.octets.specs.Answers.{Said, accepted, refused}
 use Rattle.octets.specs.Calls.{write_left}
-use Rattle.octets.specs.declared.answers.Refusal.{Refusal}
-use Rattle.octets.specs.declared.answers.Written.{Written}
+use Rattle.std.specs.Prelude.{Ok, Err}
+use Rattle.octets.specs.Refusals.{number_of}
+use Rattle.octets.specs.declared.refusals.Refusal.{Refusal}
 use Rattle.octets.specs.Told.{Wrote, wrote}
+use Rattle.octets.proofs.RefusalLaws.{refusal_some}
 use Rattle.octets.proofs.AnswerLaws.{unless-none, unless-some}
 use Rattle.octets.proofs.CallLaws.{after-refused}
 use Rattle.frames.specs.Listed.{show_refusal, shown, write_numbers}
@@ -60,7 +62,7 @@ module _ (ns part out : List ℕ) where
       by_type part out ns (λ w. Answered w.said) (λ e. inr (1, λ z. omega arith, refl)) (λ k m c. writing_answers _ _ _ out) (inr (2, λ z. omega arith, refl))
 
   module _ (last : List ℕ) (written : ℕ) where
-    pub written_short : (n : ℕ) → wrote (Written.Done n) last ≡ write_numbers ns part out → n ≤ 255
+    pub written_short : (n : ℕ) → wrote (Ok n) last ≡ write_numbers ns part out → n ≤ 255
     written_short n e =
         let said = ap (λ (w : Wrote). w.said) e in
         ⊎_elim
@@ -68,17 +70,10 @@ module _ (ns part out : List ℕ) where
         (λ r. let z : ◌≡◌ {A = ℕ} 1 0 = ap (λ (x : Said). length x.values) (said ∙ r.2) in absurd (omega arith))
         answers
 
-    pub done : (n : ℕ) → wrote (Written.Done n) last ≡ write_numbers ns part out → write_left 0 last n ≡ write_call ns part out written
+    pub done : (n : ℕ) → wrote (Ok n) last ≡ write_numbers ns part out → write_left 0 last n ≡ write_call ns part out written
     unfolding write_call
     done n e = rw (← e)
 
-    pub undone : (r : Refusal) → wrote (Written.Refused r) last ≡ write_numbers ns part out → write_left r.number last written ≡ write_call ns part out written
+    pub undone : (r : Refusal) → wrote (Err r) last ≡ write_numbers ns part out → write_left (number_of r) last written ≡ write_call ns part out written
     unfolding write_call
-    undone r e =
-        let said = ap (λ (w : Wrote). w.said) e in
-        let z : r.number ≡ 0 → ⊥ =
-        ⊎_elim
-        (λ a b. let q : ◌≡◌ {A = ℕ} 0 1 = ap (λ (x : Said). length x.values) (said ∙ a.2) in omega arith)
-        (λ a b. a.1 (sym (ap (λ (x : Said). x.refusal) (said ∙ a.2)) ∙ b))
-        answers in
-        rw (← e, after-refused r.number written 0 z)
+    undone r e = rw (← e, after-refused (number_of r) written 0 (refusal_some r))

@@ -5,9 +5,8 @@ ghost use Rattle.frame_traffic.specs.Traffic.{entry_values};
 ghost use Rattle.c_frames.specs.EntryCalls.{entry_left, entry_call};
 
 use frame_entries::reader::walk;
-use frame_entries::walking::Walked;
 use frame_traffic::entry::Entry;
-use octets::answers::Refusal;
+use octets::refusals::Refusal;
 
 const ENTRY_FIELDS: usize = 5;
 
@@ -16,10 +15,10 @@ fn put_entry(out: &mut [u32], entry: Entry)
     requires { 5 ≤ length out.old }
     ensures { out.new ≡ sets out.old 0 (entry_values entry) }
 {
-    out[0] = entry.destination as u32;
-    out[1] = entry.hops as u32;
-    out[2] = entry.quality as u32;
-    out[3] = entry.next_hop as u32;
+    out[0] = u32::from(entry.destination);
+    out[1] = u32::from(entry.hops);
+    out[2] = u32::from(entry.quality);
+    out[3] = u32::from(entry.next_hop);
     out[4] = entry.timestamp;
 }
 
@@ -28,19 +27,19 @@ pub fn braidlark_entry(frame: &[u8], position: u32, entry: &mut [u32], next: &mu
     ensures { entry_left result entry.new next.new ≡ entry_call frame.now position entry.old next.old }
 {
     match walk(frame, position as usize) {
-        Walked::One(step) => {
+        Ok(Some(step)) => {
             if entry.len() < ENTRY_FIELDS {
-                return Refusal::ROOM;
+                return Refusal::Room.number();
             }
             let met = step.entry;
             put_entry(entry, met);
             *next = step.next as u32;
             0
         }
-        Walked::End => {
+        Ok(None) => {
             *next = 0;
             0
         }
-        Walked::Refused(refusal) => refusal.number,
+        Err(refusal) => refusal.number(),
     }
 }

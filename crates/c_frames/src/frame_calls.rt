@@ -6,8 +6,7 @@ ghost use Rattle.c_frames.specs.FrameCalls.{read_call, read_left, write_call};
 use frame_reading::numbers::show;
 use frame_writing::numbers::write;
 use frames::layouts::layout_of;
-use octets::answers::Written;
-use octets::numbers::number8;
+use octets::stored::Stored;
 
 // Reads a frame: its numbers, and where the bytes behind its fields start and how many they are.
 pub fn braidlark_read(
@@ -18,11 +17,10 @@ pub fn braidlark_read(
 ) -> u8
     ensures { read_left result fields.new part_place.new part_length.new ≡ read_call frame.now fields.old part_place.old part_length.old }
 {
-    let status = show(frame, fields);
-    if status != 0 {
-        return status;
+    if let Err(refusal) = show(frame, fields) {
+        return refusal.number();
     }
-    let place = layout_of(number8(frame, 0)).head;
+    let place = layout_of(u8::read(frame, 0)).head;
     *part_place = place as u32;
     *part_length = (frame.len() - 1 - place as usize) as u32;
     0
@@ -33,10 +31,10 @@ pub fn braidlark_write(fields: &[u32], part: &[u8], out: &mut [u8], written: &mu
     ensures { write_left result out.new written.new ≡ write_call fields.now part.now out.old written.old }
 {
     match write(fields, part, out) {
-        Written::Done(size) => {
+        Ok(size) => {
             *written = size as u32;
             0
         }
-        Written::Refused(refusal) => refusal.number,
+        Err(refusal) => refusal.number(),
     }
 }

@@ -1,6 +1,6 @@
 -- A call on a table whose numbers fit their bytes leaves such a table.
 -- Assumes nothing.
-use Rattle.octets.proofs.Words.{◌≡◌, refl, true, false, not, and-eq-true_iff, List, [], ◌∷◌, map, ℕ, ◌≤◌, ◌<◌, arith, eq-eqb, lt-ltb, eqb, leb, ltb, length, length-map}
+use Rattle.octets.proofs.Words.{◌≡◌, refl, true, false, not, List, [], ◌∷◌, map, ℕ, ◌≤◌, ◌<◌, arith, eq-eqb, eqb, length, length-map}
 use Rattle.octets.specs.Answers.{reason, first}
 use Rattle.octets.specs.Layouts.{Bytes}
 use Rattle.octets.specs.Lists.{every}
@@ -15,7 +15,7 @@ use Rattle.route_table.specs.declared.row.Row.{Row}
 use Rattle.route_table.specs.declared.table.Table.{Table}
 use Rattle.route_table.specs.Rows.{forgotten, standing}
 use Rattle.route_table.specs.Tables.{rows_of, empty_table, fresh_of, forget_of}
-use Rattle.route_table.proofs.KeepLaws.{by-forgotten, standing-rules, forgotten-rules}
+use Rattle.route_table.proofs.KeepLaws.{standing-rules, forgotten-rules}
 use Rattle.route_table.proofs.StandingLaws.{standing-every}
 use Rattle.route_table.proofs.TableLaws.{within, few_stand, forgettable}
 use Rattle.route_merges.specs.Candidates.{candidates}
@@ -44,9 +44,7 @@ fresh-sized own began a t =
     of_choice Sized (eqb (first (reason (not (address own)) 4 ∷ [])) 0) (empty_sized own began a t) (empty_sized 0 0 (omega arith) (omega arith))
 
 modest_forgotten : (unit time : ℕ) → time < 0x100000000 → (r : Row) → modest r ≡ true → modest (forgotten unit time r) ≡ true
-modest_forgotten unit time h r m =
-    by-forgotten (λ x. modest x ≡ true) unit time r m
-    (rw ((and-eq-true_iff (leb r.quality 255) (ltb r.time 0x100000000)).0 m).0 (lt-ltb time 0x100000000 h))
+modest_forgotten unit time h r m = grind (arith, h, m)
 
 -- ---- the calls that change a table, where they are accepted
 module _ (t : Table) (z : Sized t) where

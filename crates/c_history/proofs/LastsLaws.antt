@@ -4,7 +4,7 @@ use Rattle.octets.proofs.Words.{◌≡◌, ◌∙◌, true, List, ℕ, suc, ◌-
 use Rattle.octets.specs.Calls.{after}
 use Rattle.octets.proofs.CallLaws.{stored-none}
 use Rattle.moments.specs.Moments.{age_at}
-use Rattle.route_table.specs.declared.table.Found.{Found}
+use Rattle.route_table.specs.Outcomes.{Found}
 use Rattle.route_table.specs.Tables.{lookup_of}
 use Rattle.route_table.proofs.LeftLaws.{lasts_so_long, ends_then}
 use Rattle.route_bytes.specs.TableBytes.{table_in, is_table}

@@ -1,6 +1,6 @@
 -- What an update in bytes teaches has a quality that fits a byte, and the time of the call.
 -- Assumes nothing.
-use Rattle.octets.proofs.Words.{◌≡◌, Bool, true, and-eq-true_iff, List, ℕ, ◌+◌, ◌*◌, ◌≤◌, ◌<◌, arith, leb-true, le-leb, lt-ltb, leb, ltb}
+use Rattle.octets.proofs.Words.{◌≡◌, Bool, true, List, ℕ, ◌+◌, ◌*◌, ◌≤◌, ◌<◌, arith, leb}
 use Rattle.octets.specs.Layouts.{Bytes}
 use Rattle.octets.specs.Lists.{every, Each}
 use Rattle.octets.proofs.ListLaws.{every-tab}
@@ -24,24 +24,17 @@ unfolding entry_at
 entries-plain s b count =
     let part = part_in update s in
     every-tab plain count (entry_at part)
-    (λ k h.
-    let q = num_lt part (bytes-part s b (update.extent (values_in update s)) (place_of update)) 1 (10 * k + 2 + 1) in
-    le-leb (entry_at part k).quality 255 (omega (arith, q)))
+    (λ k h. grind (arith, num_lt part (bytes-part s b (update.extent (values_in update s)) (place_of update)) 1 (10 * k + 2 + 1)))
 
 -- so is that of every candidate, and a row keeps it when it is withdrawn; its time is then the call's
 module _ (own origin quality time : ℕ) (q : quality ≤ 255) (t : time < 0x100000000) where
   candidate_modest : (c : Candidate) → c.quality ≤ 255 → Kept modest origin time c
-  candidate_modest c h =
-      let now = lt-ltb time 0x100000000 t in
-      record {
-        new = λ b. rw (le-leb c.quality 255 h) now;
-        back = λ r m. rw ((and-eq-true_iff (leb r.quality 255) (ltb r.time 0x100000000)).0 m).0 now;
-      }
+  candidate_modest c h = record { new = λ b. grind (arith, h, t); back = λ r m. grind (arith, m, t) }
 
   pub candidates_modest : (s : List ℕ) → Bytes s → (count : ℕ) → Each (Kept modest origin time) (candidates own origin quality (entries_of count (part_in update s)))
   candidates_modest s b count = (
     candidate_modest (neighbour origin quality) q,
     offers-each own origin quality (Kept modest origin time) plain
-        (λ e p o. candidate_modest (offered quality e) (omega (arith, leb-true e.quality 255 p, q)))
+        (λ e p o. candidate_modest (offered quality e) (grind (arith, p, q)))
         (entries_of count (part_in update s)) (entries-plain s b count),
   )

@@ -3,7 +3,7 @@
 use Rattle.octets.proofs.Words.{◌≡◌, refl, sym, ap, ◌∙◌, Bool, List, [], ◌∷◌, ℕ, ◌<◌, ◌≤◌, ℕ_discrete, arith, eqb-true, leb-true, eqb, length}
 use Rattle.octets.proofs.CallLaws.{after-accepted, after-refused, left_as, stored-none}
 use Rattle.unit_life.specs.declared.state.State.{State}
-use Rattle.unit_life.specs.declared.state.Lived.{Lived}
+use Rattle.unit_life.specs.Outcomes.{Lived}
 use Rattle.unit_life.specs.Calls.{fresh_state, moved_on, on_event, on_tick}
 use Rattle.unit_life.specs.Histories.{Call, event, tick, time_of, answer, run}
 use Rattle.unit_life.specs.States.{Stopped}

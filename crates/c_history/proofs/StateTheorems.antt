@@ -1,11 +1,11 @@
 -- The laws of lives, of the bytes: those of `unit_life` on states, carried to the buffer.
 -- Assumes nothing.
-use Rattle.octets.proofs.Words.{◌≡◌, refl, sym, ap, ap₂, transport, ◌∙◌, true, not, ◌&&◌, ◌||◌, cond, and-eq-true_iff, List, [], ◌∷◌, ℕ, ◌+◌, ◌^◌, ◌%◌, ◌<◌, ◌≤◌, arith, leb-true, eqb, length}
+use Rattle.octets.proofs.Words.{◌≡◌, refl, sym, ap, ap₂, transport, ◌∙◌, true, not, ◌&&◌, ◌||◌, cond, List, [], ◌∷◌, ℕ, ◌+◌, ◌^◌, ◌%◌, ◌<◌, ◌≤◌, arith, eqb, length}
 use Rattle.octets.specs.Layouts.{Bytes}
 use Rattle.octets.specs.Lists.{every}
 use Rattle.moments.specs.Elapsed.{Clock, started, now_at, moved}
 use Rattle.unit_life.specs.declared.state.State.{State}
-use Rattle.unit_life.specs.States.{recovered, known}
+use Rattle.unit_life.specs.States.{known}
 use Rattle.unit_life.specs.Calls.{fresh_state, on_event, on_tick}
 use Rattle.unit_life.specs.Histories.{Call, event, tick, time_of, is_tick, answer, run, all_at, step_of, steps_of, early, quiet, since_tick}
 use Rattle.unit_life.specs.Laws.{Ticking, since_beacon, TicksTimely}
@@ -18,8 +18,7 @@ use Rattle.unit_life.specs.StateTrips.{StateSized}
 use Rattle.unit_life.proofs.StateTripLaws.{state_reads_back, state-sized, state_writes_back}
 use Rattle.c_unit.specs.StateCalls.{event_call, tick_call}
 use Rattle.c_history.specs.HeldStates.{leaves, buffer_after, AllMachine, steps_in_c, quiet_in_c, since_tick_in_c}
-use Rattle.c_history.specs.StateLaws.{TickingInC, OnlyForSuperframesInC, StaysStoppedInC, NoOtherTrapInC}
-use Rattle.c_history.specs.StateLaws.{NoticesSilenceInC, StartsAnewInC, TicksTimelyInC, TrueTimeInC}
+use Rattle.c_history.specs.StateLaws.{TickingInC, OnlyForSuperframesInC, StaysStoppedInC, NoOtherTrapInC, NoticesSilenceInC, StartsAnewInC, TicksTimelyInC, TrueTimeInC}
 use Rattle.c_history.proofs.StateStored.{next-sized, fresh-sized, leaves-same, status-same, left-read, run-sized, fresh-same, stays_stored, stored-from}
 
 -- ---- what statuses say is what answers do
@@ -95,10 +94,7 @@ stays_stopped_in_c s cs b l m e = ap (λ (x : State). x.kind) (held-read s b l c
 all_machine : (es : List ℕ) (time : ℕ) → time < 0x100000000 → every known es ≡ true → AllMachine (all_at es time)
 unfolding every
 all_machine [] time t e = tt
-all_machine (n ∷ es) time t e =
-    let (here, later) = (and-eq-true_iff (known n) (every known es)).0 e in
-    let few = leb-true n recovered here in
-    ((omega (arith, few), t), all_machine es time t later)
+all_machine (n ∷ es) time t e = ((grind (arith, e), t), all_machine es time t (grind (arith, e)))
 
 pub no_other_trap_in_c : NoOtherTrapInC
 no_other_trap_in_c s time b l t within running ordered =

@@ -8,7 +8,7 @@ use Rattle.moments.proofs.ElapsedLaws.{true-time}
 use Rattle.route_table.specs.declared.table.Table.{Table}
 use Rattle.route_table.specs.Tables.{fresh_of, forget_of}
 use Rattle.route_merges.specs.Merges.{merge_of}
-use Rattle.route_forwards.specs.Forwards.{forward_of}
+use Rattle.route_forwards.specs.Forwards.{forward_of, forward_call}
 use Rattle.route_bytes.specs.TableBytes.{table_in, table_bytes}
 use Rattle.route_bytes.specs.TableTrips.{Sized}
 use Rattle.route_bytes.proofs.SizeLaws.{sized-read}
@@ -21,7 +21,6 @@ use Rattle.route_bytes.specs.StoredTables.{stored_table, changed_by}
 use Rattle.c_routes.specs.TableCalls.{fresh_call, forget_call, lookup_call}
 use Rattle.route_merges.specs.StoredMerges.{merge_call}
 use Rattle.c_routes.specs.UpdateCalls.{page_call}
-use Rattle.route_forwards.specs.Forwards.{forward_call}
 use Rattle.c_routes.specs.RelayCalls.{relay_call}
 use Rattle.c_history.specs.HeldTables.{InC, returned, status, after_calls_in_c, recorded_in_c, AllMachine, calls_of}
 use Rattle.c_history.specs.TableLaws.{Stored, StaysStored, StoredFrom, TrueTimeInC, RefusedLeaves, OnlyForPagesInC}

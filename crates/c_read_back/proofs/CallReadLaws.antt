@@ -6,7 +6,7 @@ use Rattle.octets.proofs.CallLaws.{after-accepted, stored-none}
 use Rattle.octets.specs.Told.{written_in}
 use Rattle.octets.proofs.AnsweredLaws.{said-none}
 use Rattle.route_table.specs.declared.table.Table.{Table}
-use Rattle.route_forwards.specs.Forwards.{forward_of}
+use Rattle.route_forwards.specs.Forwards.{forward_of, forward_call}
 use Rattle.route_pages.specs.Pages.{page_frame, page_refusal, page_of}
 use Rattle.route_bytes.specs.TableBytes.{table_in, is_table}
 use Rattle.route_bytes.proofs.SizeLaws.{sized-read}
@@ -17,7 +17,6 @@ use Rattle.book_bytes.specs.BookBytes.{book_size, book_in, bytes_of_book}
 use Rattle.book_bytes.specs.Trips as books
 use Rattle.book_bytes.proofs.SizeLaws.{book-sized}
 use Rattle.book_bytes.proofs.TripLaws.{reads_back}
-use Rattle.route_forwards.specs.Forwards.{forward_call}
 use Rattle.c_routes.specs.UpdateCalls.{page_call}
 use Rattle.c_requests.specs.RequestCalls.{RequestLeft, join_call, slot_request_call, answered_to}
 use Rattle.c_read_back.specs.FramesRead.{Responded}

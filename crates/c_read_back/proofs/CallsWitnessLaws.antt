@@ -15,7 +15,7 @@ use Rattle.route_table.specs.Rows.{pad}
 use Rattle.route_table.specs.Tables.{within_rule, lookup_of}
 use Rattle.route_merges.specs.Learning.{learn}
 use Rattle.route_merges.specs.Merges.{merge_refusal, merged_rows, merged_count, merge_of}
-use Rattle.route_forwards.specs.Forwards.{forward_refusal, forward_of}
+use Rattle.route_forwards.specs.Forwards.{forward_refusal, forward_of, forward_call}
 use Rattle.route_forwards.specs.Copies.{passed_by, short_passed_by}
 use Rattle.frame_beacons.specs.EitherBeacons.{either_refusal, either_in}
 use Rattle.route_pages.specs.Pages.{entry_for, page_of}
@@ -31,7 +31,6 @@ use Rattle.book_bytes.specs.BookBytes as ledgers
 use Rattle.book_bytes.specs.BookBytes.{book_in, bytes_of_book}
 use Rattle.site_plan.specs.PlanBytes.{plan_at, bytes_of_plan}
 use Rattle.c_frames.specs.FrameCalls.{read_call, write_call}
-use Rattle.route_forwards.specs.Forwards.{forward_call}
 use Rattle.c_routes.specs.RelayCalls.{relay_call}
 use Rattle.route_merges.specs.StoredMerges.{merge_call}
 use Rattle.c_routes.specs.UpdateCalls.{page_call}

@@ -1,13 +1,12 @@
 -- A page is read as an update from this unit, with the entries of its rows.
 -- Assumes nothing.
-use Rattle.octets.proofs.Words.{◌≡◌, refl, sym, ap, ap₂, ◌∙◌, Bool, true, false, ◌&&◌, ◌||◌, cond, and-eq-true_iff, List, [], ◌∷◌, map, ℕ, ◌+◌, ◌*◌, ◌≤◌, ◌<◌, arith, leb-true, lt-ltb, le-ltb, ltb-true, ltb-false, not-false, eqb, leb, ltb, length, get_or, take, drop, length-take, length-map, get_or-map}
+use Rattle.octets.proofs.Words.{◌≡◌, refl, sym, ap, ap₂, ◌∙◌, Bool, true, ◌&&◌, cond, and-eq-true_iff, List, [], ◌∷◌, map, ℕ, ◌+◌, ◌*◌, ◌≤◌, ◌<◌, arith, leb-true, lt-ltb, le-ltb, leb, ltb, length, get_or, take, drop, length-take, length-map, get_or-map}
 use Rattle.octets.specs.Answers.{Said, accepted}
 use Rattle.octets.specs.Layouts.{Fit}
 use Rattle.octets.specs.Lists.{every}
-use Rattle.octets.proofs.AnswerLaws.{unless-none, unless-number, none-holds}
-use Rattle.octets.proofs.ListLaws.{get_or-tab}
+use Rattle.octets.proofs.AnswerLaws.{unless-none, unless-number}
+use Rattle.octets.proofs.ListLaws.{get_or-tab, every-both, every_take, every_drop}
 use Rattle.octets.proofs.StoreLaws.{take-sets}
-use Rattle.octets.proofs.ListLaws.{every-both, every_take, every_drop}
 use Rattle.octets.proofs.AddressLaws.{address-fits}
 use Rattle.octets.specs.Addresses.{address}
 use Rattle.frame_kinds.specs.Shape.{part_in, frame_of}
@@ -27,7 +26,7 @@ use Rattle.route_table.specs.Tables.{rows_of, within_rule}
 use Rattle.route_table.proofs.RuleLaws.{ruled}
 use Rattle.route_table.proofs.StandingLaws.{standing-every}
 use Rattle.route_table.proofs.TableLaws.{within}
-use Rattle.route_pages.specs.Pages.{entry_for, entries_bytes, on_page, page_frame, page_reasons, page_refusal, page_of}
+use Rattle.route_pages.specs.Pages.{entry_for, entries_bytes, on_page, page_frame, page_refusal, page_of}
 use Rattle.route_bytes.specs.TableTrips.{Sized}
 use Rattle.route_bytes.proofs.SizeLaws.{modest, rows_modest}
 use Rattle.route_pages.proofs.EntryLaws.{EntriesFit, length-entries, entries_back}
@@ -43,9 +42,7 @@ module _ (own last time : ℕ) (r : Row) (e : sound own last r ≡ true) where
   rule = ((and-eq-true_iff (row_rule own last r) (modest r)).0 e).0
 
   small : (r.quality ≤ 255) × (r.time < 0x100000000)
-  small =
-      let (quality, stored) = (and-eq-true_iff (leb r.quality 255) (ltb r.time 0x100000000)).0 ((and-eq-true_iff (row_rule own last r) (modest r)).0 e).1 in
-      (leb-true r.quality 255 quality, ltb-true r.time 0x100000000 stored)
+  small = (grind (arith, e), grind (arith, e))
 
   hops-within : (leb 1 r.hops ≡ true) × (leb r.hops 16 ≡ true)
   hops-within = (and-eq-true_iff (leb 1 r.hops) (leb r.hops 16)).0 (ruled own last r rule).hops
@@ -67,26 +64,18 @@ module _ (own last time : ℕ) (r : Row) (e : sound own last r ≡ true) where
   unfolding entry_for
   entry_ruled =
       let k = ruled own last r rule in
-      rw (k.destination, k.hop) (go (usable time r))
-    where
-      go : (b : Bool) → (leb 1 (cond b r.hops 255) && leb (cond b r.hops 255) 16 || eqb (cond b r.hops 255) 255) ≡ true
-      go true = rw (hops-within.0, hops-within.1)
-      go false = refl
+      grind (arith, k.destination, k.hop, hops-within)
 
 module _ (own last time : ℕ) where
   entries_fit : (rs : List Row) → every (sound own last) rs ≡ true → EntriesFit (map (entry_for time) rs)
   unfolding every
   entries_fit [] e = tt
-  entries_fit (r ∷ rs) e =
-      let (e₀, e₁) = (and-eq-true_iff (sound own last r) (every (sound own last) rs)).0 e in
-      (entry-fits own last time r e₀, entries_fit rs e₁)
+  entries_fit (r ∷ rs) e = (entry-fits own last time r (grind (arith, e)), entries_fit rs (grind (arith, e)))
 
   entries_ruled : (rs : List Row) → every (sound own last) rs ≡ true → every entry_rule (map (entry_for time) rs) ≡ true
   unfolding every
   entries_ruled [] e = refl
-  entries_ruled (r ∷ rs) e =
-      let (e₀, e₁) = (and-eq-true_iff (sound own last r) (every (sound own last) rs)).0 e in
-      rw (entry_ruled own last time r e₀) (entries_ruled rs e₁)
+  entries_ruled (r ∷ rs) e = grind (arith, e, entry_ruled own last time r, entries_ruled rs)
 
 -- ---- an update with these rows
 module _ (own last time : ℕ) (a : address own ≡ true) (h : time < 0x100000000) (rs : List Row) (few : length rs ≤ 24)
@@ -111,9 +100,6 @@ module _ (own last time : ℕ) (a : address own ≡ true) (h : time < 0x10000000
 
   good : update.rule values (entries_bytes es) ≡ true
   good = rw (a, back) (entries_ruled own last time rs e)
-
-  short : 9 + 10 * length rs ≤ 255
-  short = omega (arith, few)
 
   read : (read_frame frame ≡ accepted (0x31 ∷ values)) × (part_in update frame ≡ entries_bytes es)
   read = frame-read update an_update values (entries_bytes es) fits part-size (omega (arith, few)) good
@@ -154,9 +140,7 @@ module _ (t : Table) (p time : ℕ) (out : List ℕ) (z : Sized t) (h : time < 0
     pub room : length (page_frame t p time) ≤ length out
 
   known : Known
-  known =
-      let none = none-holds (page_reasons t p time (length out)) _ e in
-      record { right = not-false (within_rule t) none.0; room = ltb-false (length out) (length (page_frame t p time)) none.1.1.1.0 }
+  known = record { right = grind (arith, e); room = grind (arith, e) }
 
   rows_sound : every (sound t.own t.time) rows ≡ true
   rows_sound =

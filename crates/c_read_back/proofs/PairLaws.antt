@@ -1,12 +1,12 @@
 -- The two calls on frames, one after the other.
 -- Assumes nothing.
-use Rattle.octets.proofs.Words.{◌≡◌, refl, sym, ap, ap₂, subst, ◌∙◌, Bool, true, ◌&&◌, and-eq-true_iff, List, [], ◌∷◌, ◌++◌, append-nil, Memᴰ, ℕ, ◌+◌, ◌≤◌, ◌<◌, ◌-◌, ℕ_discrete, arith, eqb-true, le-ltb, lt-ltb, ltb-false, not-false, ne_eqb, ltb, length, get_or, take, drop, length-append, get_or-append, sets, sets-eq}
-use Rattle.octets.specs.Answers.{Said, accepted, reason, refusing}
+use Rattle.octets.proofs.Words.{◌≡◌, refl, sym, ap, ap₂, subst, ◌∙◌, Bool, true, ◌&&◌, and-eq-true_iff, List, [], ◌∷◌, ◌++◌, append-nil, Memᴰ, ℕ, ◌+◌, ◌≤◌, ◌-◌, arith, le-ltb, length, get_or, take, drop, length-append, get_or-append, sets, sets-eq}
+use Rattle.octets.specs.Answers.{Said, accepted}
 use Rattle.octets.specs.Calls.{after, WriteLeft, write_left}
 use Rattle.octets.specs.Layouts.{Fit, Bytes}
 use Rattle.octets.specs.Numbers.{num}
 use Rattle.octets.specs.Told.{Wrote, written_in}
-use Rattle.octets.proofs.AnswerLaws.{unless-number, refusing_numbered, none-holds}
+use Rattle.octets.proofs.AnswerLaws.{unless-number}
 use Rattle.octets.proofs.CallLaws.{after-accepted}
 use Rattle.octets.proofs.LayoutLaws.{length_fields}
 use Rattle.octets.proofs.StoreLaws.{take-sets}
@@ -36,10 +36,7 @@ module _ (s fields : List ℕ) (place extent : ℕ) (z : (read_call s fields pla
 
   none : ((read_frame s).refusal ≡ 0) × (length (read_frame s).values ≤ length fields)
   unfolding show_refusal
-  none =
-      let n = (read_frame s).refusal in
-      let k = none-holds (refusing n ∷ reason (ltb (length fields) (length (read_frame s).values)) 5 ∷ []) (refusing_numbered n, _) accepts in
-      (eqb-true n 0 (not-false _ k.0), ltb-false (length fields) (length (read_frame s).values) k.1.0)
+  none = (grind (arith, accepts), grind (arith, accepts))
 
   numbers_are : (read_call s fields place extent).fields ≡ sets fields 0 (read_frame s).values
   unfolding read_call shown
@@ -120,10 +117,7 @@ module _ (ns more : List ℕ) where
 
   fitting-first : (ws : List ℕ) (i : ℕ) → i + length ws ≤ length ns → fitting ws (ns ++ more) i ≡ fitting ws ns i
   fitting-first [] i h = refl
-  fitting-first (w ∷ ws) i h =
-      let here : i < length ns = omega (arith, h) in
-      let there : i < length (ns ++ more) = omega (arith, h, length-append ns more) in
-      rw (lt-ltb i (length (ns ++ more)) there, lt-ltb i (length ns) here, get_or-append ns more 0 i here, fitting-first ws (i + 1) (omega (arith, h)))
+  fitting-first (w ∷ ws) i h = grind (arith, h, length-append ns more, get_or-append ns more 0 i, fitting-first ws (i + 1))
 
 pub surplus_ignored : SurplusIgnored
 unfolding write_call
@@ -141,13 +135,9 @@ surplus_ignored k m ns more part out written c h =
 -- given room for all numbers, a frame is shown as it is read
 shown_as_read : (s : List ℕ) (room : ℕ) → most_numbers ≤ room → show_refusal s room ≡ (read_frame s).refusal
 unfolding show_refusal
-shown_as_read s room h = go (ℕ_discrete (read_frame s).refusal 0)
-  where
-    go : Dec ((read_frame s).refusal ≡ 0) → show_refusal s room ≡ (read_frame s).refusal
-    go (yes z) =
-        let few : length (read_frame s).values ≤ room = omega (arith, ap length (values-read s z), length_fields (widths_of (num 1 s 0)) s 0, widths-few (num 1 s 0), h) in
-        rw (z, le-ltb room (length (read_frame s).values) few)
-    go (no z) = rw (ne_eqb (read_frame s).refusal 0 z)
+shown_as_read s room h =
+    let few : (read_frame s).refusal ≡ 0 → length (read_frame s).values ≤ room = λ z. omega (arith, ap length (values-read s z), length_fields (widths_of (num 1 s 0)) s 0, widths-few (num 1 s 0), h) in
+    grind (arith, few)
 
 pub written_alike : WrittenAlike
 unfolding write_call read_call writing write_refusal

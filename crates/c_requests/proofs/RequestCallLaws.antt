@@ -1,8 +1,11 @@
 -- The calls on a request to join and on one for slots, from what the core answers.
 -- Assumes nothing.
-use Rattle.octets.proofs.Words.{◌≡◌, ap, ◌∙◌, List, ℕ, ◌≤◌, arith, eq-eqb, ne_eqb, eqb, length}
+use Rattle.std.proofs.Common.{Result, Ok, Err, IfOk}
+use Rattle.octets.proofs.Words.{◌≡◌, refl, sym, ap, ◌∙◌, List, ℕ, ℕ_discrete, ◌≤◌, arith, eq-eqb, ne_eqb, eqb, length, sets}
 use Rattle.octets.specs.Calls.{after}
-use Rattle.octets.proofs.CallLaws.{after-refused, WrittenBack, filled}
+use Rattle.octets.proofs.CallLaws.{after-refused}
+use Rattle.octets.proofs.StoreLaws.{sets-whole}
+use Rattle.octets.specs.declared.refusals.Refusal.{Refusal}
 use Rattle.octets.proofs.TestLaws.{of_choice}
 use Rattle.slot_sets.specs.Sets.{Slots}
 use Rattle.slot_sets.proofs.CountLaws.{count_fits}
@@ -34,19 +37,35 @@ module _ (b : Contents) (frame : List ℕ) (time : ℕ) (out : List ℕ) where
   unfolding ask_of
   ask_short_lem = grants_short _ b _ time _ _ out
 
-pub few-written : (out : List ℕ) (a : Answered) → Short out a → (g : Granted) (held : List ℕ) → answered_by g held ≡ a → g.written ≤ 845
-few-written out a h g held e = omega (arith, ap (λ (x : Answered). x.written) e, h.written)
+pub few-written : (out : List ℕ) (a : Answered) → Short out a → (b : Contents) (next : Result Granted Refusal) (held : List ℕ) → answered_by b next held ≡ a → IfOk next (λ g. g.written ≤ 845)
+few-written out a h b (Ok g) held e = omega (arith, ap (λ (x : Answered). x.written) e, h.written)
+few-written out a h b (Err r) held e = tt
+
+-- what is granted, written where the book is
+pub stored : (b : Contents) (held s last : List ℕ) (written : ℕ) (next : Result Granted Refusal) (g : Granted) → next ≡ Ok g → length s ≡ book_size → length (bytes_of_book (contents g.book)) ≡ book_size
+    → last ≡ sets s 0 (bytes_of_book (contents g.book)) → let a = answered_by b next held in
+    request_left 0 last held g.written ≡ request_left a.refused (after a.refused s (bytes_of_book a.book)) held (after a.refused written a.written)
+stored b held s last written next g e l r p =
+    rw (e, p, sets-whole s (bytes_of_book (contents g.book)) (r ∙ sym l))
+
+same_held : (b : Contents) (next : Result Granted Refusal) (held : List ℕ) → held ≡ (answered_by b next held).held
+same_held b (Ok g) held = refl
+same_held b (Err r) held = refl
 
 -- ---- what a call leaves whose answer is `a`
 module _ (s out : List ℕ) (written : ℕ) (a : Answered) where
   pub no_book_lem : (length s ≡ book_size → ⊥) → request_left 14 s out written ≡ answered_to s out written a
   no_book_lem e = rw (ne_eqb (length s) book_size e)
 
-  -- the last two facts are what `settle` ensures
-  pub settled : Short out a → (g : Granted) (held : List ℕ) → answered_by g held ≡ a → (last : List ℕ) (status said : ℕ) → length s ≡ book_size
-      → WrittenBack book_size s last status g.refused (bytes_of_book (contents g.book)) → said ≡ after g.refused written g.written
+  -- the last fact is what `settle` ensures
+  pub settled : Short out a → (b : Contents) (next : Result Granted Refusal) (held : List ℕ) → answered_by b next held ≡ a → length s ≡ book_size
+      → (last : List ℕ) (status said : ℕ) → let g = answered_by b next held in
+      request_left status last held said ≡ request_left g.refused (after g.refused s (bytes_of_book g.book)) held (after g.refused written g.written)
       → request_left status last held said ≡ answered_to s out written a
-  settled h g held e last status said l w q =
-      let kept : (g.refused ≡ 0 → ⊥) → held ≡ out = λ z. ap (λ (x : Answered). x.held) e ∙ h.kept (λ y. z (ap (λ (x : Answered). x.refused) e ∙ y)) in
-      rw (← e) (filled request_left s out written (eqb (length s) book_size) book_size last held status g.refused (bytes_of_book (contents g.book)) g.written
-      (eq-eqb (length s) book_size l) l w kept said q)
+  settled h b next held e l last status said w =
+      let kept : held ≡ after a.refused out a.held = by_cases (ℕ_discrete a.refused 0) in
+      w ∙ rw (e, eq-eqb (length s) book_size l, kept)
+    where
+      by_cases : Dec (a.refused ≡ 0) → held ≡ after a.refused out a.held
+      by_cases (yes z) = same_held b next held ∙ (ap (λ (x : Answered). x.held) e ∙ rw z)
+      by_cases (no z) = same_held b next held ∙ (ap (λ (x : Answered). x.held) e ∙ (h.kept z ∙ rw (ne_eqb a.refused 0 z)))

@@ -1,9 +1,10 @@
 // Frames that a manager answers over a book of 308 bytes: a request to join, and a request for slots. Bytes of another number are found out before
 // anything is written.
-ghost use Rattle.std.specs.Prelude.{◌≡◌, length, ◌≤◌};
-ghost use Rattle.std.proofs.lemmas.List.Edits.{sets};
+ghost use Rattle.std.specs.Prelude.{◌≡◌, ◌≤◌, List, ℕ, IfOk, length};
 ghost use Rattle.octets.specs.Calls.{after};
-ghost use Rattle.book.specs.Books.{contents};
+ghost use Rattle.octets.specs.Refusals.{status_of};
+ghost use Rattle.book.specs.Books.{Contents};
+ghost use Rattle.book_joins.specs.Joins.{answered_by};
 ghost use Rattle.book_bytes.specs.BookBytes.{book_size, bytes_of_book};
 ghost use Rattle.c_requests.specs.RequestCalls.{request_left, join_call, slot_request_call};
 
@@ -11,20 +12,22 @@ use book_bytes::books::{BOOK_SIZE, book_of, write_back};
 use book_joins::asking::ask;
 use book_joins::grants::Granted;
 use book_joins::joining::join;
-use octets::answers::Refusal;
+use octets::refusals::{Refusal, status};
 
 // The end of both calls: unless something refuses it, the book goes to its buffer, and the number of bytes written to the caller.
-fn settle(book: &mut [u8], granted: Granted, written: &mut u32) -> u8
-    requires { granted.written ≤ 845 }
-    ensures { (result ≡ granted.refused) × (book.new ≡ after granted.refused book.old (sets book.old 0 (bytes_of_book (contents granted.book)))) × (written.new ≡ after granted.refused written.old granted.written) × (granted.refused ≡ 0 → length (bytes_of_book (contents granted.book)) ≡ book_size) }
+fn settle(
+    book: &mut [u8],
+    granted: Result<Granted, Refusal>,
+    written: &mut u32,
+) -> Result<(), Refusal>
+    requires size { length book.old ≡ book_size }
+    requires short { IfOk granted (λ g. g.written ≤ 845) }
+    ensures { (b : Contents) (held : List ℕ) → let a = answered_by b granted held in
+        request_left (status_of result) book.new held written.new ≡ request_left a.refused (after a.refused book.old (bytes_of_book a.book)) held (after a.refused written.old a.written) }
 {
-    let next = granted.book;
-    let status = write_back(book, granted.refused, next);
-    if status != 0 {
-        return status;
-    }
+    let granted = granted?;
     *written = granted.written as u32;
-    0
+    write_back(book, Ok(granted.book))
 }
 
 // Lets a unit join, writes a response for each of its slots, and says how many bytes they have.
@@ -38,10 +41,10 @@ pub fn braidlark_join(
     ensures { request_left result book.new out.new written.new ≡ join_call book.old frame.now time out.old written.old }
 {
     if book.len() != BOOK_SIZE {
-        return Refusal::RULE;
+        return Refusal::Rule.number();
     }
     let granted = join(book_of(&book[..]), frame, time, out);
-    settle(book, granted, written)
+    status(settle(book, granted, written))
 }
 
 // Brings a member's slots to what it asks for, as far as there are spare ones, and answers as a join does.
@@ -55,8 +58,8 @@ pub fn braidlark_slot_request(
     ensures { request_left result book.new out.new written.new ≡ slot_request_call book.old frame.now time out.old written.old }
 {
     if book.len() != BOOK_SIZE {
-        return Refusal::RULE;
+        return Refusal::Rule.number();
     }
     let brought = ask(book_of(&book[..]), frame, time, out);
-    settle(book, brought, written)
+    status(settle(book, brought, written))
 }

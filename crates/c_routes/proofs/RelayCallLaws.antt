@@ -1,12 +1,15 @@
 -- The calls on frames that go on, from what the core answers.
 -- Assumes nothing.
-use Rattle.octets.proofs.Words.{◌≡◌, sym, ap, ◌∙◌, Bool, true, false, cond, List, ℕ, ◌≤◌, arith, ne_eqb}
+use Rattle.octets.proofs.Words.{◌≡◌, refl, sym, ap, ◌∙◌, Bool, true, false, cond, List, ℕ, ◌≤◌, arith, ne_eqb}
 use Rattle.octets.specs.Calls.{after}
 use Rattle.frame_kinds.specs.Shape.{place_of}
 use Rattle.frame_traffic.specs.Traffic.{data_kind}
-use Rattle.route_forwards.specs.declared.forwarding.ForwardedIn.{ForwardedIn}
-use Rattle.route_relays.specs.declared.relaying.Relayed.{Relayed}
-use Rattle.route_forwards.specs.Forwards.{ForwardLeft, forward_left, forward_call}
+use Rattle.std.specs.Prelude.{Ok, Err}
+use Rattle.octets.specs.Refusals.{number_of}
+use Rattle.octets.specs.declared.refusals.Refusal.{Refusal}
+use Rattle.octets.proofs.RefusalLaws.{refusal_some}
+use Rattle.route_relays.specs.Outcomes.{Relayed}
+use Rattle.route_forwards.specs.Forwards.{ForwardLeft, forward_left, forwarded_in, forward_call}
 use Rattle.route_relays.specs.Relays.{Relaying, relay_of, relay_in, relayed, unwritten}
 use Rattle.route_relays.proofs.RelayLaws.{relay-kept, relay_short}
 use Rattle.route_bytes.specs.TableBytes.{table_in, is_table}
@@ -50,18 +53,22 @@ module _ (s frame : List ℕ) (time least : ℕ) (out : List ℕ) (next_hop plac
       go false q = ap (λ (x : Relaying). relay_left x.answer.refused x.held next_hop place extent left) q
 
 -- ---- forwarding: the call on the bytes says no number where it is refused
-module _ (s : List ℕ) (network manager : ℕ) (frame : List ℕ) (delay time : ℕ) (out : List ℕ) (written : ℕ) (a : ForwardedIn) (last held : List ℕ)
-    (e : forward_left a.refused last held a.written ≡ forward_call s network manager frame delay time out 0) where
-  status : a.refused ≡ (forward_call s network manager frame delay time out written).status
-  unfolding forward_call
-  status = ap (λ (x : ForwardLeft). x.status) e
+module _ (s : List ℕ) (network manager : ℕ) (frame : List ℕ) (delay time : ℕ) (out : List ℕ) (written : ℕ) (last held : List ℕ) where
+  abbrev call : ForwardLeft
+  call = forward_call s network manager frame delay time out written
 
-  pub unforwarded : (a.refused ≡ 0 → ⊥) → forward_left a.refused last held written ≡ forward_call s network manager frame delay time out written
+  same-status : (forward_call s network manager frame delay time out 0).status ≡ call.status
   unfolding forward_call
-  unforwarded z =
-      rw (ap (λ (x : ForwardLeft). x.table) e, ap (λ (x : ForwardLeft). x.out) e, ← status, ne_eqb a.refused 0 z)
+  same-status = refl
 
-  pub forwarded : a.refused ≡ 0 → forward_left 0 last held a.written ≡ forward_call s network manager frame delay time out written
+  pub unforwarded : (r : Refusal) → forwarded_in (Err r) last held ≡ forward_call s network manager frame delay time out 0 → forward_left (number_of r) last held written ≡ call
   unfolding forward_call
-  forwarded z =
-      rw (ap (λ (x : ForwardLeft). x.table) e, ap (λ (x : ForwardLeft). x.out) e, ap (λ (x : ForwardLeft). x.written) e, ← status, z)
+  unforwarded r e =
+      let n : number_of r ≡ call.status = ap (λ (x : ForwardLeft). x.status) e ∙ same-status in
+      rw (ap (λ (x : ForwardLeft). x.table) e, ap (λ (x : ForwardLeft). x.out) e, ← n, ne_eqb (number_of r) 0 (refusal_some r))
+
+  pub forwarded : (size : ℕ) → forwarded_in (Ok size) last held ≡ forward_call s network manager frame delay time out 0 → forward_left 0 last held size ≡ call
+  unfolding forward_call
+  forwarded size e =
+      let n : 0 ≡ call.status = ap (λ (x : ForwardLeft). x.status) e ∙ same-status in
+      rw (ap (λ (x : ForwardLeft). x.table) e, ap (λ (x : ForwardLeft). x.out) e, ap (λ (x : ForwardLeft). x.written) e, ← n)

@@ -1,13 +1,16 @@
 -- The calls on a stored table, from what the core answers.
 -- Assumes nothing.
-use Rattle.octets.proofs.Words.{◌≡◌, sym, ap, ◌∙◌, Bool, true, false, not, cond, List, [], ℕ, arith, eq-eqb, ne_eqb, eqb-true, eqb, length}
-use Rattle.octets.specs.Calls.{stored, after}
-use Rattle.octets.proofs.CallLaws.{stored-none, stored-number}
-use Rattle.route_table.specs.declared.table.Changed.{Changed}
-use Rattle.route_table.specs.declared.table.Found.{Found}
+use Rattle.octets.proofs.Words.{◌≡◌, sym, ap, Bool, true, false, cond, List, [], ℕ, arith, eq-eqb, ne_eqb, length}
+use Rattle.std.specs.Prelude.{Ok, Err}
+use Rattle.octets.specs.Refusals.{number_of}
+use Rattle.octets.specs.declared.refusals.Refusal.{Refusal}
+use Rattle.octets.proofs.RefusalLaws.{refusal_some}
+use Rattle.route_table.specs.declared.table.Table.{Table}
+use Rattle.octets.specs.Calls.{after}
+use Rattle.route_table.specs.Outcomes.{Changed, changed, Found}
 use Rattle.route_table.specs.declared.table.Head.{Head}
 use Rattle.route_table.specs.Rows.{pad, none}
-use Rattle.route_table.specs.Tables.{head_of, table_of, fresh_of, lookup_of, found_or}
+use Rattle.route_table.specs.Tables.{head_of, table_of, empty_table, fresh_of, lookup_of, found_or}
 use Rattle.route_bytes.specs.StoredTables.{table_left}
 use Rattle.route_bytes.specs.TableBytes.{table_in, table_bytes, table_over, is_table}
 use Rattle.route_in_place.specs.Lookups.{lookup_in}
@@ -39,22 +42,25 @@ module _ (destination time next_hop hops left : ℕ) (s : List ℕ) (found : Fou
       go true q = rw (← q, ne_eqb found.refused 0 z)
       go false q = ap (λ (f : Found). lookup_left f.refused next_hop hops left) q
 
--- ---- a fresh table
-module _ (s : List ℕ) (own time : ℕ) (fresh : Changed) (e : fresh ≡ fresh_of own time) (n : ℕ) (f : n ≡ cond (not (eqb (length s) 539)) 14 fresh.refused) where
-  status : n ≡ stored 539 s (fresh_of own time).refused
-  status = f ∙ rw e (stored-number 539 s (fresh_of own time).refused)
+-- ---- a fresh table, over as many bytes as it has
+pub fresh-short : (s : List ℕ) (own time : ℕ) → (length s ≡ 539 → ⊥) → table_left 14 s ≡ fresh_call s own time
+unfolding fresh_call
+fresh-short s own time z = rw (ne_eqb (length s) 539 z)
 
-  pub fresh-refused : (n ≡ 0 → ⊥) → table_left n s ≡ fresh_call s own time
+module _ (s : List ℕ) (own time : ℕ) (long : length s ≡ 539) where
+  pub fresh-refused : (r : Refusal) → changed (empty_table 0 0) (Err r) ≡ fresh_of own time → table_left (number_of r) s ≡ fresh_call s own time
   unfolding fresh_call
-  fresh-refused z = rw (← status, ne_eqb n 0 z)
+  fresh-refused r e = rw (eq-eqb (length s) 539 long, ← e, ne_eqb (number_of r) 0 (refusal_some r))
 
   -- it has no rows
-  fresh_over : length s ≡ 539 → (fresh_of own time).refused ≡ 0 → table_over s (table_of (head_of (fresh_of own time).table) []) ≡ table_bytes (fresh_of own time).table
+  fresh_over : (fresh_of own time).refused ≡ 0 → table_over s (table_of (head_of (fresh_of own time).table) []) ≡ table_bytes (fresh_of own time).table
   unfolding table_over fresh_of pad
-  fresh_over long none = rw (eq-eqb (length s) 539 long, none)
+  fresh_over none = rw (eq-eqb (length s) 539 long, none)
 
-  pub fresh-written : n ≡ 0 → (h : Head) → h ≡ head_of fresh.table → (last : List ℕ) → last ≡ table_over s (table_of h []) → table_left 0 last ≡ fresh_call s own time
+  pub fresh-written : (t : Table) → changed (empty_table 0 0) (Ok t) ≡ fresh_of own time → (h : Head) → h ≡ head_of t → (last : List ℕ) → last ≡ table_over s (table_of h [])
+      → table_left 0 last ≡ fresh_call s own time
   unfolding fresh_call
-  fresh-written z h q last l =
-      let (long, none) = stored-none (eqb (length s) 539) (fresh_of own time).refused (sym status ∙ z) in
-      rw (l, q, e, fresh_over (eqb-true (length s) 539 long) none, long, none)
+  fresh-written t e h q last l =
+      let none : (fresh_of own time).refused ≡ 0 = ap (λ (x : Changed). x.refused) (sym e) in
+      let new : t ≡ (fresh_of own time).table = ap (λ (x : Changed). x.table) e in
+      rw (l, q, new, fresh_over none, eq-eqb (length s) 539 long, none)

@@ -3,7 +3,7 @@ ghost use Rattle.std.specs.Prelude.{◌≡◌};
 ghost use Rattle.route_bytes.specs.StoredTables.{table_left};
 ghost use Rattle.c_routes.specs.TableCalls.{fresh_call, forget_call, lookup_left, lookup_call};
 
-use octets::answers::{Refusal, refuse_if};
+use octets::refusals::{Refusal, status};
 use route_bytes::tables::put_empty;
 use route_in_place::changing::forget;
 use route_in_place::finding::lookup;
@@ -13,14 +13,16 @@ use route_table::table::Table;
 pub fn braidlark_table_fresh(table: &mut [u8], own: u16, time: u32) -> u8
     ensures { table_left result table.new ≡ fresh_call table.old own time }
 {
-    let fresh = Table::fresh(own, time);
-    let refused = refuse_if(table.len() != 539, Refusal::RULE, fresh.refused);
-    if refused != 0 {
-        return refused;
+    if table.len() != 539 {
+        return Refusal::Rule.number();
     }
-    let next = fresh.table;
-    put_empty(table, next.head());
-    0
+    match Table::fresh(own, time) {
+        Ok(fresh) => {
+            put_empty(table, fresh.head());
+            0
+        }
+        Err(refusal) => refusal.number(),
+    }
 }
 
 // Answers the next hop to a destination, how many hops it is away, and for how many ms more the route is usable.
@@ -34,19 +36,20 @@ pub fn braidlark_lookup(
 ) -> u8
     ensures { lookup_left result next_hop.new hops.new left.new ≡ lookup_call table.now destination time next_hop.old hops.old left.old }
 {
-    let found = lookup(table, destination, time);
-    if found.refused != 0 {
-        return found.refused;
+    match lookup(table, destination, time) {
+        Ok(route) => {
+            *next_hop = route.next_hop;
+            *hops = route.hops;
+            *left = route.left;
+            0
+        }
+        Err(refusal) => refusal.number(),
     }
-    *next_hop = found.next_hop;
-    *hops = found.hops;
-    *left = found.left;
-    0
 }
 
 // Withdraws all usable rows to a unit or through it.
 pub fn braidlark_forget(table: &mut [u8], unit: u16, time: u32) -> u8
     ensures { table_left result table.new ≡ forget_call table.old unit time }
 {
-    forget(table, unit, time)
+    status(forget(table, unit, time))
 }

@@ -4,7 +4,6 @@ ghost use Rattle.octets.specs.Calls.{write_left};
 ghost use Rattle.route_merges.specs.StoredMerges.{merge_left, merge_call};
 ghost use Rattle.c_routes.specs.UpdateCalls.{page_call};
 
-use octets::answers::Written;
 use route_merges::stored::merge_in;
 use route_pages::stored::page_in;
 
@@ -19,13 +18,14 @@ pub fn braidlark_merge(
 ) -> u8
     ensures { merge_left result table.new skipped.new compared.new ≡ merge_call table.old frame.now quality time skipped.old compared.old }
 {
-    let merged = merge_in(table, frame, quality, time);
-    if merged.refused != 0 {
-        return merged.refused;
+    match merge_in(table, frame, quality, time) {
+        Ok(tally) => {
+            *skipped = tally.skipped;
+            *compared = tally.compared;
+            0
+        }
+        Err(refusal) => refusal.number(),
     }
-    *skipped = merged.skipped;
-    *compared = merged.compared;
-    0
 }
 
 // Writes a page of this unit's own update, and says how many bytes it has.
@@ -33,10 +33,10 @@ pub fn braidlark_page(table: &[u8], page: u32, time: u32, out: &mut [u8], writte
     ensures { write_left result out.new written.new ≡ page_call table.now page time out.old written.old }
 {
     match page_in(table, page, time, out) {
-        Written::Done(size) => {
+        Ok(size) => {
             *written = size as u32;
             0
         }
-        Written::Refused(refusal) => refusal.number,
+        Err(refusal) => refusal.number(),
     }
 }

@@ -6,7 +6,7 @@ use Rattle.octets.specs.Calls.{after}
 use Rattle.site_plan.specs.PlanBytes.{plan_size, plan_at}
 use Rattle.site_sheet.specs.SheetBytes.{row_size, link_size, sheet_in, links_in}
 use Rattle.site_sheet.specs.Verdicts.{check_sheet}
-use Rattle.c_sheet.specs.declared.sheet_calls.Finding.{Finding}
+use Rattle.c_sheet.specs.Outcomes.{Finding}
 
 -- the status, how many units are named, and these
 pub record SheetLeft : Type 0 where

@@ -2,7 +2,7 @@
 -- Assumes nothing.
 use Rattle.std.specs.Prelude.{ℕ, List}
 use Rattle.octets.specs.Calls.{after, stored}
-use Rattle.unit_life.specs.declared.state.Lived.{Lived}
+use Rattle.unit_life.specs.Outcomes.{Lived}
 use Rattle.unit_life.specs.Calls.{fresh_state, on_event, on_tick}
 use Rattle.unit_life.specs.StateBytes.{state_size, state_in, state_over}
 

@@ -3,9 +3,11 @@ ghost use Rattle.std.specs.Prelude.{◌≡◌};
 ghost use Rattle.unit_choice.specs.Choices.{heard};
 ghost use Rattle.c_unit.specs.FollowCalls.{follow_left, follow_call};
 
+use crate::answers::answer;
 use unit_choice::choosing::choose;
 
 // Says which of the two is to be followed by a unit of this network, 0 or 1.
+#[tactic(auto, unfolding(crate::specs::FollowCalls::follow_call))]
 pub fn braidlark_follow(
     first: &[u8],
     first_quality: u8,
@@ -17,9 +19,5 @@ pub fn braidlark_follow(
     ensures { follow_left result which.new ≡ follow_call (heard first.now first_quality) (heard second.now second_quality) network which.old }
 {
     let chosen = choose(network, first, first_quality, second, second_quality);
-    if chosen.refused != 0 {
-        return chosen.refused;
-    }
-    *which = chosen.which;
-    0
+    answer(which, chosen.map(|chosen| chosen as u8))
 }

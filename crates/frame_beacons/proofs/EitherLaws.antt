@@ -1,8 +1,7 @@
 -- A beacon of either kind, from what its own kind says.
 -- Assumes nothing.
-use Rattle.octets.proofs.Words.{◌≡◌, ap, Bool, true, false, not, cond, List, [], ◌∷◌, ℕ, ◌<◌, arith, eqb}
-use Rattle.octets.specs.Addresses as rules
-use Rattle.octets.specs.Answers.{reason, refusing, first}
+use Rattle.octets.proofs.Words.{◌≡◌, ap, Bool, true, false, cond, List, ℕ, ◌<◌, arith, eqb}
+use Rattle.octets.specs.Answers.{refusing}
 use Rattle.octets.proofs.AnswerLaws.{Where}
 use Rattle.octets.specs.Layouts.{Bytes}
 use Rattle.octets.specs.Numbers.{num}
@@ -14,7 +13,7 @@ use Rattle.frame_beacons.specs.declared.beacon.Beacon.{Beacon}
 use Rattle.frame_beacons.specs.declared.short.ShortBeacon.{ShortBeacon}
 use Rattle.frame_beacons.specs.Beacons.{beacon, beacon_values, beacon_from}
 use Rattle.frame_beacons.specs.ShortBeacons.{short_beacon, short_beacon_values, short_beacon_from}
-use Rattle.frame_beacons.specs.EitherBeacons.{of_beacon, of_short, beacon_in, short_in, is_short, beacon_kind, either_refusal, either_in, refusal_for}
+use Rattle.frame_beacons.specs.EitherBeacons.{of_beacon, of_short, beacon_in, short_in, is_short, beacon_kind, either_refusal, either_in}
 
 module _ (s : List ℕ) where
   pub short_refused : is_short s ≡ true → refusal_as short_beacon s ≡ either_refusal s
@@ -49,12 +48,6 @@ module _ (s : List ℕ) where
   pub beacon_hop : is_short s ≡ false → num 1 s 21 ≡ (either_in s).hop
   unfolding either_in
   beacon_hop t = rw t
-
-  -- for a unit of a network, from the network that was sent and what refuses the bytes
-  pub refused_for : (sent unread network : ℕ) → sent ≡ (either_in s).network → unread ≡ either_refusal s
-      → first (refusing unread ∷ reason (not (rules.network network)) 4 ∷ reason (not (eqb sent network)) 15 ∷ []) ≡ refusal_for network s
-  unfolding refusal_for
-  refused_for sent unread network v u = rw (v, u)
 
 -- a beacon of neither kind is never refused with 14
 pub either_never : (s : List ℕ) → Where (eqb (either_refusal s) 14) ((refusing (either_refusal s)).holds ≡ false)

@@ -5,11 +5,12 @@ ghost use Rattle.octets.specs.Layouts.{bytes};
 ghost use Rattle.frame_beacons.specs.Beacons.{beacon, beacon_values};
 ghost use Rattle.frame_kinds.specs.Shape.{values_in};
 ghost use Rattle.frame_kinds.specs.Reading.{refusal_as};
+ghost use Rattle.octets.specs.Refusals.{status_of};
 
 use frame_kinds::judging::refused;
 use octets::addresses::is_address;
-use octets::fixed::{put8, put16, put32};
-use octets::numbers::{number8, number16, number32};
+use octets::refusals::Refusal;
+use octets::stored::Stored;
 
 #[derive(Clone, Copy)]
 pub struct Beacon {
@@ -35,20 +36,20 @@ impl Beacon {
         ensures { beacon_values result ≡ values_in beacon s.now }
     {
         Beacon {
-            destination: number16(s, 1),
-            source: number16(s, 3),
-            size: number8(s, 5),
-            network: number16(s, 6),
-            superframe_number: number32(s, 8),
-            superframe_ms: number16(s, 12),
-            total_slots: number8(s, 14),
-            slot_ms: number32(s, 15),
-            original_source: number16(s, 19),
-            hop: number8(s, 21),
-            original_time: number32(s, 22),
-            delay: number32(s, 26),
-            max_hops: number8(s, 30),
-            sequence: number16(s, 31),
+            destination: u16::read(s, 1),
+            source: u16::read(s, 3),
+            size: u8::read(s, 5),
+            network: u16::read(s, 6),
+            superframe_number: u32::read(s, 8),
+            superframe_ms: u16::read(s, 12),
+            total_slots: u8::read(s, 14),
+            slot_ms: u32::read(s, 15),
+            original_source: u16::read(s, 19),
+            hop: u8::read(s, 21),
+            original_time: u32::read(s, 22),
+            delay: u32::read(s, 26),
+            max_hops: u8::read(s, 30),
+            sequence: u16::read(s, 31),
         }
     }
 
@@ -65,12 +66,13 @@ impl Beacon {
             & is_address(self.original_source)
             & ((1 <= self.max_hops) & (self.max_hops <= 10))
             & (self.hop <= self.max_hops)
-            & (self.superframe_ms as u64 == self.total_slots as u64 * self.slot_ms as u64)
+            & (u64::from(self.superframe_ms)
+                == u64::from(self.total_slots) * u64::from(self.slot_ms))
     }
 
-    // Why bytes are no frame of this kind, 0 where they are one.
-    pub fn refusal(s: &[u8]) -> u8
-        ensures { result ≡ refusal_as beacon s.now }
+    // Why bytes are no frame of this kind.
+    pub fn refusal(s: &[u8]) -> Result<(), Refusal>
+        ensures { status_of result ≡ refusal_as beacon s.now }
     {
         refused(s, 0x46, 34, Beacon::of(s).good())
     }
@@ -81,20 +83,20 @@ impl Beacon {
     {
         [
             0x46,
-            self.destination as u32,
-            self.source as u32,
-            self.size as u32,
-            self.network as u32,
+            u32::from(self.destination),
+            u32::from(self.source),
+            u32::from(self.size),
+            u32::from(self.network),
             self.superframe_number,
-            self.superframe_ms as u32,
-            self.total_slots as u32,
+            u32::from(self.superframe_ms),
+            u32::from(self.total_slots),
             self.slot_ms,
-            self.original_source as u32,
-            self.hop as u32,
+            u32::from(self.original_source),
+            u32::from(self.hop),
             self.original_time,
             self.delay,
-            self.max_hops as u32,
-            self.sequence as u32,
+            u32::from(self.max_hops),
+            u32::from(self.sequence),
         ]
     }
 
@@ -102,20 +104,20 @@ impl Beacon {
     pub fn put(self, out: &mut [u8])
         ensures { out.new ≡ sets out.old 0 (bytes (1 ∷ beacon.widths) (beacon.code ∷ beacon_values self)) }
     {
-        put8(out, 0, 0x46);
-        put16(out, 1, self.destination);
-        put16(out, 3, self.source);
-        put8(out, 5, self.size);
-        put16(out, 6, self.network);
-        put32(out, 8, self.superframe_number);
-        put16(out, 12, self.superframe_ms);
-        put8(out, 14, self.total_slots);
-        put32(out, 15, self.slot_ms);
-        put16(out, 19, self.original_source);
-        put8(out, 21, self.hop);
-        put32(out, 22, self.original_time);
-        put32(out, 26, self.delay);
-        put8(out, 30, self.max_hops);
-        put16(out, 31, self.sequence);
+        0x46u8.store(out, 0);
+        self.destination.store(out, 1);
+        self.source.store(out, 3);
+        self.size.store(out, 5);
+        self.network.store(out, 6);
+        self.superframe_number.store(out, 8);
+        self.superframe_ms.store(out, 12);
+        self.total_slots.store(out, 14);
+        self.slot_ms.store(out, 15);
+        self.original_source.store(out, 19);
+        self.hop.store(out, 21);
+        self.original_time.store(out, 22);
+        self.delay.store(out, 26);
+        self.max_hops.store(out, 30);
+        self.sequence.store(out, 31);
     }
 }

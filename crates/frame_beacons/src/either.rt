@@ -1,14 +1,16 @@
 // A beacon of either kind: what a unit that hears one needs of it, wherever it stands in the frame.
 ghost use Rattle.std.specs.Prelude.{◌≡◌, eqb};
 ghost use Rattle.octets.specs.Numbers.{num};
+ghost use Rattle.octets.specs.Refusals.{status_of};
 ghost use Rattle.frame_beacons.specs.EitherBeacons.{of_beacon, of_short, is_short, either_refusal, either_in, refusal_for};
 
 use crate::beacon::Beacon;
 use crate::short::ShortBeacon;
-use octets::answers::{Refusal, refuse_if};
-use octets::numbers::{number8, number16};
+use octets::refusals::{Refusal, refuse_if};
+use octets::stored::Stored;
 
-// `original_source` is 0 where the kind has none.
+// Kept: `original_source` is 0 where the kind has none, and `short` says which kind. The fields are public, and `of`, which docs/PROMISES.md names, promises
+// the very record that `either_in` of specs/ is. With an `Option` there, callers would still ask which kind it is: for its longest delay, and its size.
 #[derive(Clone, Copy)]
 pub struct EitherBeacon {
     pub original_time: u32,
@@ -26,38 +28,42 @@ pub struct EitherBeacon {
 pub fn is_short(s: &[u8]) -> bool
     ensures { result ≡ is_short s.now }
 {
-    number8(s, 0) == 0x47
+    u8::read(s, 0) == 0x47
 }
 
-fn of_beacon(beacon: Beacon) -> EitherBeacon
-    ensures { result ≡ of_beacon beacon }
-{
-    EitherBeacon {
-        original_time: beacon.original_time,
-        delay: beacon.delay,
-        source: beacon.source,
-        network: beacon.network,
-        original_source: beacon.original_source,
-        sequence: beacon.sequence,
-        hop: beacon.hop,
-        max_hops: beacon.max_hops,
-        short: false,
+impl From<Beacon> for EitherBeacon {
+    fn from(beacon: Beacon) -> EitherBeacon
+        ensures { result ≡ of_beacon beacon }
+    {
+        EitherBeacon {
+            original_time: beacon.original_time,
+            delay: beacon.delay,
+            source: beacon.source,
+            network: beacon.network,
+            original_source: beacon.original_source,
+            sequence: beacon.sequence,
+            hop: beacon.hop,
+            max_hops: beacon.max_hops,
+            short: false,
+        }
     }
 }
 
-fn of_short(beacon: ShortBeacon) -> EitherBeacon
-    ensures { result ≡ of_short beacon }
-{
-    EitherBeacon {
-        original_time: beacon.original_time,
-        delay: beacon.delay as u32,
-        source: beacon.source,
-        network: beacon.network,
-        original_source: 0,
-        sequence: beacon.sequence,
-        hop: beacon.hop,
-        max_hops: beacon.max_hops,
-        short: true,
+impl From<ShortBeacon> for EitherBeacon {
+    fn from(beacon: ShortBeacon) -> EitherBeacon
+        ensures { result ≡ of_short beacon }
+    {
+        EitherBeacon {
+            original_time: beacon.original_time,
+            delay: u32::from(beacon.delay),
+            source: beacon.source,
+            network: beacon.network,
+            original_source: 0,
+            sequence: beacon.sequence,
+            hop: beacon.hop,
+            max_hops: beacon.max_hops,
+            short: true,
+        }
     }
 }
 
@@ -66,18 +72,18 @@ fn network_in(s: &[u8]) -> u16
     ensures { result ≡ (either_in s.now).network }
 {
     if is_short(s) {
-        return number16(s, 3);
+        return u16::read(s, 3);
     }
-    number16(s, 6)
+    u16::read(s, 6)
 }
 
 pub fn hop_in(s: &[u8]) -> u8
     ensures { result ≡ (either_in s.now).hop }
 {
     if is_short(s) {
-        return number8(s, 8);
+        return u8::read(s, 8);
     }
-    number8(s, 21)
+    u8::read(s, 21)
 }
 
 impl EitherBeacon {
@@ -86,14 +92,14 @@ impl EitherBeacon {
         ensures { result ≡ either_in s.now }
     {
         if is_short(s) {
-            return of_short(ShortBeacon::of(s));
+            return EitherBeacon::from(ShortBeacon::of(s));
         }
-        of_beacon(Beacon::of(s))
+        EitherBeacon::from(Beacon::of(s))
     }
 
-    // Why bytes are no beacon of either kind, 0 where they are one.
-    pub fn refusal(s: &[u8]) -> u8
-        ensures { result ≡ either_refusal s.now }
+    // Why bytes are no beacon of either kind.
+    pub fn refusal(s: &[u8]) -> Result<(), Refusal>
+        ensures { status_of result ≡ either_refusal s.now }
     {
         if is_short(s) {
             return ShortBeacon::refusal(s);
@@ -101,14 +107,13 @@ impl EitherBeacon {
         Beacon::refusal(s)
     }
 
-    // Why they are none for a unit of this network, 0 where they are one.
-    pub fn refusal_for(network: u16, s: &[u8]) -> u8
-        ensures { result ≡ refusal_for network s.now }
+    // Why they are none for a unit of this network.
+    #[tactic(auto, unfolding(crate::specs::EitherBeacons::refusal_for))]
+    pub fn refusal_for(network: u16, s: &[u8]) -> Result<(), Refusal>
+        ensures { status_of result ≡ refusal_for network s.now }
     {
-        let sent = network_in(s);
-        let unread = EitherBeacon::refusal(s);
-        let refused = refuse_if(!(sent == network), Refusal::NETWORK, 0);
-        let refused = refuse_if(!(1 <= network), Refusal::FIELD, refused);
-        refuse_if(!(unread == 0), unread, refused)
+        EitherBeacon::refusal(s)?;
+        refuse_if(network == 0, Refusal::Field)?;
+        refuse_if(network_in(s) != network, Refusal::Network)
     }
 }

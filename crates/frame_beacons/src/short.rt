@@ -5,11 +5,12 @@ ghost use Rattle.octets.specs.Layouts.{bytes};
 ghost use Rattle.frame_beacons.specs.ShortBeacons.{short_beacon, short_beacon_values};
 ghost use Rattle.frame_kinds.specs.Shape.{values_in};
 ghost use Rattle.frame_kinds.specs.Reading.{refusal_as};
+ghost use Rattle.octets.specs.Refusals.{status_of};
 
 use frame_kinds::judging::refused;
 use octets::addresses::is_address;
-use octets::fixed::{put8, put16, put32};
-use octets::numbers::{number8, number16, number32};
+use octets::refusals::Refusal;
+use octets::stored::Stored;
 
 #[derive(Clone, Copy)]
 pub struct ShortBeacon {
@@ -30,15 +31,15 @@ impl ShortBeacon {
         ensures { short_beacon_values result ≡ values_in short_beacon s.now }
     {
         ShortBeacon {
-            source: number16(s, 1),
-            network: number16(s, 3),
-            total_slots: number8(s, 5),
-            slot_ms: number16(s, 6),
-            hop: number8(s, 8),
-            original_time: number32(s, 9),
-            delay: number16(s, 13),
-            max_hops: number8(s, 15),
-            sequence: number16(s, 16),
+            source: u16::read(s, 1),
+            network: u16::read(s, 3),
+            total_slots: u8::read(s, 5),
+            slot_ms: u16::read(s, 6),
+            hop: u8::read(s, 8),
+            original_time: u32::read(s, 9),
+            delay: u16::read(s, 13),
+            max_hops: u8::read(s, 15),
+            sequence: u16::read(s, 16),
         }
     }
 
@@ -54,9 +55,9 @@ impl ShortBeacon {
             & (self.hop <= self.max_hops)
     }
 
-    // Why bytes are no frame of this kind, 0 where they are one.
-    pub fn refusal(s: &[u8]) -> u8
-        ensures { result ≡ refusal_as short_beacon s.now }
+    // Why bytes are no frame of this kind.
+    pub fn refusal(s: &[u8]) -> Result<(), Refusal>
+        ensures { status_of result ≡ refusal_as short_beacon s.now }
     {
         refused(s, 0x47, 19, ShortBeacon::of(s).good())
     }
@@ -67,15 +68,15 @@ impl ShortBeacon {
     {
         [
             0x47,
-            self.source as u32,
-            self.network as u32,
-            self.total_slots as u32,
-            self.slot_ms as u32,
-            self.hop as u32,
+            u32::from(self.source),
+            u32::from(self.network),
+            u32::from(self.total_slots),
+            u32::from(self.slot_ms),
+            u32::from(self.hop),
             self.original_time,
-            self.delay as u32,
-            self.max_hops as u32,
-            self.sequence as u32,
+            u32::from(self.delay),
+            u32::from(self.max_hops),
+            u32::from(self.sequence),
         ]
     }
 
@@ -83,15 +84,15 @@ impl ShortBeacon {
     pub fn put(self, out: &mut [u8])
         ensures { out.new ≡ sets out.old 0 (bytes (1 ∷ short_beacon.widths) (short_beacon.code ∷ short_beacon_values self)) }
     {
-        put8(out, 0, 0x47);
-        put16(out, 1, self.source);
-        put16(out, 3, self.network);
-        put8(out, 5, self.total_slots);
-        put16(out, 6, self.slot_ms);
-        put8(out, 8, self.hop);
-        put32(out, 9, self.original_time);
-        put16(out, 13, self.delay);
-        put8(out, 15, self.max_hops);
-        put16(out, 16, self.sequence);
+        0x47u8.store(out, 0);
+        self.source.store(out, 1);
+        self.network.store(out, 3);
+        self.total_slots.store(out, 5);
+        self.slot_ms.store(out, 6);
+        self.hop.store(out, 8);
+        self.original_time.store(out, 9);
+        self.delay.store(out, 13);
+        self.max_hops.store(out, 15);
+        self.sequence.store(out, 16);
     }
 }

@@ -2,13 +2,14 @@
 -- Assumes nothing.
 use Rattle.octets.proofs.Words.{◌≡◌, refl, ap, ◌∙◌, List, [], ◌∷◌, map, ℕ, zero, suc, ◌+◌, arith, ne_eqb}
 use Rattle.octets.specs.Lists.{tab}
-use Rattle.octets.proofs.AnswerLaws.{one_by_return}
+use Rattle.std.specs.Prelude.{Option, Some, None}
+use Rattle.octets.proofs.RefusalLaws.{told_one}
 use Rattle.frame_kinds.specs.Shape.{part_in}
 use Rattle.frame_kinds.specs.Reading.{refusal_as}
 use Rattle.frame_traffic.specs.declared.entry.Entry.{Entry}
 use Rattle.frame_traffic.specs.Traffic.{update, entry_at, entry_from, entry_values}
-use Rattle.frame_entries.specs.declared.walking.Walked.{Walked}
-use Rattle.frame_entries.specs.Walks.{count_in, told_walked}
+use Rattle.frame_entries.specs.declared.walking.Step.{Step}
+use Rattle.frame_entries.specs.Walks.{count_in, step_values}
 use Rattle.frame_entries.specs.Laws.{met, MeetsEveryEntry, WalkedOneToOne}
 use Rattle.frame_entries.proofs.WalkLaws.{step_end, step-one}
 
@@ -29,17 +30,16 @@ module _ (s : List ℕ) (z : refusal_as update s ≡ 0) where
 pub meets_every_entry : MeetsEveryEntry
 meets_every_entry s z = meets s z (count_in s) 0 (omega arith) _ (λ i. ap (entry_at (part_in update s)) (omega arith))
 
--- the answer that says this
-walked_from : ℕ → List ℕ → Walked
-walked_from number [] = Walked.Refused (record { number = number })
-walked_from number (next ∷ []) = Walked.End
-walked_from number (next ∷ v ∷ vs) = Walked.One (record { entry = entry_from (v ∷ vs); next = next })
+-- the step that has these values
+step_from : List ℕ → Option Step
+step_from [] = None
+step_from (next ∷ []) = None
+step_from (next ∷ v ∷ vs) = Some (record { entry = entry_from (v ∷ vs); next = next })
 
-walked_back : (a : Walked) → walked_from (told_walked a).refusal (told_walked a).values ≡ a
-unfolding walked_from
-walked_back (Walked.One s) = refl
-walked_back Walked.End = refl
-walked_back (Walked.Refused r) = refl
+step_back : (a : Option Step) → step_from (step_values a) ≡ a
+unfolding step_from
+step_back (Some s) = refl
+step_back None = refl
 
 pub told_walked-one : WalkedOneToOne
-told_walked-one = one_by_return told_walked walked_from walked_back
+told_walked-one = told_one step_values step_from step_back

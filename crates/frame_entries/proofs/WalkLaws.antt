@@ -1,6 +1,7 @@
 -- A step of the walk, case by case.
 -- Assumes nothing.
-use Rattle.octets.proofs.Words.{◌≡◌, refl, sym, ap, subst, ◌∙◌, Bool, true, false, List, [], ◌∷◌, ℕ, ◌+◌, ◌≤◌, ◌<◌, arith, lt-ltb, le-ltb, ltb-true, ltb-false, eqb-true, eqb-false, eqb, ltb, length, get_or}
+use Rattle.octets.proofs.Words.{◌≡◌, refl, sym, ap, subst, ◌∙◌, Bool, true, false, List, [], ◌∷◌, ℕ, ◌+◌, ◌≤◌, ◌<◌, arith, lt-ltb, le-ltb, ltb-true, ltb-false, eqb-true, eqb-false, eqb, ltb, get_or}
+use Rattle.std.specs.Prelude.{Some}
 use Rattle.octets.specs.Answers.{Said, accepted, refused}
 use Rattle.octets.proofs.AnswerLaws.{unless-none, unless-some}
 use Rattle.frame_kinds.specs.Shape.{part_in}
@@ -9,8 +10,7 @@ use Rattle.frame_traffic.proofs.UpdateLaws.{updating}
 use Rattle.frame_traffic.specs.declared.entry.Entry.{Entry}
 use Rattle.frame_traffic.specs.Traffic.{update, entry_at, entry_values}
 use Rattle.frame_entries.specs.declared.walking.Step.{Step}
-use Rattle.frame_entries.specs.declared.walking.Walked.{Walked}
-use Rattle.frame_entries.specs.Walks.{count_in, walk_of, told_walked}
+use Rattle.frame_entries.specs.Walks.{count_in, walk_of, step_values}
 
 module _ (s : List ℕ) (position : ℕ) where
   pub step-refused : (n : ℕ) → n ≡ refusal_as update s → (n ≡ 0 → ⊥) → refused n ≡ walk_of s position
@@ -42,24 +42,13 @@ module _ (s : List ℕ) (position : ℕ) (P : Said → Type 0) where
       go true q false r = let z = eqb-true (refusal_as update s) 0 q in subst P (step_end s position z (ltb-false position (count_in s) r)) (end z)
       go false q m r = let n = eqb-false (refusal_as update s) 0 q in subst P (step-refused s position _ refl n) (none _ n)
 
--- what refuses a step is not 0
-pub unwalked : (s : List ℕ) (position n : ℕ) → refused n ≡ walk_of s position → n ≡ 0 → ⊥
-unwalked s position n =
-    by-step s position (λ said. refused n ≡ said → n ≡ 0 → ⊥)
-    (λ m z e. rw (ap (λ (said : Said). said.refusal) e) z)
-    (λ z e. absurd (empty e))
-    (λ z h e. absurd (empty e))
-  where
-    empty : {v : ℕ} {vs : List ℕ} → refused n ≡ accepted (v ∷ vs) → ⊥
-    empty e = let z : ◌≡◌ {A = ℕ} 0 _ = ap (λ (said : Said). length said.values) e in omega (arith, z)
-
 -- an update has at most 24 entries, so the position behind one is at most 24
-pub next-few : (s : List ℕ) (position : ℕ) (step : Step) → told_walked (Walked.One step) ≡ walk_of s position → step.next ≤ 24
+pub next-few : (s : List ℕ) (position : ℕ) (step : Step) → accepted (step_values (Some step)) ≡ walk_of s position → step.next ≤ 24
 next-few s position step =
-    by-step s position (λ said. told_walked (Walked.One step) ≡ said → step.next ≤ 24)
+    by-step s position (λ said. accepted (step_values (Some step)) ≡ said → step.next ≤ 24)
     (λ n z e. let next : step.next ≡ 0 = first e in omega (arith, next))
     (λ z e. let next : step.next ≡ 0 = first e in omega (arith, next))
     (λ z h e. let next : step.next ≡ position + 1 = first e in omega (arith, next, (updating s z).few, h))
   where
-    first : {said : Said} → told_walked (Walked.One step) ≡ said → step.next ≡ get_or said.values 0 0
+    first : {said : Said} → accepted (step_values (Some step)) ≡ said → step.next ≡ get_or said.values 0 0
     first e = ap (λ (said : Said). get_or said.values 0 0) e

@@ -1,11 +1,13 @@
 -- The walk over the entries of a routing update: what a step from a position answers.
 -- Assumes nothing.
-use Rattle.std.specs.Prelude.{ℕ, ◌+◌, cond, List, [], ◌∷◌, ltb, get_or, drop}
-use Rattle.octets.specs.Answers.{Said, accepted, refused, unless}
+use Rattle.std.specs.Prelude.{ℕ, ◌+◌, cond, List, [], ◌∷◌, ltb, get_or, drop, Option, Some, None, Result}
+use Rattle.octets.specs.Answers.{Said, accepted, unless}
+use Rattle.octets.specs.Refusals.{told_by}
+use Rattle.octets.specs.declared.refusals.Refusal.{Refusal}
 use Rattle.frame_kinds.specs.Shape.{values_in, part_in}
 use Rattle.frame_kinds.specs.Reading.{refusal_as}
 use Rattle.frame_traffic.specs.Traffic.{update, update_from, entry_at, entry_values}
-use Rattle.frame_entries.specs.declared.walking.Walked.{Walked}
+use Rattle.frame_entries.specs.declared.walking.Step.{Step}
 
 -- how many entries an update says that it has
 abbrev pub count_in : List ℕ → ℕ
@@ -25,8 +27,10 @@ position_in said = get_or said.values 0 0
 abbrev pub entry_in : Said → List ℕ
 entry_in said = drop 1 said.values
 
--- what each case of an answer says
-abbrev pub told_walked : Walked → Said
-told_walked (Walked.One s) = accepted (s.next ∷ entry_values s.entry)
-told_walked Walked.End = accepted (0 ∷ [])
-told_walked (Walked.Refused r) = refused r.number
+-- what a step that is not refused says, and what each case of an answer says
+abbrev pub step_values : Option Step → List ℕ
+step_values (Some s) = s.next ∷ entry_values s.entry
+step_values None = 0 ∷ []
+
+abbrev pub told_walked : Result (Option Step) Refusal → Said
+told_walked answer = told_by step_values answer

@@ -2,7 +2,8 @@
 ghost use Rattle.std.specs.Prelude.{◌≡◌};
 ghost use Rattle.frame_entries.specs.Walks.{walk_of, told_walked};
 
-use crate::walking::{Walked, entry_at};
+use crate::walking::{Step, entry_at};
+use octets::refusals::Refusal;
 
 #[derive(Drop)]
 pub struct Entries<'a> {
@@ -22,14 +23,11 @@ impl<'a> Entries<'a> {
     pub fn moved(self, position: usize) -> Entries<'a>
         ensures { (result.frame ≡ self.entry.frame) × (result.position ≡ position) }
     {
-        Entries {
-            frame: self.frame,
-            position,
-        }
+        Entries { position, ..self }
     }
 
     // The entry at the reader's position and the position behind it, or the end.
-    pub fn next(self) -> Walked
+    pub fn next(self) -> Result<Option<Step>, Refusal>
         ensures { told_walked result ≡ walk_of self.entry.frame.now self.entry.position }
     {
         entry_at(self.frame, self.position)
@@ -37,7 +35,7 @@ impl<'a> Entries<'a> {
 }
 
 // A step of the walk, for a caller that keeps bytes and position itself.
-pub fn walk(frame: &[u8], position: usize) -> Walked
+pub fn walk(frame: &[u8], position: usize) -> Result<Option<Step>, Refusal>
     ensures { told_walked result ≡ walk_of frame.now position }
 {
     Entries::of(frame).moved(position).next()

@@ -4,7 +4,7 @@ ghost use Rattle.frame_entries.specs.Walks.{walk_of, told_walked};
 
 use frame_traffic::entry::Entry;
 use frame_traffic::update::{UpdateHeader, entries};
-use octets::answers::Refusal;
+use octets::refusals::Refusal;
 
 #[derive(Drop)]
 pub struct Step {
@@ -12,29 +12,19 @@ pub struct Step {
     pub next: usize,
 }
 
-// What a step meets: an entry, the end of the update, or why the bytes are no update.
-#[derive(Drop)]
-pub enum Walked {
-    One(Step),
-    End,
-    Refused(Refusal),
-}
-
-// The step from a position, counted from 0. Nothing is kept between two steps, so each judges the frame.
-pub fn entry_at(frame: &[u8], position: usize) -> Walked
+// The step from a position, counted from 0, or none at the end of the update. Nothing is kept between two steps, so each judges the frame.
+#[tactic(auto, unfolding(crate::specs::Walks::walk_of))]
+pub fn entry_at(frame: &[u8], position: usize) -> Result<Option<Step>, Refusal>
     ensures { told_walked result ≡ walk_of frame.now position }
 {
-    let number = UpdateHeader::refusal(frame);
-    if number != 0 {
-        return Walked::Refused(Refusal { number });
-    }
+    UpdateHeader::refusal(frame)?;
     let count = UpdateHeader::of(frame).count;
     if count as usize <= position {
-        return Walked::End;
+        return Ok(None);
     }
     let entry = Entry::of(entries(frame), position as u8);
-    Walked::One(Step {
+    Ok(Some(Step {
         entry,
         next: position + 1,
-    })
+    }))
 }

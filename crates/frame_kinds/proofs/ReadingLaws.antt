@@ -1,21 +1,9 @@
--- A reader of one kind from what its parts say, and what is known of bytes that are not refused.
+-- What is known of bytes that are not refused, and of the number that refuses the others.
 -- Assumes nothing.
-use Rattle.octets.proofs.Words.{◌≡◌, refl, ap, ◌∙◌, Bool, true, false, not, ◌||◌, cond, List, ◌∷◌, ℕ, ◌≤◌, arith, eqb-true, ltb-false, eqb, ltb, length, drop, length-take, length-drop}
-use Rattle.octets.specs.Answers.{accepted, unless}
+use Rattle.octets.proofs.Words.{◌≡◌, refl, ◌∙◌, Bool, true, false, not, ◌||◌, cond, List, ℕ, ◌≤◌, arith, eqb-true, ltb-false, eqb, ltb, length, drop, length-take, length-drop}
 use Rattle.octets.specs.Numbers.{num}
-use Rattle.frame_kinds.specs.Reading.{is_sealed, read_refusal, refusal_as, read_as}
-use Rattle.frame_kinds.specs.Shape.{Kind, place_of, length_of, values_in, part_in}
-
--- the number that the shared tests give for the values of a kind is why the kind refuses
-pub refused_as : (k : Kind) (s vs : List ℕ) (n : ℕ) (good : Bool) → n ≡ read_refusal k.code (length_of k (k.extent vs)) good s
-    → good ≡ k.rule vs (part_in k s) → vs ≡ values_in k s → n ≡ refusal_as k s
-refused_as k s vs n good e g v =
-    e ∙ ap (λ (b : Bool). read_refusal k.code (length_of k (k.extent vs)) b s) g
-    ∙ ap (λ (us : List ℕ). read_refusal k.code (length_of k (k.extent us)) (k.rule us (part_in k s)) s) v
-
--- a frame of a kind unless it is refused is what reading it as that kind gives
-pub read_as_lem : (k : Kind) (s vs : List ℕ) (n : ℕ) → n ≡ refusal_as k s → vs ≡ values_in k s → unless n (accepted (k.code ∷ vs)) ≡ read_as k s
-read_as_lem k s vs n e v = rw (e, v)
+use Rattle.frame_kinds.specs.Reading.{is_sealed, read_refusal, refusal_as}
+use Rattle.frame_kinds.specs.Shape.{Kind, place_of, values_in, part_in}
 
 -- what is known of bytes that are not refused
 pub record Passed (code size : ℕ) (good : Bool) (s : List ℕ) : Type 0 where

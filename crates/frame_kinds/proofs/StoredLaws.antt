@@ -4,24 +4,30 @@ use Rattle.octets.proofs.Words.{◌≡◌, refl, sym, ap, ◌∙◌, Bool, List,
 use Rattle.octets.specs.Layouts.{total, bytes}
 use Rattle.octets.specs.Sums.{xors}
 use Rattle.octets.specs.Answers.{accepted}
-use Rattle.octets.specs.declared.answers.Written.{Written}
+use Rattle.std.specs.Prelude.{Ok, Err}
+use Rattle.octets.specs.Refusals.{number_of}
 use Rattle.octets.specs.Told.{wrote}
-use Rattle.octets.proofs.AnswerLaws.{unless-none, unless-some}
-use Rattle.octets.proofs.CallLaws.{after-accepted, after-refused}
+use Rattle.octets.specs.declared.refusals.Refusal.{Refusal}
+use Rattle.octets.proofs.AnswerLaws.{unless-some}
+use Rattle.octets.proofs.CallLaws.{after-refused}
 use Rattle.octets.proofs.LayoutLaws.{length-bytes}
 use Rattle.octets.proofs.StoreLaws.{sets_append, take-sets}
+use Rattle.octets.proofs.RefusalLaws.{refusal_some}
 use Rattle.frame_kinds.proofs.SealLaws.{length-sealed}
 use Rattle.frame_kinds.specs.Shape.{Kind, place_of, sealed, frame_of}
 use Rattle.frame_kinds.specs.Writing.{write_refusal, writing}
 
-module _ (due : ℕ) (good : Bool) (frame out : List ℕ) (n : ℕ) (e : n ≡ write_refusal due (length frame) good (length out)) where
-  pub unwritten : (n ≡ 0 → ⊥) → wrote (Written.Refused (record { number = n })) out ≡ writing due good frame out
+module _ (due : ℕ) (good : Bool) (frame out : List ℕ) where
+  pub unwritten : (r : Refusal) → number_of r ≡ write_refusal due (length frame) good (length out) → wrote (Err r) out ≡ writing due good frame out
   unfolding writing
-  unwritten h = rw (← e, unless-some n (accepted (length frame ∷ [])) h, after-refused n out (sets out 0 frame) h)
+  unwritten r e =
+      let h = refusal_some r in
+      rw (← e, unless-some (number_of r) (accepted (length frame ∷ [])) h, after-refused (number_of r) out (sets out 0 frame) h)
 
-  pub stored : (size : ℕ) (held : List ℕ) → n ≡ 0 → size ≡ length frame → held ≡ sets out 0 frame → wrote (Written.Done size) held ≡ writing due good frame out
+  pub stored : (size : ℕ) (held : List ℕ) → 0 ≡ write_refusal due (length frame) good (length out) → size ≡ length frame → held ≡ sets out 0 frame
+      → wrote (Ok size) held ≡ writing due good frame out
   unfolding writing
-  stored size held z l p = rw (← e, unless-none n (accepted (length frame ∷ [])) z, after-accepted n out (sets out 0 frame) z, l, p)
+  stored size held e l p = rw (← e, l, p)
 
 -- the numbers, the bytes behind them and the checksum, one after the other, are the frame
 module _ (ws vs part out : List ℕ) (head : ℕ) (lengths : length ws ≡ length vs) (heads : total ws ≡ head) where

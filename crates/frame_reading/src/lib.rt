@@ -1,4 +1,4 @@
-// From bytes to a frame, or to the number that refuses them.
+// From bytes to a frame, or to why they are none.
 #![tactic(auto)]
 
 pub mod numbers;

@@ -7,12 +7,13 @@ ghost use Rattle.std.proofs.lemmas.List.Edits.{sets};
 ghost use Rattle.octets.specs.Layouts.{bytes};
 ghost use Rattle.frame_requests.specs.Requests.{join_request, join_request_values, join_response, join_response_values, slot_request, slot_request_values, discovery_request, discovery_request_values, discovery_response, discovery_response_values, election, election_values};
 ghost use Rattle.frame_kinds.specs.Reading.{refusal_as};
+ghost use Rattle.octets.specs.Refusals.{status_of};
 ghost use Rattle.frame_kinds.specs.Shape.{values_in};
 
 use frame_kinds::judging::refused;
 use octets::addresses::is_address;
-use octets::fixed::{put8, put16, put32};
-use octets::numbers::{number8, number16, number32};
+use octets::refusals::Refusal;
+use octets::stored::Stored;
 
 // 0x21, the join request: a unit asks to be a member.
 #[derive(Clone, Copy)]
@@ -28,10 +29,10 @@ impl JoinRequest {
         ensures { join_request_values result ≡ values_in join_request s.now }
     {
         JoinRequest {
-            node: number16(s, 1),
-            capabilities: number8(s, 3),
-            network: number16(s, 4),
-            slots: number8(s, 6),
+            node: u16::read(s, 1),
+            capabilities: u8::read(s, 3),
+            network: u16::read(s, 4),
+            slots: u8::read(s, 6),
         }
     }
 
@@ -41,8 +42,8 @@ impl JoinRequest {
         is_address(self.node)
     }
 
-    pub fn refusal(s: &[u8]) -> u8
-        ensures { result ≡ refusal_as join_request s.now }
+    pub fn refusal(s: &[u8]) -> Result<(), Refusal>
+        ensures { status_of result ≡ refusal_as join_request s.now }
     {
         refused(s, 0x21, 8, JoinRequest::of(s).good())
     }
@@ -52,10 +53,10 @@ impl JoinRequest {
     {
         [
             0x21,
-            self.node as u32,
-            self.capabilities as u32,
-            self.network as u32,
-            self.slots as u32,
+            u32::from(self.node),
+            u32::from(self.capabilities),
+            u32::from(self.network),
+            u32::from(self.slots),
         ]
     }
 }
@@ -75,11 +76,11 @@ impl JoinResponse {
         ensures { join_response_values result ≡ values_in join_response s.now }
     {
         JoinResponse {
-            node: number16(s, 1),
-            status: number8(s, 3),
-            slot: number16(s, 4),
-            superframe_time: number32(s, 6),
-            network: number16(s, 10),
+            node: u16::read(s, 1),
+            status: u8::read(s, 3),
+            slot: u16::read(s, 4),
+            superframe_time: u32::read(s, 6),
+            network: u16::read(s, 10),
         }
     }
 
@@ -92,16 +93,22 @@ impl JoinResponse {
                 | ((self.status == 1) & (self.slot == 0xFFFF)))
     }
 
+    pub fn refusal(s: &[u8]) -> Result<(), Refusal>
+        ensures { status_of result ≡ refusal_as join_response s.now }
+    {
+        refused(s, 0x22, 13, JoinResponse::of(s).good())
+    }
+
     pub fn numbers(self) -> [u32; 6]
         ensures { result ≡ join_response.code ∷ join_response_values self }
     {
         [
             0x22,
-            self.node as u32,
-            self.status as u32,
-            self.slot as u32,
+            u32::from(self.node),
+            u32::from(self.status),
+            u32::from(self.slot),
             self.superframe_time,
-            self.network as u32,
+            u32::from(self.network),
         ]
     }
 
@@ -109,12 +116,12 @@ impl JoinResponse {
     pub fn put(self, out: &mut [u8])
         ensures { out.new ≡ sets out.old 0 (bytes (1 ∷ join_response.widths) (join_response.code ∷ join_response_values self)) }
     {
-        put8(out, 0, 0x22);
-        put16(out, 1, self.node);
-        put8(out, 3, self.status);
-        put16(out, 4, self.slot);
-        put32(out, 6, self.superframe_time);
-        put16(out, 10, self.network);
+        0x22u8.store(out, 0);
+        self.node.store(out, 1);
+        self.status.store(out, 3);
+        self.slot.store(out, 4);
+        self.superframe_time.store(out, 6);
+        self.network.store(out, 10);
     }
 }
 
@@ -132,10 +139,10 @@ impl SlotRequest {
         ensures { slot_request_values result ≡ values_in slot_request s.now }
     {
         SlotRequest {
-            node: number16(s, 1),
-            slots: number8(s, 3),
-            priority: number8(s, 4),
-            reason: number8(s, 5),
+            node: u16::read(s, 1),
+            slots: u8::read(s, 3),
+            priority: u8::read(s, 4),
+            reason: u8::read(s, 5),
         }
     }
 
@@ -145,8 +152,8 @@ impl SlotRequest {
         is_address(self.node)
     }
 
-    pub fn refusal(s: &[u8]) -> u8
-        ensures { result ≡ refusal_as slot_request s.now }
+    pub fn refusal(s: &[u8]) -> Result<(), Refusal>
+        ensures { status_of result ≡ refusal_as slot_request s.now }
     {
         refused(s, 0x23, 7, SlotRequest::of(s).good())
     }
@@ -156,10 +163,10 @@ impl SlotRequest {
     {
         [
             0x23,
-            self.node as u32,
-            self.slots as u32,
-            self.priority as u32,
-            self.reason as u32,
+            u32::from(self.node),
+            u32::from(self.slots),
+            u32::from(self.priority),
+            u32::from(self.reason),
         ]
     }
 }
@@ -178,10 +185,10 @@ impl DiscoveryRequest {
         ensures { discovery_request_values result ≡ values_in discovery_request s.now }
     {
         DiscoveryRequest {
-            node: number16(s, 1),
-            capabilities: number8(s, 3),
-            role: number8(s, 4),
-            max_hops: number8(s, 5),
+            node: u16::read(s, 1),
+            capabilities: u8::read(s, 3),
+            role: u8::read(s, 4),
+            max_hops: u8::read(s, 5),
         }
     }
 
@@ -191,15 +198,21 @@ impl DiscoveryRequest {
         is_address(self.node)
     }
 
+    pub fn refusal(s: &[u8]) -> Result<(), Refusal>
+        ensures { status_of result ≡ refusal_as discovery_request s.now }
+    {
+        refused(s, 0x24, 7, DiscoveryRequest::of(s).good())
+    }
+
     pub fn numbers(self) -> [u32; 5]
         ensures { result ≡ discovery_request.code ∷ discovery_request_values self }
     {
         [
             0x24,
-            self.node as u32,
-            self.capabilities as u32,
-            self.role as u32,
-            self.max_hops as u32,
+            u32::from(self.node),
+            u32::from(self.capabilities),
+            u32::from(self.role),
+            u32::from(self.max_hops),
         ]
     }
 }
@@ -220,12 +233,12 @@ impl DiscoveryResponse {
         ensures { discovery_response_values result ≡ values_in discovery_response s.now }
     {
         DiscoveryResponse {
-            manager: number16(s, 1),
-            network: number16(s, 3),
-            size: number8(s, 5),
-            free: number8(s, 6),
-            quality: number8(s, 7),
-            uptime: number32(s, 8),
+            manager: u16::read(s, 1),
+            network: u16::read(s, 3),
+            size: u8::read(s, 5),
+            free: u8::read(s, 6),
+            quality: u8::read(s, 7),
+            uptime: u32::read(s, 8),
         }
     }
 
@@ -235,16 +248,22 @@ impl DiscoveryResponse {
         is_address(self.manager) & (1 <= self.network)
     }
 
+    pub fn refusal(s: &[u8]) -> Result<(), Refusal>
+        ensures { status_of result ≡ refusal_as discovery_response s.now }
+    {
+        refused(s, 0x25, 13, DiscoveryResponse::of(s).good())
+    }
+
     pub fn numbers(self) -> [u32; 7]
         ensures { result ≡ discovery_response.code ∷ discovery_response_values self }
     {
         [
             0x25,
-            self.manager as u32,
-            self.network as u32,
-            self.size as u32,
-            self.free as u32,
-            self.quality as u32,
+            u32::from(self.manager),
+            u32::from(self.network),
+            u32::from(self.size),
+            u32::from(self.free),
+            u32::from(self.quality),
             self.uptime,
         ]
     }
@@ -262,8 +281,8 @@ impl Election {
         ensures { election_values result ≡ values_in election s.now }
     {
         Election {
-            node: number16(s, 1),
-            priority: number8(s, 3),
+            node: u16::read(s, 1),
+            priority: u8::read(s, 3),
         }
     }
 
@@ -273,8 +292,8 @@ impl Election {
         is_address(self.node)
     }
 
-    pub fn refusal(s: &[u8]) -> u8
-        ensures { result ≡ refusal_as election s.now }
+    pub fn refusal(s: &[u8]) -> Result<(), Refusal>
+        ensures { status_of result ≡ refusal_as election s.now }
     {
         refused(s, 0x26, 5, Election::of(s).good())
     }
@@ -282,6 +301,6 @@ impl Election {
     pub fn numbers(self) -> [u32; 3]
         ensures { result ≡ election.code ∷ election_values self }
     {
-        [0x26, self.node as u32, self.priority as u32]
+        [0x26, u32::from(self.node), u32::from(self.priority)]
     }
 }

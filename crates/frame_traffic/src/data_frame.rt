@@ -4,11 +4,13 @@ ghost use Rattle.frame_traffic.specs.Traffic.{data_kind, data_values};
 ghost use Rattle.frame_kinds.specs.Shape.{values_in, part_lent};
 ghost use Rattle.frame_kinds.specs.Reading.{refusal_as};
 ghost use Rattle.octets.specs.Parts.{lent};
+ghost use Rattle.octets.specs.Refusals.{status_of};
 
 use frame_kinds::judging::refused;
 use octets::addresses::is_address;
-use octets::numbers::{number8, number16};
 use octets::parts::part;
+use octets::refusals::Refusal;
+use octets::stored::Stored;
 
 // `count` is how many bytes of payload follow.
 #[derive(Clone, Copy)]
@@ -26,11 +28,11 @@ impl DataHeader {
         ensures { data_values result ≡ values_in data_kind s.now }
     {
         DataHeader {
-            source: number16(s, 1),
-            destination: number16(s, 3),
-            ttl: number8(s, 5),
-            sequence: number16(s, 6),
-            count: number8(s, 8),
+            source: u16::read(s, 1),
+            destination: u16::read(s, 3),
+            ttl: u8::read(s, 5),
+            sequence: u16::read(s, 6),
+            count: u8::read(s, 8),
         }
     }
 
@@ -41,12 +43,12 @@ impl DataHeader {
         is_address(self.source) & is_address(self.destination)
     }
 
-    // Why bytes are no frame of this kind, 0 where they are one.
-    pub fn refusal(s: &[u8]) -> u8
-        ensures { result ≡ refusal_as data_kind s.now }
+    // Why bytes are no frame of this kind.
+    pub fn refusal(s: &[u8]) -> Result<(), Refusal>
+        ensures { status_of result ≡ refusal_as data_kind s.now }
     {
         let header = DataHeader::of(s);
-        refused(s, 0x11, 10 + header.count as usize, header.good())
+        refused(s, 0x11, 10 + usize::from(header.count), header.good())
     }
 
     // The type, then the fields.
@@ -55,11 +57,11 @@ impl DataHeader {
     {
         [
             0x11,
-            self.source as u32,
-            self.destination as u32,
-            self.ttl as u32,
-            self.sequence as u32,
-            self.count as u32,
+            u32::from(self.source),
+            u32::from(self.destination),
+            u32::from(self.ttl),
+            u32::from(self.sequence),
+            u32::from(self.count),
         ]
     }
 }
@@ -68,5 +70,5 @@ impl DataHeader {
 pub fn payload(s: &[u8]) -> &[u8]
     ensures { lent result ≡ part_lent data_kind (lent s.entry) }
 {
-    part(s, 9, number8(s, 8) as usize)
+    part(s, 9, usize::from(u8::read(s, 8)))
 }

@@ -6,8 +6,7 @@ ghost use Rattle.octets.specs.Lists.{every};
 ghost use Rattle.frame_traffic.specs.Traffic.{entry_widths, entry_values, entry_rule, entry_at, entries_of};
 
 use octets::addresses::is_address;
-use octets::fixed::{put8, put16, put32};
-use octets::numbers::{number8, number16, number32};
+use octets::stored::Stored;
 
 #[derive(Drop)]
 pub struct Entry {
@@ -23,13 +22,13 @@ impl Entry {
     pub fn of(part: &[u8], position: u8) -> Entry
         ensures { result ≡ entry_at part.now position }
     {
-        let place = 10 * (position as usize);
+        let place = 10 * usize::from(position);
         Entry {
-            destination: number16(part, place),
-            hops: number8(part, place + 2),
-            quality: number8(part, place + 3),
-            next_hop: number16(part, place + 4),
-            timestamp: number32(part, place + 6),
+            destination: u16::read(part, place),
+            hops: u8::read(part, place + 2),
+            quality: u8::read(part, place + 3),
+            next_hop: u16::read(part, place + 4),
+            timestamp: u32::read(part, place + 6),
         }
     }
 
@@ -46,23 +45,22 @@ impl Entry {
     pub fn put(self, out: &mut [u8])
         ensures { out.new ≡ sets out.old 0 (bytes entry_widths (entry_values self)) }
     {
-        put16(out, 0, self.destination);
-        put8(out, 2, self.hops);
-        put8(out, 3, self.quality);
-        put16(out, 4, self.next_hop);
-        put32(out, 6, self.timestamp);
+        self.destination.store(out, 0);
+        self.hops.store(out, 2);
+        self.quality.store(out, 3);
+        self.next_hop.store(out, 4);
+        self.timestamp.store(out, 6);
     }
 }
 
 // Whether each of the first entries keeps its rules.
+// Kept: tried as `(0..count).all(..)`: the search did not close its proof. The loop has no way out, as `zeros_from` of octets has none.
 pub fn entries_good(part: &[u8], count: u8) -> bool
     ensures { result ≡ every entry_rule (entries_of count part.now) }
 {
     let mut good = true;
-    let mut position = 0;
-    while position < count {
+    for position in 0..count {
         good = good & Entry::of(part, position).good();
-        position += 1;
     }
     good
 }

@@ -6,13 +6,14 @@ ghost use Rattle.frame_traffic.specs.Traffic.{update, update_values};
 ghost use Rattle.frame_kinds.specs.Shape.{values_in, part_lent};
 ghost use Rattle.frame_kinds.specs.Reading.{refusal_as};
 ghost use Rattle.octets.specs.Parts.{lent};
+ghost use Rattle.octets.specs.Refusals.{status_of};
 
 use crate::entry::entries_good;
 use frame_kinds::judging::refused;
 use octets::addresses::is_address;
-use octets::fixed::{put8, put16, put32};
-use octets::numbers::{number8, number16, number32};
 use octets::parts::part;
+use octets::refusals::Refusal;
+use octets::stored::Stored;
 
 // `count` is how many entries follow.
 #[derive(Clone, Copy)]
@@ -28,9 +29,9 @@ impl UpdateHeader {
         ensures { update_values result ≡ values_in update s.now }
     {
         UpdateHeader {
-            origin: number16(s, 1),
-            count: number8(s, 3),
-            time: number32(s, 4),
+            origin: u16::read(s, 1),
+            count: u8::read(s, 3),
+            time: u32::read(s, 4),
         }
     }
 
@@ -41,15 +42,15 @@ impl UpdateHeader {
         is_address(self.origin) & entries_good(entries, self.count)
     }
 
-    // Why bytes are no frame of this kind, 0 where they are one.
-    pub fn refusal(s: &[u8]) -> u8
-        ensures { result ≡ refusal_as update s.now }
+    // Why bytes are no frame of this kind.
+    pub fn refusal(s: &[u8]) -> Result<(), Refusal>
+        ensures { status_of result ≡ refusal_as update s.now }
     {
         let header = UpdateHeader::of(s);
         refused(
             s,
             0x31,
-            9 + 10 * (header.count as usize),
+            9 + 10 * usize::from(header.count),
             header.good(entries(s)),
         )
     }
@@ -58,17 +59,22 @@ impl UpdateHeader {
     pub fn numbers(self) -> [u32; 4]
         ensures { result ≡ update.code ∷ update_values self }
     {
-        [0x31, self.origin as u32, self.count as u32, self.time]
+        [
+            0x31,
+            u32::from(self.origin),
+            u32::from(self.count),
+            self.time,
+        ]
     }
 
     // Writes the type and the fields where they stand, from the buffer's start.
     pub fn put(self, out: &mut [u8])
         ensures { out.new ≡ sets out.old 0 (bytes (1 ∷ update.widths) (update.code ∷ update_values self)) }
     {
-        put8(out, 0, 0x31);
-        put16(out, 1, self.origin);
-        put8(out, 3, self.count);
-        put32(out, 4, self.time);
+        0x31u8.store(out, 0);
+        self.origin.store(out, 1);
+        self.count.store(out, 3);
+        self.time.store(out, 4);
     }
 }
 
@@ -76,5 +82,5 @@ impl UpdateHeader {
 pub fn entries(s: &[u8]) -> &[u8]
     ensures { lent result ≡ part_lent update (lent s.entry) }
 {
-    part(s, 8, 10 * (number8(s, 3) as usize))
+    part(s, 8, 10 * usize::from(u8::read(s, 3)))
 }

@@ -1,21 +1,25 @@
 -- Numbers whose type is that of a kind: what the writer does with them is what the kind's definition says.
 -- Assumes nothing.
-use Rattle.octets.proofs.Words.{◌≡◌, refl, sym, ap, ap₂, ◌∙◌, Bool, true, false, ◌&&◌, false≢true, List, [], ◌∷◌, ◌++◌, Memᴰ, ⊎_elim, ℕ, suc, ◌+◌, ◌≤◌, ◌<◌, arith, length, get_or, take}
+use Rattle.octets.proofs.Words.{◌≡◌, refl, sym, ap, ap₂, ◌∙◌, Bool, true, false, ◌&&◌, List, [], ◌∷◌, ◌++◌, Memᴰ, ⊎_elim, ℕ, suc, ◌+◌, ◌≤◌, ◌<◌, arith, length, get_or, take}
 use Rattle.octets.specs.Layouts.{total, bytes, Fit}
-use Rattle.octets.specs.declared.answers.Written.{Written}
+use Rattle.std.specs.Prelude.{Result, Err}
+use Rattle.octets.specs.Refusals.{number_of}
+use Rattle.octets.specs.declared.refusals.Refusal.{Refusal}
+use Rattle.octets.specs.declared.refusals.Refusal.TheVariants.{WrongType, Field}
 use Rattle.octets.specs.Told.{Wrote, wrote}
 use Rattle.frames.specs.declared.layouts.Layout.{Layout}
 use Rattle.frames.specs.Frames.{kinds}
 use Rattle.frames.specs.Layout.{widths_of, layout_of}
 use Rattle.frames.specs.Listed.{given, fitting, extent_of, write_listed, write_numbers}
 use Rattle.frame_kinds.specs.Shape.{Kind, place_of, length_of, sealed, frame_of}
-use Rattle.frame_kinds.specs.Writing.{write_refusal, writing, write_as}
+use Rattle.frame_kinds.specs.Writing.{writing, write_as}
 use Rattle.frames.proofs.KindLaws.{asked, known_or_not, code_fits}
 use Rattle.frames.proofs.LayoutLaws.{laid_out_lem}
 use Rattle.frames.proofs.ListedLaws.{listed_as, by_type}
-use Rattle.frame_kinds.proofs.WritingLaws.{put}
+use Rattle.octets.proofs.RefusalLaws.{refusal_some}
+use Rattle.frame_writing.specs.Sizes.{size_refusal}
 use Rattle.frame_writing.specs.Taking.{takes}
-use Rattle.frame_writing.proofs.ListedLaws.{length-given, fitting-fit, fitting_stand, standing-given, told_late, takes-kept}
+use Rattle.frame_writing.proofs.ListedLaws.{length-given, fitting-fit, fitting_stand, standing-given, told_late, takes-kept, sized-first, sized-unkept}
 use Rattle.frame_kinds.proofs.StoredLaws.{frame-length, unwritten}
 
 -- the kind that numbers of this type are of, and what its layout holds
@@ -65,14 +69,18 @@ module _ (code : ℕ) (layout : Layout) (k : Known code layout) (ns part out : L
   size : length frame ≡ layout.head + length part + 1
   size = frame-length (1 ∷ k.kind.widths) (k.kind.code ∷ vs) part [] layout.head (ap suc (sym (length-given k.kind.widths ns 1))) (sym k.head)
 
-  pub unfit : (n : ℕ) → fitting (1 ∷ k.kind.widths) ns 0 ≡ false
-      → n ≡ write_refusal (layout.head + 1 + extent_of code ns) (layout.head + length part + 1) false (length out)
-      → wrote (Written.Refused (record { number = n })) out ≡ write_numbers ns part out
-  unfit n f e =
-      rw (same, f)
-      (unwritten (length_of k.kind (k.kind.extent vs)) false frame out n (rw (size, ← due) e) (λ z. false≢true (put _ _ _ _ (sym e ∙ z)).kept))
+  -- it has no such size, whether its numbers fit or not; or it has, and they do not
+  pub unsized : (r : Refusal) → number_of r ≡ size_refusal (layout.head + 1 + extent_of code ns) (layout.head + length part + 1) → wrote (Err r) out ≡ write_numbers ns part out
+  unsized r e =
+      rw same
+      (unwritten (length_of k.kind (k.kind.extent vs)) _ frame out r
+      (rw (size, ← due) (e ∙ sized-first _ _ _ (length out) (λ z. refusal_some r (e ∙ z)))))
 
-  pub fit : (r : Written) (last : List ℕ) (good : Bool) → fitting (1 ∷ k.kind.widths) ns 0 ≡ true
+  pub unfit : 0 ≡ size_refusal (layout.head + 1 + extent_of code ns) (layout.head + length part + 1) → fitting (1 ∷ k.kind.widths) ns 0 ≡ false
+      → wrote (Err Field) out ≡ write_numbers ns part out
+  unfit e f = rw (same, f) (unwritten (length_of k.kind (k.kind.extent vs)) false frame out Field (rw (size, ← due) (sized-unkept _ _ (length out) e)))
+
+  pub fit : (r : Result ℕ Refusal) (last : List ℕ) (good : Bool) → fitting (1 ∷ k.kind.widths) ns 0 ≡ true
       → good ≡ takes (sealed (bytes (take layout.count layout.widths) (take layout.count ns) ++ part))
       → wrote r last ≡ writing (layout.head + 1 + extent_of code ns) good (sealed (bytes (take layout.count layout.widths) (take layout.count ns) ++ part)) out
       → wrote r last ≡ write_numbers ns part out
@@ -94,14 +102,14 @@ written_as k m vs more part out f =
 
 -- numbers whose type is that of no kind
 module _ (ns part out : List ℕ) (some : length ns ≡ 0 → ⊥) where
-  refused_two : ((k : Kind) → Memᴰ k kinds → get_or ns 0 0 ≡ k.code → ⊥) → wrote (Written.Refused (record { number = 2 })) out ≡ write_numbers ns part out
+  refused_two : ((k : Kind) → Memᴰ k kinds → get_or ns 0 0 ≡ k.code → ⊥) → wrote (Err WrongType) out ≡ write_numbers ns part out
   refused_two h =
-      by_type part out ns (λ w. wrote (Written.Refused (record { number = 2 })) out ≡ w) (λ z. absurd (some z)) (λ k m c. absurd (h k m c)) refl
+      by_type part out ns (λ w. wrote (Err WrongType) out ≡ w) (λ z. absurd (some z)) (λ k m c. absurd (h k m c)) refl
 
-  pub too_large : 255 < get_or ns 0 0 → wrote (Written.Refused (record { number = 2 })) out ≡ write_numbers ns part out
+  pub too_large : 255 < get_or ns 0 0 → wrote (Err WrongType) out ≡ write_numbers ns part out
   too_large h = refused_two (λ k m e. omega (arith, code_fits m))
 
-  pub unknown : (layout : Layout) → layout ≡ layout_of (get_or ns 0 0) → layout.count ≡ 0 → wrote (Written.Refused (record { number = 2 })) out ≡ write_numbers ns part out
+  pub unknown : (layout : Layout) → layout ≡ layout_of (get_or ns 0 0) → layout.count ≡ 0 → wrote (Err WrongType) out ≡ write_numbers ns part out
   unknown layout e z =
       refused_two
       (λ k m c.

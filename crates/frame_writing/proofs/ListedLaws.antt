@@ -1,10 +1,13 @@
 -- A frame from a list of numbers: the loop over its widths, and the reader's word for its rules.
 -- Assumes nothing.
-use Rattle.octets.proofs.Words.{◌≡◌, refl, sym, ap, ◌∙◌, Bool, true, false, not, ◌&&◌, cond, or-true, false≢true, List, [], ◌∷◌, ◌++◌, append_assoc, Memᴰ, ℕ, suc, ◌+◌, ◌^◌, ◌≤◌, ◌<◌, dec_le, ℕ_discrete, lt_of_lt_of_le, pow-le-pow_right, add-one, arith, eq-eqb, ne_eqb, le-ltb, lt-ltb, ltb-true, le-leb, eqb, ltb, length, get_or, take, drop, length-append, length-take, sets, drop-cons, get_or_at}
+use Rattle.octets.proofs.Words.{◌≡◌, refl, sym, ap, ◌∙◌, Bool, true, false, not, ◌&&◌, ◌||◌, cond, or-true, false≢true, List, [], ◌∷◌, ◌++◌, append_assoc, Memᴰ, ℕ, suc, ◌+◌, ◌^◌, ◌≤◌, ◌<◌, dec_le, ℕ_discrete, lt_of_lt_of_le, pow-le-pow_right, add-one, arith, eq-eqb, ne_eqb, le-ltb, lt-ltb, ltb-true, le-leb, eqb, ltb, length, get_or, take, drop, length-append, length-take, sets, drop-cons, get_or_at}
 use Rattle.octets.specs.Answers.{Said, accepted, refused}
 use Rattle.octets.specs.Layouts.{Fit}
-use Rattle.octets.specs.declared.answers.Refusal.{Refusal}
-use Rattle.octets.specs.declared.answers.Written.{Written}
+use Rattle.std.specs.Prelude.{Result, Ok, Err}
+use Rattle.std.specs.Result.{is_ok}
+use Rattle.octets.specs.Refusals.{number_of, status_of}
+use Rattle.octets.proofs.RefusalLaws.{refusal_some}
+use Rattle.octets.specs.declared.refusals.Refusal.{Refusal}
 use Rattle.octets.specs.Told.{Wrote, told_written, wrote}
 use Rattle.octets.proofs.StoreLaws.{take-sets}
 use Rattle.frames.specs.Frames.{kinds}
@@ -12,6 +15,7 @@ use Rattle.frames.specs.Listed.{given, fitting}
 use Rattle.frame_kinds.specs.Shape.{Kind, length_of, frame_of}
 use Rattle.frame_kinds.specs.Writing.{write_refusal, writing}
 use Rattle.frames.proofs.TripLaws.{refused_alike}
+use Rattle.frame_writing.specs.Sizes.{size_refusal}
 use Rattle.frame_writing.specs.Taking.{takes}
 
 -- a turn of the loop
@@ -27,8 +31,13 @@ pub cond_same : {A : Type 0} (b : Bool) (a : A) → cond b a a ≡ a
 cond_same true a = refl
 cond_same false a = refl
 
+-- an answer that is accepted has the status 0
+pub ok_number : (r : Result Unit Refusal) → is_ok r ≡ eqb (status_of r) 0
+ok_number (Ok u) = refl
+ok_number (Err r) = sym (ne_eqb (number_of r) 0 (refusal_some r))
+
 -- a frame that was to be written apart, in 255 bytes: it was if it is no longer
-module _ (size : ℕ) (frame room last : List ℕ) (r : Written) (l : length room ≡ 255) (s : length frame ≡ size) (e : wrote r last ≡ writing size true frame room) where
+module _ (size : ℕ) (frame room last : List ℕ) (r : Result ℕ Refusal) (l : length room ≡ 255) (s : length frame ≡ size) (e : wrote r last ≡ writing size true frame room) where
   short : length frame ≤ 255 → (told_written r ≡ accepted (length frame ∷ [])) × (last ≡ sets room 0 frame)
   unfolding writing write_refusal
   short h =
@@ -39,7 +48,7 @@ module _ (size : ℕ) (frame room last : List ℕ) (r : Written) (l : length roo
   unfolding writing write_refusal
   long h = ap (λ (x : Wrote). x.said) (simp (lt-ltb _ _ h, or-true) at e)
 
-  pub apart-done : (n : ℕ) → r ≡ Written.Done n → (n ≡ length frame) × (length frame ≤ 255) × (take n last ≡ frame)
+  pub apart-done : (n : ℕ) → r ≡ Ok n → (n ≡ length frame) × (length frame ≤ 255) × (take n last ≡ frame)
   apart-done n d = go (dec_le (length frame) 255)
     where
       go : Dec (length frame ≤ 255) → (n ≡ length frame) × (length frame ≤ 255) × (take n last ≡ frame)
@@ -51,7 +60,7 @@ module _ (size : ℕ) (frame room last : List ℕ) (r : Written) (l : length roo
           let z : ◌≡◌ {A = ℕ} 1 0 = ap (λ (x : Said). length x.values) (sym (ap told_written d) ∙ long (omega arith)) in
           absurd (omega arith)
 
-  pub apart-refused : (x : Refusal) → r ≡ Written.Refused x → 255 < length frame
+  pub apart-refused : (x : Refusal) → r ≡ Err x → 255 < length frame
   apart-refused x d = go (dec_le (length frame) 255)
     where
       go : Dec (length frame ≤ 255) → 255 < length frame
@@ -97,6 +106,24 @@ standing-given (w ∷ ws) (v ∷ vs) p q n e f =
     let later = rw (append_assoc p (v ∷ []) (vs ++ q)) at (standing-given ws vs (p ++ (v ∷ [])) q (n + 1) l f.1) in
     let there : n < length (p ++ (v ∷ (vs ++ q))) = omega (arith, e, length-append p (v ∷ (vs ++ q))) in
     rw (get_or_at p v (vs ++ q) 0 n e, lt-ltb n (length (p ++ (v ∷ (vs ++ q)))) there, lt-ltb v (256 ^ w) f.0, later.0, later.1) (refl, refl)
+
+-- ---- a frame that has no such size, and one that has it
+module _ (due size : ℕ) where
+  pub sized-first : (good : Bool) (room : ℕ) → (size_refusal due size ≡ 0 → ⊥) → size_refusal due size ≡ write_refusal due size good room
+  unfolding size_refusal write_refusal
+  sized-first good room = go (not (eqb size due) || ltb 255 size)
+    where
+      go : (b : Bool) → (◌≡◌ {A = ℕ} (cond b 1 0) 0 → ⊥) → ◌≡◌ {A = ℕ} (cond b 1 0) (cond b 1 (cond (not good) 4 (cond (ltb room size) 5 0)))
+      go true h = refl
+      go false h = absurd (h refl)
+
+  pub sized-unkept : (room : ℕ) → 0 ≡ size_refusal due size → 4 ≡ write_refusal due size false room
+  unfolding size_refusal write_refusal
+  sized-unkept room = go (not (eqb size due) || ltb 255 size)
+    where
+      go : (b : Bool) → ◌≡◌ {A = ℕ} 0 (cond b 1 0) → ◌≡◌ {A = ℕ} 4 (cond b 1 4)
+      go true e = absurd (omega arith)
+      go false e = refl
 
 -- ---- a writer whose rules are told only of frames that are not too long
 pub told_late : (due : ℕ) (g good : Bool) (frame out : List ℕ) → (length frame ≡ due → length frame ≤ 255 → g ≡ good) → writing due g frame out ≡ writing due good frame out

@@ -1,2 +1,3 @@
+pub mod Sizes
 pub mod Taking
 pub mod Typed

@@ -1,52 +1,55 @@
 // What every writer does once it has its numbers.
 ghost use Rattle.std.specs.Prelude.{◌≡◌, ◌++◌, ◌≤◌, length};
 ghost use Rattle.octets.specs.Layouts.{total, bytes};
+ghost use Rattle.octets.specs.Refusals.{status_of};
 ghost use Rattle.octets.specs.Told.{wrote};
 ghost use Rattle.frame_kinds.specs.Shape.{sealed};
 ghost use Rattle.frame_kinds.specs.Writing.{write_refusal, writing};
+ghost use Rattle.frame_writing.specs.Sizes.{size_refusal};
 
-use octets::answers::{Refusal, Written};
+use frame_kinds::sealing::seal;
 use octets::layouts::put_layout;
 use octets::parts::put_bytes;
-use octets::sums::xor_of;
+use octets::refusals::{Refusal, refuse_if};
 
-// Why a frame of this size is not written: `due` is the length that its count gives, `room` the buffer's; 0 where it is.
-pub(crate) fn why_unwritten(due: usize, size: usize, good: bool, room: usize) -> u8
-    ensures { result ≡ write_refusal due size good room }
+// Why a frame has no such size: `due` is the length that its count gives.
+#[tactic(auto, unfolding(crate::specs::Sizes::size_refusal))]
+pub(crate) fn sized(due: usize, size: usize) -> Result<(), Refusal>
+    ensures { status_of result ≡ size_refusal due size }
 {
-    if size != due {
-        return Refusal::LENGTH;
-    }
-    if 255 < size {
-        return Refusal::LENGTH;
-    }
-    if !good {
-        return Refusal::FIELD;
-    }
-    if room < size { Refusal::ROOM } else { 0 }
+    refuse_if((size != due) | (255 < size), Refusal::Length)
 }
 
-// A frame whose numbers, the type first, take `head` bytes: those, the bytes behind them and the checksum.
-pub(crate) fn emit(
-    due: usize,
-    good: bool,
-    head: usize,
-    widths: &[u8],
-    values: &[u32],
-    part: &[u8],
-    out: &mut [u8],
-) -> Written
-    requires { (length widths.now ≡ length values.now) × (total widths.now ≡ head) × (head ≤ 64) }
-    ensures { wrote result out.new ≡ writing due good (sealed (bytes widths.now values.now ++ part.now)) out.old }
+// Why a frame of this size is not written: `room` is the buffer's.
+#[tactic(auto, unfolding(crate::specs::Sizes::size_refusal, frame_kinds::specs::Writing::write_refusal))]
+fn why_unwritten(due: usize, size: usize, good: bool, room: usize) -> Result<(), Refusal>
+    ensures { status_of result ≡ write_refusal due size good room }
 {
-    let end = head + part.len();
-    let number = why_unwritten(due, end + 1, good, out.len());
-    if number != 0 {
-        return Written::Refused(Refusal { number });
+    sized(due, size)?;
+    refuse_if(!good, Refusal::Field)?;
+    refuse_if(room < size, Refusal::Room)
+}
+
+// A frame to be written: its numbers, the type first, in so many bytes each, `head` in all, and the bytes behind them.
+#[derive(Clone, Copy)]
+pub(crate) struct Draft<'a> {
+    pub(crate) head: usize,
+    pub(crate) widths: &'a [u8],
+    pub(crate) values: &'a [u32],
+    pub(crate) part: &'a [u8],
+    ghost laid: { (length widths.now ≡ length values.now) × (total widths.now ≡ head) × (head ≤ 64) },
+}
+
+impl Draft<'_> {
+    // Writes the frame, with its checksum.
+    pub(crate) fn emit(self, due: usize, good: bool, out: &mut [u8]) -> Result<usize, Refusal>
+        ensures { wrote result out.new ≡ writing due good (sealed (bytes self.entry.widths.now self.entry.values.now ++ self.entry.part.now)) out.old }
+    {
+        let end = self.head + self.part.len();
+        why_unwritten(due, end + 1, good, out.len())?;
+        put_layout(out, 0, self.widths, self.values);
+        put_bytes(out, self.head, self.part);
+        seal(out, end);
+        Ok(end + 1)
     }
-    put_layout(out, 0, widths, values);
-    put_bytes(out, head, part);
-    let sum = xor_of(out, end);
-    out[end] = sum;
-    Written::Done(end + 1)
 }

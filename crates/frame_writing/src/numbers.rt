@@ -7,16 +7,16 @@ ghost use Rattle.frames.specs.Listed.{fitting, extent_of, write_numbers};
 ghost use Rattle.frame_writing.specs.Taking.{takes};
 ghost use Rattle.frame_kinds.specs.Shape.{sealed};
 
-use crate::emitting::{emit, why_unwritten};
+use crate::emitting::{Draft, sized};
 use frame_reading::reading::refusal;
 use frames::layouts::{Layout, layout_of};
-use octets::answers::{Refusal, Written};
+use octets::refusals::{Refusal, refuse_if};
 
 // The number at a place of a list, 0 past its end.
 fn number_at(numbers: &[u32], at: usize) -> u32
     ensures { result ≡ get_or numbers.now at 0 }
 {
-    if at < numbers.len() { numbers[at] } else { 0 }
+    numbers.get(at).copied().unwrap_or(0)
 }
 
 // Whether a number fits so many bytes.
@@ -33,23 +33,23 @@ fn fits(number: u32, width: u8) -> bool
 }
 
 // Whether there is a number for each width, and it fits.
+// Kept: tried as a test of the lengths, then `widths.iter().zip(numbers).all(..)`: the search closed neither proof.
 fn all_fit(widths: &[u8], numbers: &[u32]) -> bool
     ensures { result ≡ fitting widths.now numbers.now 0 }
 {
-    let mut k = 0;
-    while k < widths.len() {
+    for (k, width) in widths.iter().enumerate() {
         if numbers.len() <= k {
             return false;
         }
-        if !fits(numbers[k], widths[k]) {
+        if !fits(numbers[k], *width) {
             return false;
         }
-        k += 1;
     }
     true
 }
 
 // How many bytes stand behind the fields of the kind of this type, by their numbers.
+#[tactic(auto, using(crate::proofs::ListedLaws::cond_same), unfolding(frames::specs::Listed::extent_of))]
 fn extent(code: u8, numbers: &[u32]) -> usize
     ensures { (result ≡ extent_of code numbers.now) × (result ≤ 42949672950) }
 {
@@ -60,72 +60,54 @@ fn extent(code: u8, numbers: &[u32]) -> usize
     }
 }
 
-// Room for a frame.
-fn room() -> [u8; 255]
-    ensures { length result ≡ 255 }
+// Whether the reader takes this frame, written apart.
+fn taken(draft: Draft) -> bool
+    ensures { result ≡ takes (sealed (bytes draft.entry.widths.now draft.entry.values.now ++ draft.entry.part.now)) }
 {
-    [0u8; 255]
-}
-
-// Whether the reader takes the frame with these fields, written apart.
-fn taken(head: usize, widths: &[u8], values: &[u32], part: &[u8]) -> bool
-    requires { (length widths.now ≡ length values.now) × (total widths.now ≡ head) × (head ≤ 64) }
-    ensures { result ≡ takes (sealed (bytes widths.now values.now ++ part.now)) }
-{
-    let mut apart = room();
-    let size = head + part.len() + 1;
-    match emit(size, true, head, widths, values, part, &mut apart) {
-        Written::Done(n) => refusal(&apart[..n]) == 0,
-        Written::Refused(_) => false,
+    let mut apart = [0u8; 255];
+    let size = draft.head + draft.part.len() + 1;
+    match draft.emit(size, true, &mut apart) {
+        Ok(n) => refusal(&apart[..n]).is_ok(),
+        Err(_) => false,
     }
 }
 
 // Writes the numbers as a frame of the kind that has their type.
-fn listed(code: u8, layout: Layout, numbers: &[u32], part: &[u8], out: &mut [u8]) -> Written
+fn listed(
+    code: u8,
+    layout: Layout,
+    numbers: &[u32],
+    part: &[u8],
+    out: &mut [u8],
+) -> Result<usize, Refusal>
     requires { (layout ≡ layout_of code) × (layout.count ≡ 0 → ⊥) × (get_or numbers.now 0 0 ≡ code) }
     ensures { wrote result out.new ≡ write_numbers numbers.now part.now out.old }
 {
     let count = layout.count as usize;
     let head = layout.head as usize;
     let widths = layout.widths;
+    let widths = &widths[..count];
     let due = head + 1 + extent(code, numbers);
-    if !all_fit(&widths[..count], numbers) {
-        let number = why_unwritten(due, head + part.len() + 1, false, out.len());
-        return Written::Refused(Refusal { number });
-    }
-    let good = taken(head, &widths[..count], &numbers[..count], part);
-    emit(
-        due,
-        good,
+    sized(due, head + part.len() + 1)?;
+    refuse_if(!all_fit(widths, numbers), Refusal::Field)?;
+    let draft = Draft {
         head,
-        &widths[..count],
-        &numbers[..count],
+        widths,
+        values: &numbers[..count],
         part,
-        out,
-    )
+    };
+    draft.emit(due, taken(draft), out)
 }
 
 // Writes the frame that the numbers, its type first, and the bytes behind them are.
-pub fn write(numbers: &[u32], part: &[u8], out: &mut [u8]) -> Written
+pub fn write(numbers: &[u32], part: &[u8], out: &mut [u8]) -> Result<usize, Refusal>
     ensures { wrote result out.new ≡ write_numbers numbers.now part.now out.old }
 {
-    if numbers.len() == 0 {
-        return Written::Refused(Refusal {
-            number: Refusal::LENGTH,
-        });
-    }
-    let first = numbers[0];
-    if 255 < first {
-        return Written::Refused(Refusal {
-            number: Refusal::TYPE,
-        });
-    }
-    let code = (first % 256) as u8;
+    refuse_if(numbers.is_empty(), Refusal::Length)?;
+    let Ok(code) = u8::try_from(numbers[0]) else {
+        return Err(Refusal::WrongType);
+    };
     let layout = layout_of(code);
-    if layout.count == 0 {
-        return Written::Refused(Refusal {
-            number: Refusal::TYPE,
-        });
-    }
+    refuse_if(layout.count == 0, Refusal::WrongType)?;
     listed(code, layout, numbers, part, out)
 }

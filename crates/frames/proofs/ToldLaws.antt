@@ -2,18 +2,17 @@
 -- Assumes nothing.
 use Rattle.octets.proofs.Words.{◌≡◌, refl, cond, List, [], ◌∷◌, ℕ, eqb, get_or}
 use Rattle.octets.specs.Answers.{OneToOne}
-use Rattle.octets.proofs.AnswerLaws.{one_by_return}
+use Rattle.octets.proofs.RefusalLaws.{told_one}
 use Rattle.frames.specs.declared.answers.Frame.{Frame}
 use Rattle.frame_traffic.specs.Traffic.{data_from, update_from}
 use Rattle.frame_requests.specs.Requests.{join_request_from, join_response_from, slot_request_from, election_from}
 use Rattle.frame_beacons.specs.Beacons.{beacon_from}
 use Rattle.frame_beacons.specs.ShortBeacons.{short_beacon_from}
-use Rattle.frames.specs.Told.{told}
+use Rattle.frames.specs.Told.{frame_values, told}
 
--- the frame that says this
-frame-from : ℕ → List ℕ → Frame
-frame-from number [] = Frame.Refused (record { number = number })
-frame-from number (t ∷ vs) =
+-- the frame that has these values
+abbrev frame-with : ℕ → List ℕ → Frame
+frame-with t vs =
     cond (eqb t 0x11) (Frame.Data (data_from vs))
     (cond (eqb t 0x21) (Frame.JoinRequest (join_request_from vs))
     (cond (eqb t 0x22) (Frame.JoinResponse (join_response_from vs))
@@ -24,7 +23,11 @@ frame-from number (t ∷ vs) =
     (cond (eqb t 0x31) (Frame.Update (update_from vs))
     (cond (eqb t 0x46) (Frame.Beacon (beacon_from vs)) (Frame.ShortBeacon (short_beacon_from vs))))))))))
 
-frame_back : (f : Frame) → frame-from (told f).refusal (told f).values ≡ f
+pub frame-from : List ℕ → Frame
+frame-from [] = frame-with 0 []
+frame-from (t ∷ vs) = frame-with t vs
+
+pub frame_back : (f : Frame) → frame-from (frame_values f) ≡ f
 unfolding frame-from
 frame_back (Frame.Data f) = refl
 frame_back (Frame.JoinRequest f) = refl
@@ -36,7 +39,6 @@ frame_back (Frame.Election f) = refl
 frame_back (Frame.Update f) = refl
 frame_back (Frame.Beacon f) = refl
 frame_back (Frame.ShortBeacon f) = refl
-frame_back (Frame.Refused r) = refl
 
 pub told-one : OneToOne told
-told-one = one_by_return told frame-from frame_back
+told-one = told_one frame_values frame-from frame_back

@@ -2,7 +2,9 @@
 ghost use Rattle.std.specs.Prelude.{◌≡◌};
 ghost use Rattle.frames.specs.Layout.{layout_of};
 
-// `count` numbers, `head` bytes in all; the widths past them are 0. A type that is unknown has none.
+// `count` numbers, `head` bytes in all; the widths past them are 0.
+// Kept: an array with its count beside it. A slice would be of a static, whose place no view of an answer fixes; and fixed memory holds no list.
+// Kept: a type that is unknown has the layout of no fields, as `layout_of` of specs/ says it. An `Option` would be opened thrice where the type is known.
 #[derive(Drop)]
 pub struct Layout {
     pub count: u8,
@@ -10,6 +12,7 @@ pub struct Layout {
     pub widths: [u8; 15],
 }
 
+#[tactic(auto, unfolding(crate::specs::Layout::layout_of))]
 pub fn layout_of(code: u8) -> Layout
     ensures { result ≡ layout_of code }
 {

@@ -1,11 +1,10 @@
 -- Zeros: the numbers of a layout are all 0 exactly if its bytes are; and the loops that look at zeros and store them.
 -- Assumes nothing.
-use Rattle.octets.proofs.Words.{◌≡◌, refl, sym, ap, ◌∙◌, Bool, ◌&&◌, and-true, and_assoc, List, [], ◌∷◌, ℕ, zero, suc, ◌+◌, ◌*◌, ◌≤◌, ◌<◌, ℕ_discrete, add-zero, add_assoc, add-one, arith, eq-eqb, ne_eqb, eqb, length, get_or, drop, set, replicate, length-replicate, drop_of_length-le, sets, drop-cons}
+use Rattle.octets.proofs.Words.{◌≡◌, sym, ap, ◌∙◌, Bool, ◌&&◌, and-true, and_assoc, List, [], ◌∷◌, ℕ, zero, suc, ◌+◌, ◌*◌, ◌≤◌, ◌<◌, ℕ_discrete, add-zero, add_assoc, add-one, arith, eq-eqb, ne_eqb, eqb, length, get_or, drop_of_length-le, drop-cons}
 use Rattle.octets.specs.Layouts.{total, fields}
 use Rattle.octets.specs.Lists.{every}
 use Rattle.octets.specs.Numbers.{num}
 use Rattle.octets.specs.Zeros.{is_zero, zeros_from}
-use Rattle.octets.proofs.StoreLaws.{copy_turn}
 
 pub zero-byte : (s : List ℕ) (at : ℕ) → at < length s → zeros_from at s ≡ (is_zero (get_or s at 0) && zeros_from (at + 1) s)
 unfolding every
@@ -37,21 +36,10 @@ fields-zero (w ∷ ws) s at h =
     (sym (and_assoc (is_zero (num w s at)) (every is_zero (fields ws s (at + w))) (zeros_from (at + (w + total ws)) s)))
 
 -- ---- the loop that looks at the bytes
-module _ (s : List ℕ) (at place : ℕ) (ok : Bool) (e : (ok && zeros_from place s) ≡ zeros_from at s) where
-  pub zeros-turn : place < length s → (ok && eqb (get_or s place 0) 0 && zeros_from (place + 1) s) ≡ zeros_from at s
+module _ (s : List ℕ) (place : ℕ) (ok all : Bool) (e : (ok && zeros_from place s) ≡ all) where
+  pub zeros-turn : place < length s → (ok && eqb (get_or s place 0) 0 && zeros_from (place + 1) s) ≡ all
   zeros-turn h = and_assoc ok (is_zero (get_or s place 0)) (zeros_from (place + 1) s) ∙ (sym (ap (λ (b : Bool). ok && b) (zero-byte s place h)) ∙ e)
 
-  pub zeros_end : length s ≤ place → ok ≡ zeros_from at s
+  pub zeros_end : length s ≤ place → ok ≡ all
   unfolding every
   zeros_end h = sym (and-true ok) ∙ (rw (drop_of_length-le s h) at e)
-
--- ---- the loop that stores them
-get_or-zeros : (n k : ℕ) → ◌≡◌ {A = ℕ} (get_or (replicate n 0) k 0) 0
-get_or-zeros zero k = refl
-get_or-zeros (suc n) zero = refl
-get_or-zeros (suc n) (suc k) = get_or-zeros n k
-
-pub zero_turn : (l : List ℕ) (n at k : ℕ) → k < n
-    → sets l (at + k) (drop k (replicate n 0)) ≡ sets (set l (at + k) 0) (at + (k + 1)) (drop (k + 1) (replicate n 0))
-zero_turn l n at k h =
-    copy_turn l (replicate n 0) at k 0 (omega (arith, length-replicate {A = ℕ} n 0)) ∙ rw (get_or-zeros n k)

@@ -1,12 +1,12 @@
--- What an answer that writes says: document 01's number or how many bytes, and with it what the buffer then holds.
+-- What a call that writes says, how many bytes or why not, and with it what the buffer then holds.
 -- Assumes nothing.
-use Rattle.std.specs.Prelude.{List, [], ◌∷◌, ℕ, get_or}
-use Rattle.octets.specs.Answers.{Said, accepted, refused}
-use Rattle.octets.specs.declared.answers.Written.{Written}
+use Rattle.std.specs.Prelude.{ℕ, List, [], ◌∷◌, Result, get_or}
+use Rattle.octets.specs.Answers.{Said}
+use Rattle.octets.specs.Refusals.{told_by}
+use Rattle.octets.specs.declared.refusals.Refusal.{Refusal}
 
-abbrev pub told_written : Written → Said
-told_written (Written.Done n) = accepted (n ∷ [])
-told_written (Written.Refused r) = refused r.number
+abbrev pub told_written : Result ℕ Refusal → Said
+told_written answer = told_by (λ n. n ∷ []) answer
 
 -- what writing says, and what the buffer then holds
 pub record Wrote : Type 0 where
@@ -17,5 +17,5 @@ pub record Wrote : Type 0 where
 abbrev pub written_in : Wrote → ℕ
 written_in w = get_or w.said.values 0 0
 
-abbrev pub wrote : Written → List ℕ → Wrote
+abbrev pub wrote : Result ℕ Refusal → List ℕ → Wrote
 wrote answer held = record { said = told_written answer; held = held }

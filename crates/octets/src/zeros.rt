@@ -3,17 +3,13 @@ ghost use Rattle.std.specs.Prelude.{◌≡◌, replicate};
 ghost use Rattle.std.proofs.lemmas.List.Edits.{sets};
 ghost use Rattle.octets.specs.Zeros.{zeros_from};
 
-use crate::parts::smaller;
-
 // Whether every byte from a place on is 0. With no way out of the loop the machine looks at many bytes at once.
 pub fn zeros_from(s: &[u8], at: usize) -> bool
     ensures { result ≡ zeros_from at s.now }
 {
     let mut ok = true;
-    let mut place = at;
-    while place < s.len() {
-        ok = ok & (s[place] == 0);
-        place += 1;
+    for byte in &s[at.min(s.len())..] {
+        ok = ok & (*byte == 0);
     }
     ok
 }
@@ -25,10 +21,6 @@ pub fn put_zeros(out: &mut [u8], at: usize, count: usize)
     if out.len() <= at {
         return;
     }
-    let n = smaller(count, out.len() - at);
-    let mut k = 0;
-    while k < n {
-        out[at + k] = 0;
-        k += 1;
-    }
+    let n = count.min(out.len() - at);
+    out[at..at + n].fill(0);
 }

@@ -1,7 +1,7 @@
 -- Document 01's examples marked P, in its order: what the definitions compute, and what the paper says. Then those of document 02's requests. One
 -- statement covers the table.
 -- Assumes nothing.
-use Rattle.std.specs.Prelude.{◌≡◌, Bool, true, false, ◌&&◌, cond, List, [], ◌∷◌, ◌++◌, ℕ, suc, ◌+◌, ◌-◌, ◌%◌, ◌^◌, eqb, length, get_or, ℤ, pos, negsuc}
+use Rattle.std.specs.Prelude.{◌≡◌, Bool, true, false, ◌&&◌, cond, List, [], ◌∷◌, ◌++◌, ℕ, suc, ◌+◌, ◌-◌, ◌%◌, ◌^◌, length, get_or, ℤ, pos, negsuc}
 use Rattle.octets.specs.Answers.{Said}
 use Rattle.moments.specs.Moments.{age_at, in_order}
 use Rattle.frame_requests.specs.Requests.{join_request, join_request_values, election}

@@ -2,11 +2,12 @@
 -- contents of every lent buffer, and the view one of those below, or one for each part. No two answers have one view, so no two meet the contract.
 -- `contracts/check` holds every public contract against this list, and the list against the contracts.
 -- Assumes nothing.
-use Rattle.std.specs.Prelude.{◌≡◌, List, [], ◌∷◌, ℕ, ◌^◌, ◌<◌}
+use Rattle.std.specs.Prelude.{◌≡◌, List, [], ◌∷◌, ℕ, ◌^◌, ◌<◌, Option, Result, Ok, Err}
 use Rattle.std.specs.Borrow.{Bor}
 use Rattle.octets.specs.Calls.{write_left}
 use Rattle.octets.specs.Parts.{lent}
-use Rattle.octets.specs.declared.answers.Written.{Written}
+use Rattle.octets.specs.Refusals.{number_of, status_of}
+use Rattle.octets.specs.declared.refusals.Refusal.{Refusal}
 use Rattle.octets.specs.Told.{wrote}
 use Rattle.slot_sets.specs.Sets.{Slots, slots_of}
 use Rattle.frame_traffic.specs.Traffic.{data_values, update_values}
@@ -16,19 +17,31 @@ use Rattle.frame_beacons.specs.ShortBeacons.{short_beacon_values}
 use Rattle.frames.specs.Told.{told}
 use Rattle.frame_entries.specs.declared.reader.Entries.{Entries}
 use Rattle.frame_entries.specs.Walks.{told_walked}
+use Rattle.unit_life.specs.declared.state.State.{State}
+use Rattle.unit_life.specs.Outcomes.{lived_by}
+use Rattle.unit_clock.specs.Outcomes.{stepped_by}
+use Rattle.unit_choice.specs.Outcomes.{chosen_by}
+use Rattle.unit_poll.specs.Outcomes.{named}
+use Rattle.route_table.specs.declared.table.Table.{Table}
+use Rattle.route_table.specs.Outcomes.{changed as changed_table, found}
+use Rattle.route_in_place.specs.Outcomes.{judged}
+use Rattle.route_merges.specs.declared.learning.Tally.{Tally}
+use Rattle.route_merges.specs.declared.merging.Merging.{Merging}
+use Rattle.route_merges.specs.Outcomes.{merged}
 use Rattle.route_forwards.specs.declared.forwarding.Forwarded.{Forwarded}
-use Rattle.route_forwards.specs.declared.forwarding.ForwardedIn.{ForwardedIn}
-use Rattle.route_relays.specs.declared.relaying.Relayed.{Relayed}
+use Rattle.route_forwards.specs.Outcomes.{forwarded}
 use Rattle.route_forwards.specs.Forwards.{passed, forward_left, forwarded_in}
+use Rattle.route_relays.specs.declared.relaying.Relayed.{Relayed}
+use Rattle.route_relays.specs.Outcomes.{told as told_relayed}
 use Rattle.route_relays.specs.Relays.{relayed}
 use Rattle.site_plan.specs.Plans.{told_plan}
+use Rattle.site_plan.specs.Schedules.{slot_number}
 use Rattle.site_sheet.specs.Verdicts.{told_checked}
 use Rattle.book_members.specs.declared.census.Census.{Census}
 use Rattle.book_members.specs.declared.member.Member.{Member}
-use Rattle.book_members.specs.Members.{rows_of}
+use Rattle.book_members.specs.Members.{rows_of, lent_rows}
 use Rattle.book.specs.declared.book.Book.{Book}
-use Rattle.book.specs.declared.book.Changed.{Changed}
-use Rattle.book.specs.Books.{contents, change_of}
+use Rattle.book.specs.Books.{Contents, contents, changed as changed_book}
 use Rattle.book_joins.specs.declared.grants.Granted.{Granted}
 use Rattle.book_joins.specs.Joins.{answered_by}
 use Rattle.c_unit.specs.ClockCalls.{clock_left}
@@ -40,7 +53,6 @@ use Rattle.c_unit.specs.StateCalls.{state_left}
 use Rattle.c_routes.specs.RelayCalls.{relay_left}
 use Rattle.route_bytes.specs.StoredTables.{table_left}
 use Rattle.c_routes.specs.TableCalls.{lookup_left}
-use Rattle.route_merges.specs.declared.stored.MergedIn.{MergedIn}
 use Rattle.route_merges.specs.StoredMerges.{merge_left, merged_in}
 use Rattle.c_book.specs.BookCalls.{book_left}
 use Rattle.c_book.specs.PlanCalls.{numbers_left}
@@ -82,10 +94,21 @@ mask_rows (m ∷ ms) = mask_row m × mask_rows ms
 abbrev pub mask_book : Book → Type 0
 mask_book b = mask_rows b.rows
 
+abbrev pub mask_change : Result Book Refusal → Type 0
+mask_change (Ok b) = mask_book b
+mask_change (Err r) = Unit
+
+abbrev pub mask_grant : Result Granted Refusal → Type 0
+mask_grant (Ok g) = mask_book g.book
+mask_grant (Err r) = Unit
+
 -- ---- the views
 pub record ViewsTellApart : Type 1 where
   -- most contracts say `answer ≡ definition`, of the result, of a buffer, or of each
   pub itself : {A : Type 0} → TellsApart any (λ (a : A). a)
+  -- a call that gives nothing else, and a refusal: its number in document 01, 0 where there is none
+  pub statuses : TellsApart any (λ (a : Result Unit Refusal). status_of a)
+  pub refusals : TellsApart any number_of
   -- the values of a record of fields: `of` of the ten kinds
   pub data_headers : TellsApart any data_values
   pub update_headers : TellsApart any update_values
@@ -97,14 +120,24 @@ pub record ViewsTellApart : Type 1 where
   pub elections : TellsApart any election_values
   pub beacons : TellsApart any beacon_values
   pub short_beacons : TellsApart any short_beacon_values
-  -- what an enum says, alone and with a buffer
+  -- what an answer says, alone and with a buffer
   pub frames : TellsApart any told
   pub plans : TellsApart any told_plan
   pub steps : TellsApart any told_walked
   pub checks : TellsApart any told_checked
-  pub writings_into : TellsApart any (λ (a : Written × List ℕ). wrote a.0 a.1)
-  pub relayings : TellsApart any (λ (a : Relayed × List ℕ). relayed a.0 a.1)
-  pub forwardings : TellsApart any (λ (a : Forwarded × List ℕ). passed a.0 a.1)
+  pub kinds_of_slots : TellsApart any slot_number
+  pub choices : TellsApart any chosen_by
+  pub winners_named : TellsApart any named
+  pub findings : TellsApart any found
+  pub judgings : TellsApart any judged
+  pub writings_into : TellsApart any (λ (a : Result ℕ Refusal × List ℕ). wrote a.0 a.1)
+  pub relayings : TellsApart any (λ (a : Result Relayed Refusal × List ℕ). relayed (told_relayed a.0) a.1)
+  -- .. beside what stood before the call, which a refusal leaves
+  pub lives : (old : State) → TellsApart any (λ (a : Result State Refusal). lived_by old a)
+  pub clock_steps : (old : ℕ) → TellsApart any (λ (a : Result ℕ Refusal). stepped_by old a)
+  pub tables_changed : (old : Table) → TellsApart any (λ (a : Result Table Refusal). changed_table old a)
+  pub tables_merged : (old : Table) → TellsApart any (λ (a : Result Merging Refusal). merged old a)
+  pub forwardings : (old : Table) → TellsApart any (λ (a : Result Forwarded Refusal × List ℕ). passed (forwarded old a.0) a.1)
   -- a part of lent bytes: where it lies, and what it holds
   pub parts : TellsApart {A = Bor (List ℕ)} any lent
   -- a reader of entries: the bytes that it was lent, and its position
@@ -112,10 +145,11 @@ pub record ViewsTellApart : Type 1 where
   -- sets for masks
   pub masks : TellsApart mask slots_of
   pub rows : TellsApart mask_rows rows_of
-  pub census : TellsApart {B = ℕ × ℕ × Slots 64 × ℕ} (λ c. mask c.slots) (λ (c : Census). (c.own, c.place, slots_of c.slots, c.vacant))
+  pub rows_lent : TellsApart (λ (s : Bor (List Member)). mask_rows s.now) lent_rows
+  pub census : TellsApart {B = Option ℕ × Option ℕ × Slots 64 × ℕ} (λ c. mask c.slots) (λ (c : Census). (c.own, c.place, slots_of c.slots, c.vacant))
   pub books : TellsApart mask_book contents
-  pub changes : TellsApart (λ c. mask_book c.book) change_of
-  pub grants : TellsApart (λ (a : Granted × List ℕ). mask_book a.0.book) (λ a. answered_by a.0 a.1)
+  pub changes : (old : Contents) → TellsApart mask_change (λ (a : Result Book Refusal). changed_book old a)
+  pub grants : (old : Contents) → TellsApart (λ (a : Result Granted Refusal × List ℕ). mask_grant a.0) (λ a. answered_by old a.0 a.1)
   -- what a call leaves to C: its status, and each buffer and out parameter
   pub reads : TellsApart any (λ (a : ℕ × List ℕ × ℕ × ℕ). read_left a.0 a.1 a.2 a.3)
   pub entries : TellsApart any (λ (a : ℕ × List ℕ × ℕ). entry_left a.0 a.1 a.2)
@@ -124,13 +158,15 @@ pub record ViewsTellApart : Type 1 where
   pub lookups : TellsApart any (λ (a : ℕ × ℕ × ℕ × ℕ). lookup_left a.0 a.1 a.2 a.3)
   pub merges : TellsApart any (λ (a : ℕ × List ℕ × ℕ × ℕ). merge_left a.0 a.1 a.2 a.3)
   pub relays : TellsApart any (λ (a : ℕ × List ℕ × ℕ × ℕ × ℕ × ℕ). relay_left a.0 a.1 a.2 a.3 a.4 a.5)
-  pub merges_in : TellsApart any (λ (a : MergedIn × List ℕ). merged_in a.0 a.1)
-  pub forwards_in : TellsApart any (λ (a : ForwardedIn × List ℕ × List ℕ). forwarded_in a.0 a.1 a.2)
+  pub tables_left : TellsApart any (λ (a : Result Unit Refusal × List ℕ). table_left (status_of a.0) a.1)
+  pub merges_in : TellsApart any (λ (a : Result Tally Refusal × List ℕ). merged_in a.0 a.1)
+  pub forwards_in : TellsApart any (λ (a : Result ℕ Refusal × List ℕ × List ℕ). forwarded_in a.0 a.1 a.2)
   pub forwards : TellsApart any (λ (a : ℕ × List ℕ × List ℕ × ℕ). forward_left a.0 a.1 a.2 a.3)
   pub states : TellsApart any (λ (a : ℕ × List ℕ). state_left a.0 a.1)
   pub clocks : TellsApart any (λ (a : ℕ × ℕ). clock_left a.0 a.1)
   pub follows : TellsApart any (λ (a : ℕ × ℕ). follow_left a.0 a.1)
   pub polls : TellsApart any (λ (a : ℕ × List ℕ). poll_left a.0 a.1)
+  pub polls_left : TellsApart any (λ (a : Result Unit Refusal × List ℕ). poll_left (status_of a.0) a.1)
   pub winners : TellsApart any (λ (a : ℕ × ℕ). winner_left a.0 a.1)
   pub calls_of_book : TellsApart any (λ (a : ℕ × List ℕ). book_left a.0 a.1)
   pub plan_numberings : TellsApart any (λ (a : ℕ × List ℕ). numbers_left a.0 a.1)

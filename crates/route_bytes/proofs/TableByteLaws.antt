@@ -1,6 +1,7 @@
 -- The bytes of a table: its rows one behind the other, with zeros behind them, how many they all are, the rows behind the head, and all of it stored.
 -- Assumes nothing.
-use Rattle.octets.proofs.Words.{◌≡◌, refl, sym, ap, ◌∙◌, true, ◌&&◌, and-false, and-eq-true_iff, List, [], ◌∷◌, ◌++◌, append_assoc, ℕ, zero, suc, ◌+◌, ◌*◌, ◌-◌, ◌≤◌, ◌<◌, arith, eq-eqb, ne_eqb, eqb-true, lt-ltb, le-ltb, eqb, leb, length, get_or, take, drop, replicate, length-append, drop_of_length-le, sets}
+use Rattle.octets.proofs.Words.{◌≡◌, refl, sym, ap, ◌∙◌, Bool, true, false, ◌&&◌, and-eq-true_iff, List, [], ◌∷◌, ◌++◌, append_assoc, ℕ, zero, suc, ◌+◌, ◌*◌, ◌-◌, ◌≤◌, ◌<◌, arith, eq-eqb, eqb-true, lt-ltb, eqb, leb, length, get_or, take, drop, replicate, length-append, drop_of_length-le, sets}
+use mir.Val.{bool_byte}
 use Rattle.octets.specs.Layouts.{fields, bytes}
 use Rattle.octets.specs.Numbers.{num, digits}
 use Rattle.octets.proofs.StoreLaws.{sets_append, sets-whole}
@@ -14,7 +15,7 @@ use Rattle.route_table.specs.Rows.{none, in_use, pad}
 use Rattle.route_table.specs.Tables.{rows_of, head_of, table_of}
 use Rattle.route_table.proofs.RowLaws.{in_use_end, in_use-turn}
 use Rattle.route_table.proofs.StandingLaws.{pad-length}
-use Rattle.route_bytes.specs.TableBytes.{row_widths, row_values, row_from, row_at, rows_bytes, table_in, head_widths, head_values, table_bytes, table_over, place_of, rows_in, flags_ok, is_table}
+use Rattle.route_bytes.specs.TableBytes.{flag, row_widths, row_values, row_from, row_at, rows_bytes, table_in, head_widths, head_values, table_bytes, table_over, place_of, rows_in, flags_ok, is_table}
 
 pub rows_run : Run row_widths row_values rows_bytes
 rows_run = record { none = refl; more = λ r rs. refl; full = λ r. refl }
@@ -26,6 +27,11 @@ pub length-table : (t : Table) → length t.rows ≡ 48 → length (table_bytes 
 unfolding table_bytes
 length-table t e =
     omega (arith, length-append (bytes head_widths (head_values (head_of t))) (rows_bytes t.rows), length-head (head_of t), run_length rows_run t.rows)
+
+-- a flag's byte
+pub flag_byte : (b : Bool) → bool_byte b ≡ flag b
+flag_byte true = refl
+flag_byte false = refl
 
 -- the rows stand behind the head
 pub head_first : (l : List ℕ) (t : Table) → sets (sets l 0 (bytes head_widths (head_values (head_of t)))) 11 (rows_bytes t.rows) ≡ sets l 0 (table_bytes t)
@@ -72,10 +78,6 @@ pub empty_stored : (l : List ℕ) (h : Head) → length l ≡ 539 → (one : Lis
     → (last : List ℕ) → last ≡ sets one 11 (replicate 528 0) → last ≡ table_over l (table_of h [])
 empty_stored l h k one a last e = e ∙ (zeros-behind one [] 0 refl (omega arith) ∙ rw a (all-stored l h [] k (pad-length [] (omega arith))))
 
-pub other_length : (l : List ℕ) (t : Table) → (length l ≡ 539 → ⊥) → l ≡ table_over l t
-unfolding table_over
-other_length l t n = rw (ne_eqb (length l) 539 n)
-
 -- ---- the loop that stores the rows in use: the rows that are left, stored behind those passed, are all
 pub record Storing (l out : List ℕ) (rows : List Row) (used : ℕ) : Type 0 where
   pub within : used ≤ 48
@@ -89,10 +91,10 @@ module _ (l out : List ℕ) (rows : List Row) (used : ℕ) (many : length rows �
       let e = in_use_end rows used (omega arith) z in
       (rw e at g.rest, omega (arith, g.count, ap length e), omega arith)
 
-  pub stored_last : 48 ≤ used → (out ≡ sets l 11 (rows_bytes (in_use rows))) × (used ≡ length (in_use rows)) × (used ≤ 48)
+  pub stored_last : 48 ≤ used → (out ≡ sets l 11 (rows_bytes (in_use rows))) × (48 ≡ length (in_use rows)) × (48 ≤ 48)
   stored_last h =
       let e : in_use (drop used rows) ≡ [] = ap in_use (drop_of_length-le rows {i = used} (omega arith)) in
-      (rw e at g.rest, omega (arith, g.count, ap length e), g.within)
+      (rw e at g.rest, omega (arith, g.count, g.within, ap length e), omega arith)
 
   pub stored_on : (filled : List ℕ) → used < 48 → ((get_or rows used none).destination ≡ 0 → ⊥)
       → filled ≡ sets (take (11 + 11 * used + 11 - (11 + 11 * used)) (drop (11 + 11 * used) out)) 0 (bytes row_widths (row_values (get_or rows used none)))
@@ -118,14 +120,6 @@ table-length s h =
 
 -- ---- a row at a place
 module _ (s : List ℕ) (i : ℕ) where
-  pub no_place : (length s ≡ 539 → ⊥) → none ≡ place_of s i
-  unfolding place_of
-  no_place n = rw (ne_eqb (length s) 539 n)
-
-  pub place-past : 48 ≤ i → none ≡ place_of s i
-  unfolding place_of
-  place-past h = rw (le-ltb i 48 h, and-false (eqb (length s) 539))
-
   pub place_at_lem : length s ≡ 539 → i < 48 → row_at s i ≡ place_of s i
   unfolding place_of
   place_at_lem l h = rw (eq-eqb (length s) 539 l, lt-ltb i 48 h)

@@ -2,7 +2,7 @@
 -- Assumes nothing.
 use Rattle.std.specs.Prelude.{ℕ, cond, List}
 use Rattle.octets.specs.Calls.{after}
-use Rattle.route_table.specs.declared.table.Changed.{Changed}
+use Rattle.route_table.specs.Outcomes.{Changed}
 use Rattle.route_table.specs.declared.table.Table.{Table}
 use Rattle.route_bytes.specs.TableBytes.{table_in, table_bytes, is_table}
 

@@ -1,7 +1,12 @@
 -- Forwarding a beacon, from what its parts say.
 -- Assumes nothing.
 use Rattle.octets.proofs.Words.{◌≡◌, refl, sym, ap, ◌∙◌, Bool, true, false, not, ◌&&◌, cond, and-eq-true_iff, List, [], ◌∷◌, ◌++◌, ℕ, ◌+◌, ◌≤◌, ◌<◌, arith, ne_eqb, eqb-true, ltb-true, ltb-false, leb-true, le-leb, not-false, eqb, leb, ltb, length, set, sets}
+use Rattle.std.specs.Prelude.{Result, Ok, Err}
 use Rattle.octets.specs.Answers.{Reason, reason, refusing, first}
+use Rattle.octets.specs.Refusals.{number_of, status_of, held_after}
+use Rattle.octets.specs.declared.refusals.Refusal.{Refusal}
+use Rattle.octets.specs.declared.refusals.Refusal.TheVariants.{Room}
+use Rattle.octets.proofs.RefusalLaws.{refusal_some}
 use Rattle.octets.proofs.AnswerLaws.{Numbered, refusing_numbered, none-holds}
 use Rattle.moments.specs.Moments.{in_order}
 use Rattle.frame_kinds.specs.Reading.{refusal_as}
@@ -15,7 +20,7 @@ use Rattle.frame_beacons.specs.Beacons.{beacon, beacon_values, hops_and_slots}
 use Rattle.frame_beacons.specs.ShortBeacons.{short_beacon, short_beacon_values, hop_within}
 use Rattle.frame_beacons.specs.EitherBeacons.{of_beacon, of_short, beacon_in, short_in, is_short, either_refusal, either_in}
 use Rattle.frame_kinds.proofs.StoredLaws.{frame-length}
-use Rattle.route_table.specs.declared.table.Changed.{Changed}
+use Rattle.route_table.specs.Outcomes.{Changed, changed}
 use Rattle.route_table.specs.declared.table.Table.{Table}
 use Rattle.route_table.specs.Rows.{standing}
 use Rattle.route_table.specs.Tables.{rows_of, head_of, within_rule, settled, lookup_of}
@@ -28,7 +33,8 @@ use Rattle.route_passing.specs.Passes.{again, to_forward, table_reasons, passed_
 use Rattle.route_bytes.specs.StoredTables.{TableLeft, table_left, stored_table, changed_by}
 use Rattle.route_bytes.specs.TableBytes.{table_in, table_bytes, is_table}
 use Rattle.route_forwards.specs.Forwards as forwards
-use Rattle.route_forwards.specs.Forwards.{origin_of, passing_of, copy_of, unread_reasons, forward_refusal, forward_of, forward_left, forward_call}
+use Rattle.route_forwards.specs.Forwards.{origin_of, passing_of, copy_of, unread_reasons, forward_refusal, forward_of, forwarded_in, forward_call}
+use Rattle.route_forwards.specs.Outcomes.{forwarded}
 use Rattle.route_forwards.specs.Copies.{passed_by, short_passed_by, copy_size, longest_delay, Fitting}
 use Rattle.octets.proofs.ReasonLaws.{first_append, first-behind, first-refusing}
 use Rattle.octets.proofs.TestLaws.{all_hold, all_with}
@@ -182,6 +188,11 @@ module _ (t : Table) (network manager : ℕ) (s : List ℕ) (delay time room bef
   unfolding pass_of
   passed_as = rw (forward-number, q)
 
+-- the number of what refuses a buffer that is too short
+pub room-number : (b : Bool) (answer : Result Unit Refusal) → answer ≡ cond b (Err Room) (Ok tt) → status_of answer ≡ cond b 5 0
+room-number true answer e = ap status_of e
+room-number false answer e = ap status_of e
+
 -- ---- the copy
 module _ (t : Table) (network manager : ℕ) (s : List ℕ) (delay time : ℕ) (out : List ℕ) (z : forward_refusal t network manager s delay time (length out) ≡ 0) where
   known : Onward t network manager s delay time (length out)
@@ -197,49 +208,60 @@ module _ (t : Table) (network manager : ℕ) (s : List ℕ) (delay time : ℕ) (
       }
 
 -- ---- the answers
-module _ (t : Table) (network manager : ℕ) (s : List ℕ) (delay time : ℕ) (out : List ℕ) (c : Changed)
-    (e : c ≡ settled (forward_refusal t network manager s delay time (length out)) t (passed_table t (passing_of manager (either_in s)) time)) where
-  pub forwarded_off : (c.refused ≡ 0 → ⊥) → forwards.passed (record { refused = c.refused; written = 0; table = c.table }) out ≡ forward_of t network manager s delay time out
-  unfolding forward_of
-  forwarded_off z =
-      let n = ap (λ (x : Changed). x.refused) e in
-      rw (e, ne_eqb _ 0 (λ y. z (n ∙ y)))
+module _ (t : Table) (network manager : ℕ) (s : List ℕ) (delay time : ℕ) (out : List ℕ) (answer : Result Table Refusal)
+    (e : changed t answer ≡ settled (forward_refusal t network manager s delay time (length out)) t (passed_table t (passing_of manager (either_in s)) time)) where
+  abbrev number : ℕ
+  number = forward_refusal t network manager s delay time (length out)
 
-  pub forwarded_on : (held : List ℕ) (size : ℕ) → c.refused ≡ 0 → held ≡ sets out 0 (copy_of t delay s) → size ≡ copy_size (is_short s)
-      → forwards.passed (record { refused = 0; written = size; table = c.table }) held ≡ forward_of t network manager s delay time out
+  said : status_of answer ≡ number
+  said = ap (λ (x : Changed). x.refused) e
+
+  pub forwarded_off : (r : Refusal) → answer ≡ Err r → forwards.passed (forwarded t (Err r)) out ≡ forward_of t network manager s delay time out
   unfolding forward_of
-  forwarded_on held size z h l =
-      let n : forward_refusal t network manager s delay time (length out) ≡ 0 = sym (ap (λ (x : Changed). x.refused) e) ∙ z in
-      rw (e, n, h, l, copy_length t delay s)
+  forwarded_off r q =
+      let n : number_of r ≡ number = ap status_of (sym q) ∙ said in
+      rw (← n, ne_eqb (number_of r) 0 (refusal_some r))
+
+  module _ (next : Table) (q : answer ≡ Ok next) where
+    pub forward-none : number ≡ 0
+    forward-none = sym said ∙ ap status_of q
+
+    pub forwarded_on : (held : List ℕ) (size : ℕ) → held ≡ sets out 0 (copy_of t delay s) → size ≡ copy_size (is_short s)
+        → forwards.passed (forwarded t (Ok (record { table = next; written = size }))) held ≡ forward_of t network manager s delay time out
+    unfolding forward_of
+    forwarded_on held size h l =
+        let new : next ≡ passed_table t (passing_of manager (either_in s)) time = ap (held_after t) (sym q) ∙ (ap (λ (x : Changed). x.table) e ∙ rw forward-none) in
+        rw (forward-none, h, l, new, copy_length t delay s)
 
 -- ---- by a table that lies in bytes
-module _ (table : List ℕ) (network manager : ℕ) (s : List ℕ) (delay time : ℕ) (out : List ℕ) (status : ℕ) (last : List ℕ) (call : Table → Changed)
-    (e : table_left status last ≡ changed_by table call)
+module _ (table : List ℕ) (network manager : ℕ) (s : List ℕ) (delay time : ℕ) (out : List ℕ) (answer : Result Unit Refusal) (last : List ℕ) (call : Table → Changed)
+    (e : table_left (status_of answer) last ≡ changed_by table call)
     (k : (t : Table) → call t ≡ settled (forward_refusal t network manager s delay time (length out)) t (passed_table t (passing_of manager (either_in s)) time)) where
   abbrev t : Table
   t = table_in table
 
-  said : status ≡ stored_table table (forward_refusal t network manager s delay time (length out))
+  said-stored : status_of answer ≡ stored_table table (forward_refusal t network manager s delay time (length out))
   unfolding changed_by
-  said = ap (λ (x : TableLeft). x.status) e ∙ rw (k t)
+  said-stored = ap (λ (x : TableLeft). x.status) e ∙ rw (k t)
 
-  pub stored_off : (status ≡ 0 → ⊥) → forward_left status last out 0 ≡ forward_call table network manager s delay time out 0
+  pub stored_off : (r : Refusal) → answer ≡ Err r → forwarded_in (Err r) last out ≡ forward_call table network manager s delay time out 0
   unfolding forward_call forward_of changed_by
-  stored_off z =
-      let kept : last ≡ table = ap (λ (x : TableLeft). x.table) e ∙ left in
-      rw (← said, ne_eqb status 0 z, kept)
+  stored_off r q =
+      let n = ap status_of (sym q) in
+      let kept : last ≡ table = ap (λ (x : TableLeft). x.table) e ∙ left n in
+      rw (← said-stored, ← n, ne_eqb (number_of r) 0 (refusal_some r), kept)
     where
-      left : (changed_by table call).table ≡ table
-      left = after-refused (changed_by table call).status table _ (λ y. z (ap (λ (x : TableLeft). x.status) e ∙ y))
+      left : number_of r ≡ status_of answer → (changed_by table call).table ≡ table
+      left n = after-refused (changed_by table call).status table _ (λ y. refusal_some r (n ∙ (ap (λ (x : TableLeft). x.status) e ∙ y)))
 
-  pub stored-none : status ≡ 0 → forward_refusal t network manager s delay time (length out) ≡ 0
-  stored-none z = (CallLaws.stored-none (is_table table) (forward_refusal t network manager s delay time (length out)) (sym said ∙ z)).1
+  pub stored-none : status_of answer ≡ 0 → forward_refusal t network manager s delay time (length out) ≡ 0
+  stored-none z = (CallLaws.stored-none (is_table table) (forward_refusal t network manager s delay time (length out)) (sym said-stored ∙ z)).1
 
-  pub stored_on : (held : List ℕ) (size : ℕ) → status ≡ 0 → held ≡ sets out 0 (copy_of t delay s) → size ≡ copy_size (is_short s)
-      → forward_left 0 last held size ≡ forward_call table network manager s delay time out 0
+  pub stored_on : (held : List ℕ) (size : ℕ) → status_of answer ≡ 0 → held ≡ sets out 0 (copy_of t delay s) → size ≡ copy_size (is_short s)
+      → forwarded_in (Ok size) last held ≡ forward_call table network manager s delay time out 0
   unfolding forward_call forward_of changed_by
   stored_on held size z h l =
-      let (known, none) = CallLaws.stored-none (is_table table) (forward_refusal t network manager s delay time (length out)) (sym said ∙ z) in
+      let (known, none) = CallLaws.stored-none (is_table table) (forward_refusal t network manager s delay time (length out)) (sym said-stored ∙ z) in
       let new : last ≡ table_bytes (passed_table t (passing_of manager (either_in s)) time) = ap (λ (x : TableLeft). x.table) e ∙ bytes-new known none in
       rw (known, none, h, l, new, copy_length t delay s)
     where

@@ -1,6 +1,6 @@
 -- Forwarding a beacon of either kind: what of its fields a forwarder needs, when it forwards, and what it leaves.
 -- Assumes nothing.
-use Rattle.std.specs.Prelude.{ℕ, not, cond, List, [], ◌∷◌, ◌++◌, ltb, length}
+use Rattle.std.specs.Prelude.{ℕ, not, cond, List, [], ◌∷◌, ◌++◌, ltb, length, Result}
 use Rattle.std.proofs.lemmas.List.Edits.{sets}
 use Rattle.octets.specs.Addresses as rules
 use Rattle.octets.specs.Answers.{Reason, reason, refusing, first}
@@ -13,9 +13,10 @@ use Rattle.route_passing.specs.declared.Passing.{Passing}
 use Rattle.route_passing.specs.Passes.{table_reasons, passed_table}
 use Rattle.route_bytes.specs.StoredTables.{stored_table}
 use Rattle.route_bytes.specs.TableBytes.{table_in, table_bytes}
-use Rattle.route_forwards.specs.declared.forwarding.Forwarded.{Forwarded}
-use Rattle.route_forwards.specs.declared.forwarding.ForwardedIn.{ForwardedIn}
+use Rattle.octets.specs.Refusals.{status_of}
+use Rattle.octets.specs.declared.refusals.Refusal.{Refusal}
 use Rattle.route_forwards.specs.Copies.{copy_by, longest_delay}
+use Rattle.route_forwards.specs.Outcomes.{Forwarded, written_by}
 
 -- the original source of a short beacon is the plan's manager
 abbrev pub origin_of : ℕ → EitherBeacon → ℕ
@@ -80,8 +81,8 @@ abbrev pub forward_left : ℕ → List ℕ → List ℕ → ℕ → ForwardLeft
 forward_left status table out written = record { status = status; table = table; out = out; written = written }
 
 -- what forwarding answers and leaves of the table's bytes and of the buffer
-abbrev pub forwarded_in : ForwardedIn → List ℕ → List ℕ → ForwardLeft
-forwarded_in answer table out = forward_left answer.refused table out answer.written
+abbrev pub forwarded_in : Result ℕ Refusal → List ℕ → List ℕ → ForwardLeft
+forwarded_in answer table out = forward_left (status_of answer) table out (written_by answer)
 
 -- what forwarding by the table that the bytes s hold leaves of them, of the buffer, and of a number of bytes written
 unfoldable pub forward_call : List ℕ → ℕ → ℕ → List ℕ → ℕ → ℕ → List ℕ → ℕ → ForwardLeft

@@ -27,52 +27,36 @@ pub(crate) fn longest_delay(short: bool) -> u32
 }
 
 // A beacon that was read keeps its rules, and so does its copy.
+// Kept: this and `put_short_copy` are two functions, since a trait with contracts for the few lines that they share is longer than both.
+#[tactic(auto, unfolding(crate::specs::Copies::passed_by))]
 fn put_copy(out: &mut [u8], own: u16, delay: u32, beacon: Beacon)
     requires { (beacon.hop + 1 ≤ 255) × (beacon.delay + delay ≤ 0xFFFFFFFF) × (34 ≤ length out.old) }
     ensures { out.new ≡ sets out.old 0 (frame_of beacons.beacon (beacon_values (passed_by own delay beacon)) []) }
 {
-    let start = 0;
-    let end = 33;
     let copy = Beacon {
-        destination: beacon.destination,
         source: own,
-        size: beacon.size,
-        network: beacon.network,
-        superframe_number: beacon.superframe_number,
-        superframe_ms: beacon.superframe_ms,
-        total_slots: beacon.total_slots,
-        slot_ms: beacon.slot_ms,
-        original_source: beacon.original_source,
         hop: beacon.hop + 1,
-        original_time: beacon.original_time,
         delay: beacon.delay + delay,
-        max_hops: beacon.max_hops,
-        sequence: beacon.sequence,
+        ..beacon
     };
-    copy.put(&mut out[start..end]);
+    copy.put(&mut out[..33]);
     seal(out, 33);
 }
 
 // The same of a short one, whose delay has two bytes.
+#[tactic(auto, unfolding(crate::specs::Copies::short_passed_by))]
 fn put_short_copy(out: &mut [u8], own: u16, delay: u32, beacon: ShortBeacon)
     requires { (beacon.hop + 1 ≤ 255) × (beacon.delay + delay ≤ 0xFFFF) × (19 ≤ length out.old) }
     ensures { out.new ≡ sets out.old 0 (frame_of short_beacon (short_beacon_values (short_passed_by own delay beacon)) []) }
 {
-    let start = 0;
-    let end = 18;
-    let later = beacon.delay as u32 + delay;
+    let later = u32::from(beacon.delay) + delay;
     let copy = ShortBeacon {
         source: own,
-        network: beacon.network,
-        total_slots: beacon.total_slots,
-        slot_ms: beacon.slot_ms,
         hop: beacon.hop + 1,
-        original_time: beacon.original_time,
         delay: later as u16,
-        max_hops: beacon.max_hops,
-        sequence: beacon.sequence,
+        ..beacon
     };
-    copy.put(&mut out[start..end]);
+    copy.put(&mut out[..18]);
     seal(out, 18);
 }
 

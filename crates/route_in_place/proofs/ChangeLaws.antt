@@ -7,8 +7,7 @@ use Rattle.octets.specs.Lists.{every}
 use Rattle.octets.proofs.RunLaws.{run_length}
 use Rattle.octets.proofs.AddressLaws.{address-least}
 use Rattle.route_table.specs.declared.row.Row.{Row}
-use Rattle.route_table.specs.declared.table.Changed.{Changed}
-use Rattle.route_table.specs.declared.table.Found.{Found}
+use Rattle.route_table.specs.Outcomes.{Changed, Found}
 use Rattle.route_table.specs.declared.table.Head.{Head}
 use Rattle.route_table.specs.declared.table.Table.{Table}
 use Rattle.route_table.specs.Rows.{usable, row_rule, forgotten, pad, standing, row_for}
@@ -18,7 +17,7 @@ use Rattle.route_table.proofs.StandingLaws.{standing-every, pad-length}
 use Rattle.route_table.proofs.TableLaws.{within}
 use Rattle.route_passing.specs.declared.Passing.{Passing}
 use Rattle.route_passing.specs.Passes.{passed_head, passing_reasons, pass_reasons, pass_of}
-use Rattle.route_passing.proofs.PassLaws.{pass-number}
+use Rattle.route_passing.proofs.PassLaws.{asked}
 use Rattle.route_bytes.specs.StoredTables.{table_left, changed_by}
 use Rattle.route_bytes.specs.TableBytes.{rows_bytes, head_widths, head_values, rows_in, table_in, table_bytes, is_table, holds_table}
 use Rattle.route_bytes.proofs.TableByteLaws.{rows_run, length-head, zeros-behind, rows_in_lem}
@@ -94,36 +93,39 @@ kept_whole own last time (r ∷ rs) e =
     let by = ne_eqb r.next_hop 0 (λ z. omega (arith, address-least r.next_hop k.hop)) in
     rw (to, by, and-false (usable time r), kept_whole own last time rs later)
 
+-- a table that is not asked, since something refuses the beacon before
+pub refused_before : (s : List ℕ) (before network : ℕ) (p : Passing) (delay time behind : ℕ) → holds_table s ≡ true → (before ≡ 0 → ⊥)
+    → before ≡ (pass_of (table_in s) before network p delay time behind).refused
+unfolding pass_of
+refused_before s before network p delay time behind holds z = rw (judged-rule s holds, ne_eqb before 0 z)
+
 -- what the code has when it decides on passing a beacon on
-pub record Asked (s : List ℕ) (before network : ℕ) (p : Passing) (delay time behind n : ℕ) : Type 0 where
+pub record Asked (s : List ℕ) (before network : ℕ) (p : Passing) (delay time why : ℕ) : Type 0 where
   pub holds : holds_table s ≡ true
+  pub unrefused : before ≡ 0
   pub head : Head
   pub row : Row
   pub found : Found
-  pub why : ℕ
   pub headed : head ≡ head_of (table_in s)
   pub looked : row ≡ row_for p.original_source (rows_in s)
   pub told : found ≡ found_by head.time row p.original_source time
   pub why_not : why ≡ first (passing_reasons head found network p delay time)
-  pub number : n ≡ cond (not (eqb before 0)) before (cond (not (eqb why 0)) why behind)
 
-module _ (s : List ℕ) (before network : ℕ) (p : Passing) (delay time behind n : ℕ) (k : Asked s before network p delay time behind n) where
-  first-reason : cond (not (within_rule (table_in s))) 14 n ≡ first (pass_reasons (table_in s) before network p delay time behind)
-  first-reason = rw k.number (pass-number (table_in s) before network p delay time behind k.why (k.why_not ∙ rw (k.told, k.looked, rows_in_lem s (judged-length s k.holds), k.headed)))
+module _ (s : List ℕ) (before network : ℕ) (p : Passing) (delay time behind why : ℕ) (k : Asked s before network p delay time why) where
+  pub number : cond (not (eqb why 0)) why behind ≡ first (pass_reasons (table_in s) before network p delay time behind)
+  number = asked (table_in s) before network p delay time behind (judged-rule s k.holds) k.unrefused why (k.why_not ∙ rw (k.told, k.looked, rows_in_lem s (judged-length s k.holds), k.headed))
 
-  pub pass-refusal : n ≡ (pass_of (table_in s) before network p delay time behind).refused
+  pub pass-refusal : (n : ℕ) → n ≡ cond (not (eqb why 0)) why behind → n ≡ (pass_of (table_in s) before network p delay time behind).refused
   unfolding pass_of
-  pass-refusal =
-      let same : cond (not (within_rule (table_in s))) 14 n ≡ n = rw (judged-rule s k.holds) in
-      sym same ∙ first-reason
+  pass-refusal n f = f ∙ number
 
-  pub pass-table : n ≡ 0 → (h : Head) → h ≡ passed_head (head_of (table_in s)) p time → table_of h (kept 0 h.time (rows_of (table_in s))) ≡ (pass_of (table_in s) before network p delay time behind).table
+  pub pass-table : 0 ≡ cond (not (eqb why 0)) why behind → (h : Head) → h ≡ passed_head (head_of (table_in s)) p time
+      → table_of h (kept 0 h.time (rows_of (table_in s))) ≡ (pass_of (table_in s) before network p delay time behind).table
   unfolding pass_of
-  pass-table z h q =
+  pass-table f h q =
       let t = table_in s in
-      let rule = judged-rule s k.holds in
-      let same = kept_whole t.own t.time time (standing time (rows_of t)) (standing-every (row_rule t.own t.time) time (rows_of t) (within t rule).rules) in
-      rw (← first-reason, rule, z, q, same)
+      let same = kept_whole t.own t.time time (standing time (rows_of t)) (standing-every (row_rule t.own t.time) time (rows_of t) (within t (judged-rule s k.holds)).rules) in
+      rw (← number, ← f, q, same)
 
 pub unpassed : (before network : ℕ) (p : Passing) (delay time behind : ℕ) (t : Table) → within_rule t ≡ false → (pass_of t before network p delay time behind).refused ≡ 14
 unfolding pass_of

@@ -1,17 +1,17 @@
--- The rows of a table that lies in bytes, place by place: one looked up, the standing ones gathered; and a lookup.
+-- The rows of a table that lies in bytes, place by place: the standing ones gathered; and a lookup.
 -- Assumes nothing.
-use Rattle.octets.proofs.Words.{◌≡◌, refl, sym, ◌∙◌, true, false, cond, List, [], ℕ, ◌+◌, ◌≤◌, ◌<◌, arith, length, get_or, drop, set}
+use Rattle.octets.proofs.Words.{◌≡◌, refl, sym, ◌∙◌, true, false, cond, List, [], ℕ, ◌+◌, ◌≤◌, ◌<◌, arith, length, get_or, set}
 use Rattle.octets.specs.Lists.{tab}
 use Rattle.octets.proofs.ListLaws.{length-tab, get_or-tab}
 use Rattle.route_table.specs.declared.row.Row.{Row}
-use Rattle.route_table.specs.Rows.{none, stands, in_use, pad, standing, row_for}
+use Rattle.route_table.specs.Rows.{none, stands, pad, standing, row_for}
 use Rattle.route_table.specs.Tables.{found_or, found_by, lookup_of}
 use Rattle.route_table.proofs.LookupLaws.{looked_up, not_looked_up}
-use Rattle.route_table.proofs.RowLaws.{row-none, row_here, row_on, Gathered, gathered_end, gathered-last, gathered_skip, gathered_push}
+use Rattle.route_table.proofs.RowLaws.{Gathered, gathered_end, gathered-last, gathered_skip, gathered_push}
 use Rattle.route_bytes.specs.TableBytes.{place_of, rows_in, table_in, is_table, holds_table}
 use Rattle.route_bytes.proofs.TableByteLaws.{rows_in_lem}
 use Rattle.route_in_place.specs.Lookups.{lookup_in}
-use Rattle.route_in_place.proofs.JudgedLaws.{tab-past, judged-table, judged-rule, judged-length}
+use Rattle.route_in_place.proofs.JudgedLaws.{judged-table, judged-rule, judged-length}
 
 -- one of 48 places
 module _ (f : ℕ → Row) (i : ℕ) (h : i < 48) where
@@ -32,17 +32,6 @@ module _ (s : List ℕ) (i : ℕ) (h : i < 48) (r : Row) (here : r ≡ place_of 
   inside : i < length (places s)
   inside = a_place (place_of s) i h
 
-  -- ---- a row looked up
-  module _ (d : ℕ) (e : row_for d (in_use (drop i (places s))) ≡ row_for d (in_use (places s))) where
-    pub find_none : r.destination ≡ 0 → none ≡ row_for d (rows_in s)
-    find_none z = row-none (places s) i inside d e (rw there z)
-
-    pub find_here : (r.destination ≡ 0 → ⊥) → r.destination ≡ d → r ≡ row_for d (rows_in s)
-    find_here z q = sym there ∙ row_here (places s) i inside d e (rw there z) (rw there q)
-
-    pub find_on : (r.destination ≡ 0 → ⊥) → (r.destination ≡ d → ⊥) → row_for d (in_use (drop (i + 1) (places s))) ≡ row_for d (in_use (places s))
-    find_on z q = row_on (places s) i inside d e (rw there z) (rw there q)
-
   -- ---- the rows that stand
   module _ (time n : ℕ) (out : List Row) (g : Gathered time (places s) i n out) where
     pub gather_end : r.destination ≡ 0 → out ≡ pad (standing time (rows_in s))
@@ -53,9 +42,6 @@ module _ (s : List ℕ) (i : ℕ) (h : i < 48) (r : Row) (here : r ≡ place_of 
 
     pub gather_push : (r.destination ≡ 0 → ⊥) → stands time r ≡ true → Gathered time (places s) (i + 1) (n + 1) (set out n r)
     gather_push z q = rw there at (gathered_push time (places s) (length-tab 48 (place_of s)) i n out g h (rw there z) (rw there q))
-
-pub find_end : (s : List ℕ) (i d : ℕ) → 48 ≤ i → row_for d (in_use (drop i (places s))) ≡ row_for d (in_use (places s)) → none ≡ row_for d (rows_in s)
-find_end s i d h e = rw (tab-past 48 (place_of s) i h) at e
 
 pub gather-last : (s : List ℕ) (i time n : ℕ) (out : List Row) → Gathered time (places s) i n out → 48 ≤ i → out ≡ pad (standing time (rows_in s))
 gather-last s i time n out g h = gathered-last time (places s) (length-tab 48 (place_of s)) i n out g h

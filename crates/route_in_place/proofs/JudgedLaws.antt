@@ -1,6 +1,8 @@
 -- One loop over the rows in use, each against the one before, and one over the zeros behind, judge what the definition does.
 -- Assumes nothing.
-use Rattle.octets.proofs.Words.{◌≡◌, refl, sym, ap, ap₂, ◌∙◌, Bool, true, false, not, ◌&&◌, ◌||◌, cond, false≢true, and-true, and-false, and_assoc, and-eq-true_iff, List, [], ◌∷◌, ℕ, zero, suc, ◌+◌, ◌*◌, ◌-◌, ◌≤◌, ◌<◌, ℕ_discrete, add-one, arith, eq-eqb, ne_eqb, lt-ltb, le-ltb, le-leb, lt-leb, leb-true, not-true, not-false, eqb, leb, ltb, length, take, drop, drop_of_length-le, drop-cons}
+use Rattle.octets.proofs.Words.{◌≡◌, refl, sym, ap, ap₂, ◌∙◌, Bool, true, false, not, ◌&&◌, ◌||◌, cond, false≢true, and-true, and-false, and_assoc, and-eq-true_iff, List, [], ◌∷◌, ℕ, zero, suc, ◌+◌, ◌*◌, ◌-◌, ◌≤◌, ◌<◌, ℕ_discrete, dec_lt, add-one, arith, eq-eqb, ne_eqb, lt-ltb, le-ltb, le-leb, lt-leb, leb-true, not-true, not-false, eqb, leb, ltb, length, take, drop, drop_of_length-le, drop-cons}
+use Rattle.std.specs.Option.{is_some}
+use Rattle.std.specs.Prelude.{IfSome, Option, Some, None}
 use Rattle.octets.specs.Layouts.{fields}
 use Rattle.octets.specs.Lists.{tab, every}
 use Rattle.octets.specs.Numbers.{num}
@@ -11,7 +13,7 @@ use Rattle.octets.proofs.PlaceLaws.{none_first}
 use Rattle.octets.proofs.ListLaws.{length-tab, get_or-tab}
 use Rattle.route_table.specs.declared.row.Row.{Row}
 use Rattle.route_table.specs.Places.{carries_rule, ok_places}
-use Rattle.route_table.specs.Rows.{none, is_none, leading_to, in_use, row_for}
+use Rattle.route_table.specs.Rows.{is_none, leading_to, in_use, row_for}
 use Rattle.route_table.specs.declared.table.Head.{Head}
 use Rattle.route_table.specs.Tables.{head_of, pair_ok, within_rule}
 use Rattle.octets.specs.Addresses.{address}
@@ -20,9 +22,10 @@ use Rattle.route_table.proofs.TableLaws.{table_right}
 use Rattle.route_bytes.specs.TableBytes.{row_widths, row_from, row_at, rows_in, table_in, flags_ok, is_table, holds_table}
 use Rattle.route_bytes.proofs.TableByteLaws.{table-length, rows_in_lem}
 use Rattle.octets.specs.Zeros.{is_zero, zeros_from}
-use Rattle.route_in_place.specs.declared.judging.Judged.{Judged}
-use Rattle.route_in_place.specs.Judged.{rows_ok, front_ok, row_starting}
+use Rattle.route_in_place.specs.declared.judging.Front.{Front}
+use Rattle.route_in_place.specs.Judged.{rows_ok, front_ok, row_ending}
 use Rattle.route_in_place.specs.Lookups.{judged_for}
+use Rattle.route_in_place.specs.Outcomes.{Judged, judged}
 use Rattle.octets.proofs.ZeroLaws.{fields-zero}
 
 -- ---- lists that are read from bytes, from a place on
@@ -95,20 +98,23 @@ abbrev few : ℕ → Bool
 few d = leb d 0xFFFE
 
 -- the rows passed are right: the rest is right exactly if the whole is
-pub record Judging (s : List ℕ) (own last wanted below at start : ℕ) : Type 0 where
-  pub place : ℕ
-  pub here : start ≡ 11 + 11 * place
+pub record Judging (s : List ℕ) (own last wanted below past place : ℕ) : Type 0 where
   pub within : place ≤ 48
   pub rest : (few below && (follow below (drop place (tab 48 (row_at s))) && (every small (drop place (tab 48 (flag_at s))) && ok_places own last (drop place (tab 48 (row_at s)))))) ≡ rows_ok own last s
   -- the row that is wanted was found, or it is among the rest; where it was found, no row of the rest is as low
-  pub room : at + 11 ≤ 539
-  pub left : cond (eqb at 0) (row_for wanted (in_use (drop place (tab 48 (row_at s))))) (row_from (fields row_widths s at)) ≡ row_for wanted (in_use (tab 48 (row_at s)))
-  pub once : (at ≡ 0 → ⊥) → wanted ≤ below
+  pub room : past ≤ 539
+  pub left : cond (ltb past 11) (row_for wanted (in_use (drop place (tab 48 (row_at s))))) (row_from (fields row_widths s (past - 11))) ≡ row_for wanted (in_use (tab 48 (row_at s)))
+  pub once : 11 ≤ past → wanted ≤ below
 
 -- what is known of the rows when they were passed
-abbrev Passed : List ℕ → ℕ → ℕ → ℕ → ℕ → ℕ → ℕ → Type 0
-Passed s own last wanted end highest at =
-    (front_ok end highest s ≡ rows_ok own last s) × (at + 11 ≤ 539) × (front_ok end highest s ≡ true → row_starting at s ≡ row_for wanted (in_use (tab 48 (row_at s))))
+abbrev Passed : List ℕ → ℕ → ℕ → ℕ → Option Front → Type 0
+Passed s own last wanted found =
+    (front_ok found s ≡ rows_ok own last s)
+    × IfSome found (λ front. (front.past ≤ 539) × (front_ok found s ≡ true → row_ending front.past s ≡ row_for wanted (in_use (tab 48 (row_at s)))))
+
+-- the rows in front, as the code has them
+abbrev front_at : ℕ → ℕ → ℕ → Option Front
+front_at end highest past = Some (record { end = end; highest = highest; past = past })
 
 -- ---- a row through a part of known length
 module _ (s : List ℕ) (i : ℕ) where
@@ -144,74 +150,71 @@ module _ (s : List ℕ) (l : length s ≡ 539) where
     unfolding every
     none_ok rs z = ok_right own last rs ∙ rw (none_first leading_to rs z)
 
-    module _ (wanted below at start : ℕ) (j : Judging s own last wanted below at start) where
+    module _ (wanted below past place : ℕ) (j : Judging s own last wanted below past place) where
       abbrev rows : List Row
-      rows = drop j.place (tab 48 (row_at s))
+      rows = drop place (tab 48 (row_at s))
 
       abbrev flags : List ℕ
-      flags = drop j.place (tab 48 (flag_at s))
+      flags = drop place (tab 48 (flag_at s))
 
       -- none of the rest is in use
-      found : in_use rows ≡ [] → row_starting at s ≡ row_for wanted (in_use (tab 48 (row_at s)))
+      found : in_use rows ≡ [] → row_ending past s ≡ row_for wanted (in_use (tab 48 (row_at s)))
       found e = rw e at j.left
 
       -- no row is left
-      pub none_left : 539 ≤ start → Passed s own last wanted 539 below at
+      pub none_left : 48 ≤ place → Passed s own last wanted (front_at 539 below past)
       unfolding every
       none_left e =
           let k : length s ≤ 539 = omega arith in
-          let all : j.place ≡ 48 = omega (arith, j.here, j.within) in
+          let all : place ≡ 48 = omega (arith, j.within) in
           let past : rows ≡ [] = rw all (tab-past 48 (row_at s) 48 (omega arith)) in (
             rw (drop_of_length-le s k) (rw (all, tab-past 48 (row_at s) 48 (omega arith), tab-past 48 (flag_at s) 48 (omega arith)) at j.rest),
-            j.room,
-            λ t. found (rw past),
+            (j.room, λ t. found (rw past)),
           )
 
-      module _ (h : start < 539) where
-        inside : j.place < 48
-        inside = omega (arith, j.here)
+      module _ (inside : place < 48) where
+        abbrev start : ℕ
+        start = 11 + 11 * place
 
-        module _ (r : Row) (read : r ≡ row_from (fields row_widths (take (start + 11 - start) (drop start s)) 0)) where
-          same : r ≡ row_at s j.place
-          same = part-row s j.place r (rw j.here at read)
+        module _ (r : Row) (read : r ≡ row_from (fields row_widths (part s place) 0)) where
+          same : r ≡ row_at s place
+          same = part-row s place r read
 
           first : first_key leading_to rows ≡ r.destination
-          first = rw (tab-from 48 (row_at s) j.place inside, ← same)
+          first = rw (tab-from 48 (row_at s) place inside, ← same)
 
           -- a place that is not above the row below: an empty one, where there may be zeros alone, or one that is no zeros
-          pub ended : r.destination ≤ below → Passed s own last wanted start below at
+          pub ended : r.destination ≤ below → Passed s own last wanted (front_at start below past)
           unfolding every row_at
           ended k = go (ℕ_discrete r.destination 0)
             where
-              go : Dec (r.destination ≡ 0) → Passed s own last wanted start below at
+              go : Dec (r.destination ≡ 0) → Passed s own last wanted (front_at start below past)
               go (yes z) =
                   let none : first_key leading_to rows ≡ 0 = first ∙ z in
-                  let zeros : (every small flags && ok_places own last rows) ≡ zeros_from (11 + 11 * j.place) s =
-                  ap (λ (b : Bool). every small flags && b) (none_ok rows none) ∙ behind (48 - j.place) j.place (omega (arith, inside)) in (
-                    rw (j.here, lt-ltb 0 (11 + 11 * j.place) (omega arith), ← zeros) (rw (eq-eqb (first_key leading_to rows) 0 none) at j.rest),
-                    j.room,
-                    λ t. found (none_first leading_to rows none),
+                  let zeros : (every small flags && ok_places own last rows) ≡ zeros_from (11 + 11 * place) s =
+                  ap (λ (b : Bool). every small flags && b) (none_ok rows none) ∙ behind (48 - place) place (omega (arith, inside)) in (
+                    rw (← zeros) (rw (eq-eqb (first_key leading_to rows) 0 none) at j.rest),
+                    (j.room, λ t. found (none_first leading_to rows none)),
                   )
               go (no n) =
-                  let number : num 2 s (11 + 11 * j.place) ≡ r.destination = sym (ap (λ (x : Row). x.destination) same) in
-                  let some : num 2 s (11 + 11 * j.place) ≡ 0 → ⊥ = λ z. n (sym number ∙ z) in
-                  let cut : front_ok start below s ≡ (few below && false) =
-                  rw (j.here, lt-ltb 0 (11 + 11 * j.place) (omega arith), fields-zero row_widths s (11 + 11 * j.place) (omega (arith, inside)), ne_eqb _ 0 some) in (
+                  let number : num 2 s (11 + 11 * place) ≡ r.destination = sym (ap (λ (x : Row). x.destination) same) in
+                  let some : num 2 s (11 + 11 * place) ≡ 0 → ⊥ = λ z. n (sym number ∙ z) in
+                  let cut : front_ok (front_at start below past) s ≡ (few below && false) =
+                  rw (fields-zero row_widths s (11 + 11 * place) (omega (arith, inside)), ne_eqb _ 0 some) in (
                     cut ∙ (rw (first, ne_eqb r.destination 0 n, le-ltb below r.destination k) at j.rest),
-                    j.room,
-                    λ t. absurd (false≢true (sym (and-false (few below)) ∙ (sym cut ∙ t))),
+                    (j.room, λ t. absurd (false≢true (sym (and-false (few below)) ∙ (sym cut ∙ t)))),
                   )
 
           module _ (above : below < r.destination) (good : Bool) (e : good ≡ carries_rule own last r) (v : ℕ)
-              (flag : v ≡ num 1 (take (start + 11 - start) (drop start s)) 10) where
+              (flag : v ≡ num 1 (part s place) 10) where
             abbrev kept : Bool
             kept = good && leb v 1
 
             abbrev rows_on : List Row
-            rows_on = drop (j.place + 1) (tab 48 (row_at s))
+            rows_on = drop (place + 1) (tab 48 (row_at s))
 
             abbrev flags_on : List ℕ
-            flags_on = drop (j.place + 1) (tab 48 (flag_at s))
+            flags_on = drop (place + 1) (tab 48 (flag_at s))
 
             turn : (kept && (few r.destination && (follow r.destination rows_on && (every small flags_on && ok_places own last rows_on)))) ≡ rows_ok own last s
             unfolding every
@@ -219,44 +222,45 @@ module _ (s : List ℕ) (l : length s ≡ 539) where
                 let d = r.destination in
                 let lowest : leb 1 d ≡ true = le-leb 1 d (omega arith) in
                 sym (regroup (few below) (few d) good (small v) (follow d rows_on) (every small flags_on) (ok_places own last rows_on) (λ q. le-leb below 0xFFFE (omega (arith, leb-true d 0xFFFE q))))
-                ∙ (rw (tab-from 48 (row_at s) j.place inside, tab-from 48 (flag_at s) j.place inside, ← same, ← part-flag s j.place v (rw j.here at flag), ne_eqb d 0 (omega arith), lt-ltb below d (omega arith), ← rule-carries own last r, ← e, lowest) at j.rest)
+                ∙ (rw (tab-from 48 (row_at s) place inside, tab-from 48 (flag_at s) place inside, ← same, ← part-flag s place v flag, ne_eqb d 0 (omega arith), lt-ltb below d (omega arith), ← rule-carries own last r, ← e, lowest) at j.rest)
 
-            pub row-bad : not kept ≡ true → Passed s own last wanted 0 0 0
-            row-bad t = (rw (not-true kept t) at turn, omega arith, λ q. absurd (false≢true q))
+            pub row-bad : not kept ≡ true → Passed s own last wanted None
+            row-bad t = (rw (not-true kept t) at turn, tt)
 
             -- the rest has one row less
             on : row_for wanted (in_use rows) ≡ cond (eqb r.destination wanted) r (row_for wanted (in_use rows_on))
-            on = rw (tab-from 48 (row_at s) j.place inside, ← same, ne_eqb r.destination 0 (omega arith))
+            on = rw (tab-from 48 (row_at s) place inside, ← same, ne_eqb r.destination 0 (omega arith))
 
-            left-on : (next : ℕ) → next ≡ cond (eqb r.destination wanted) start at
-                → (next + 11 ≤ 539) × (cond (eqb next 0) (row_for wanted (in_use rows_on)) (row_from (fields row_widths s next)) ≡ row_for wanted (in_use (tab 48 (row_at s)))) × ((next ≡ 0 → ⊥) → wanted ≤ r.destination)
-            left-on next n = go (ℕ_discrete r.destination wanted) (ℕ_discrete at 0)
+            left-on : (next : ℕ) → next ≡ cond (eqb r.destination wanted) (start + 11) past
+                → (next ≤ 539) × (cond (ltb next 11) (row_for wanted (in_use rows_on)) (row_from (fields row_widths s (next - 11))) ≡ row_for wanted (in_use (tab 48 (row_at s)))) × (11 ≤ next → wanted ≤ r.destination)
+            left-on next n = go (ℕ_discrete r.destination wanted) (dec_lt past 11)
               where
-                go : Dec (r.destination ≡ wanted) → Dec (at ≡ 0)
-                    → (next + 11 ≤ 539) × (cond (eqb next 0) (row_for wanted (in_use rows_on)) (row_from (fields row_widths s next)) ≡ row_for wanted (in_use (tab 48 (row_at s)))) × ((next ≡ 0 → ⊥) → wanted ≤ r.destination)
-                go (yes q) (no z) = absurd (omega (arith, j.once z))
+                go : Dec (r.destination ≡ wanted) → Dec (past < 11)
+                    → (next ≤ 539) × (cond (ltb next 11) (row_for wanted (in_use rows_on)) (row_from (fields row_widths s (next - 11))) ≡ row_for wanted (in_use (tab 48 (row_at s)))) × (11 ≤ next → wanted ≤ r.destination)
+                go (yes q) (no z) = absurd (omega (arith, j.once (omega (arith, z))))
                 go (yes q) (yes z) =
-                    let here : next ≡ start = rw (eq-eqb r.destination wanted q) at n in
+                    let here : next ≡ start + 11 = rw (eq-eqb r.destination wanted q) at n in
+                    let from : next - 11 ≡ start = omega arith in
                     let row : row_from (fields row_widths s start) ≡ r = sym (read ∙ ap row_from (fields-part row_widths s start (start + 11 - start) (omega arith))) in (
-                      omega (arith, j.here, inside),
-                      rw (here, ne_eqb start 0 (omega (arith, j.here)), row) (rw (z, on, eq-eqb r.destination wanted q) at j.left),
+                      omega (arith, inside),
+                      rw (le-ltb next 11 (omega arith), from, row) (rw (lt-ltb past 11 z, on, eq-eqb r.destination wanted q) at j.left),
                       λ s. omega arith,
                     )
                 go (no q) d =
-                    let here : next ≡ at = rw (ne_eqb r.destination wanted q) at n in (
+                    let here : next ≡ past = rw (ne_eqb r.destination wanted q) at n in (
                       omega (arith, j.room),
                       rw here (rw (on, ne_eqb r.destination wanted q) at j.left),
-                      λ s. omega (arith, j.once (λ z. s (here ∙ z))),
+                      λ s. omega (arith, j.once (omega (arith, s))),
                     )
 
-            pub row_kept : not kept ≡ false → (next : ℕ) → next ≡ cond (eqb r.destination wanted) start at → Judging s own last wanted r.destination next (start + 11)
+            pub row_kept : not kept ≡ false → (next : ℕ) → next ≡ cond (eqb r.destination wanted) (start + 11) past → Judging s own last wanted r.destination next (place + 1)
             row_kept t next n =
                 let (room, left, once) = left-on next n in
-                record { place = j.place + 1; here = omega (arith, j.here); within = omega (arith, inside); rest = rw (not-false kept t) at turn; room = room; left = left; once = once }
+                record { within = omega (arith, inside); rest = rw (not-false kept t) at turn; room = room; left = left; once = once }
 
-pub judging : (s : List ℕ) (own last wanted : ℕ) → Judging s own last wanted 0 0 11
+pub judging : (s : List ℕ) (own last wanted : ℕ) → Judging s own last wanted 0 0 0
 judging s own last wanted =
-    record { place = 0; here = refl; within = omega arith; rest = rw (above_none (first_key leading_to (tab 48 (row_at s)))); room = omega arith; left = refl; once = λ z. absurd (z refl) }
+    record { within = omega arith; rest = rw (above_none (first_key leading_to (tab 48 (row_at s)))); room = omega arith; left = refl; once = λ z. omega (arith, z) }
   where
     above_none : (d : ℕ) → (eqb d 0 || ltb 0 d) ≡ true
     above_none d = go (ℕ_discrete d 0)
@@ -276,45 +280,48 @@ pub no_length : (s : List ℕ) → (length s ≡ 539 → ⊥) → false ≡ hold
 unfolding is_table holds_table
 no_length s n = rw (ne_eqb (length s) 539 n)
 
--- a row through a part, where it starts
-module _ (s : List ℕ) (at : ℕ) where
-  pub no_start : at ≡ 0 → none ≡ row_starting at s
-  no_start z = rw (eq-eqb at 0 z)
+-- a row through a part, where it ends
+module _ (s : List ℕ) (past : ℕ) where
+  pub ends : 11 ≤ past → (r : Row) → r ≡ row_from (fields row_widths (take (past - (past - 11)) (drop (past - 11) s)) 0) → r ≡ row_ending past s
+  ends n r e = e ∙ rw (le-ltb past 11 n) (ap row_from (fields-part row_widths s (past - 11) (past - (past - 11)) (omega arith)))
 
-  pub starts : (at ≡ 0 → ⊥) → (r : Row) → r ≡ row_from (fields row_widths (take (at + 11 - at) (drop at s)) 0) → r ≡ row_starting at s
-  starts n r e = e ∙ rw (ne_eqb at 0 n) (ap row_from (fields-part row_widths s at (at + 11 - at) (omega arith)))
+pub some_holds : (answer : Option Row) → is_some answer ≡ (judged answer).holds
+some_holds (Some r) = refl
+some_holds None = refl
 
-pub judged-none : (s : List ℕ) (d : ℕ) → false ≡ holds_table s → record { holds = false; row = none } ≡ judged_for d s
+pub judged-none : (s : List ℕ) (d : ℕ) → false ≡ holds_table s → judged None ≡ judged_for d s
 judged-none s d e = rw (← e)
 
-module _ (s : List ℕ) (l : length s ≡ 539) (h : Head) (e : h ≡ head_of (table_in s)) (wanted end highest at : ℕ) (q : Passed s h.own h.time wanted end highest at) where
+pub judged-some : (s : List ℕ) (d : ℕ) (r : Row) → true ≡ holds_table s → r ≡ row_for d (rows_in s) → judged (Some r) ≡ judged_for d s
+judged-some s d r e q = rw (← e, q)
+
+module _ (s : List ℕ) (l : length s ≡ 539) (h : Head) (e : h ≡ head_of (table_in s)) (wanted : ℕ) where
   abbrev pair : Bool
   pair = pair_ok h.forwarded h.origin h.sequence
 
-  whole : (address h.own && leb (num 1 s 6) 1 && pair && front_ok end highest s) ≡ holds_table s
+  whole : (found : Option Front) → Passed s h.own h.time wanted found → (address h.own && leb (num 1 s 6) 1 && pair && front_ok found s) ≡ holds_table s
   unfolding is_table table_in holds_table
-  whole =
+  whole found q =
       let places = ok_places h.own h.time (tab 48 (row_at s)) in
       let known : (true && leb (num 1 s 6) 1 && flags_ok 48 s) ≡ is_table s = rw (eq-eqb (length s) 539 l) in
       let rule : (address h.own && pair && places) ≡ within_rule (table_in s) = rw e (table_right (table_in s) _ _ (length-tab 48 (row_at s)) refl refl) in
       rw q.0 (head_first (address h.own) (leb (num 1 s 6) 1) pair (flags_ok 48 s) places ∙ ap₂ ◌&&◌ known rule)
 
-  pub rows-bad : end ≡ 0 → false ≡ holds_table s
-  rows-bad k = sym (and-false (address h.own && leb (num 1 s 6) 1 && pair)) ∙ (rw k at whole)
+  pub rows-bad : Passed s h.own h.time wanted None → false ≡ holds_table s
+  rows-bad q = sym (and-false (address h.own && leb (num 1 s 6) 1 && pair)) ∙ whole None q
 
-  pub all-judged : (end ≡ 0 → ⊥) → (flag : ℕ) (right zeros : Bool) → flag ≡ num 1 s 6 → right ≡ pair → zeros ≡ zeros_from end s
-      → (address h.own && leb flag 1 && right && leb highest 0xFFFE && zeros) ≡ holds_table s
-  all-judged k flag right zeros f p z =
-      rw (f, p, z) (and_assoc (address h.own && leb (num 1 s 6) 1 && pair) (leb highest 0xFFFE) (zeros_from end s) ∙ (rw (lt-ltb 0 end (omega (arith, k))) at whole))
+  module _ (front : Front) (q : Passed s h.own h.time wanted (Some front)) where
+    pub all-judged : (flag : ℕ) (right zeros : Bool) → flag ≡ num 1 s 6 → right ≡ pair → zeros ≡ zeros_from front.end s
+        → (address h.own && leb flag 1 && right && leb front.highest 0xFFFE && zeros) ≡ holds_table s
+    all-judged flag right zeros f p z =
+        rw (f, p, z) (and_assoc (address h.own && leb (num 1 s 6) 1 && pair) (leb front.highest 0xFFFE) (zeros_from front.end s) ∙ whole (Some front) q)
 
-  -- the row that was found is that of the table, if there is one
-  pub judged-row : (holds : Bool) → holds ≡ holds_table s → (start : ℕ) → start ≡ cond holds at 0 → (r : Row) → r ≡ row_starting start s
-      → record { holds = holds; row = r } ≡ judged_for wanted s
-  unfolding table_in
-  judged-row true t start b r c =
-      let front = ((and-eq-true_iff (address h.own && leb (num 1 s 6) 1 && pair) (front_ok end highest s)).0 (whole ∙ sym t)).1 in
-      rw (← t, c, b) (ap (λ (x : Row). record { holds = true; row = x }) (q.2 front ∙ ap (row_for wanted) (sym (rows_in_lem s l))))
-  judged-row false t start b r c = rw (← t, c, b)
+    -- the row that was found is that of the table
+    pub judged-row : true ≡ holds_table s → row_ending front.past s ≡ row_for wanted (rows_in s)
+    unfolding table_in
+    judged-row t =
+        let right = ((and-eq-true_iff (address h.own && leb (num 1 s 6) 1 && pair) (front_ok (Some front) s)).0 (whole (Some front) q ∙ sym t)).1 in
+        q.1.1 right ∙ ap (row_for wanted) (sym (rows_in_lem s l))
 
 -- ---- what holds of bytes that hold a table within rule
 module _ (s : List ℕ) (e : holds_table s ≡ true) where
@@ -340,7 +347,3 @@ module _ (s : List ℕ) (d : ℕ) (j : Judged) (e : j ≡ judged_for d s) where
 
   pub judged-found : j.holds ≡ true → j.row ≡ row_for d (rows_in s)
   judged-found t = ap (λ (x : Judged). x.row) e ∙ rw (judged-holds true t)
-
-pub start_fits : (holds : Bool) (at start n : ℕ) → start ≡ cond holds at 0 → at + 11 ≤ n → start + 11 ≤ n
-start_fits true at start n e h = omega arith
-start_fits false at start n e h = omega arith

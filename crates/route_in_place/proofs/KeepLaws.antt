@@ -26,6 +26,7 @@ pub record Keeping (s out : List ℕ) (unit time count place : ℕ) : Type 0 whe
   pub within : place ≤ 48
   pub few : count ≤ place
   pub long : length out ≡ 539
+  pub fits : Bytes s
   pub rest : sets out (11 + 11 * count) (rows_bytes (kept unit time (in_use (drop place (places s))))) ≡ sets s 11 (rows_bytes (kept unit time (in_use (places s))))
   pub counted : count + length (kept unit time (in_use (drop place (places s)))) ≡ length (kept unit time (in_use (places s)))
   pub behind : drop (11 + 11 * place) out ≡ drop (11 + 11 * place) s
@@ -35,7 +36,7 @@ abbrev pub Kept : List ℕ → List ℕ → ℕ → ℕ → ℕ → Type 0
 Kept s out unit time count =
     (out ≡ sets s 11 (rows_bytes (kept unit time (rows_of (table_in s))))) × (count ≡ length (kept unit time (rows_of (table_in s)))) × (count ≤ 48)
 
-module _ (s : List ℕ) (j : holds_table s ≡ true) (b : Bytes s) (out : List ℕ) (unit time count place : ℕ) (g : Keeping s out unit time count place) where
+module _ (s : List ℕ) (j : holds_table s ≡ true) (out : List ℕ) (unit time count place : ℕ) (g : Keeping s out unit time count place) where
   kept-all : in_use (drop place (places s)) ≡ [] → Kept s out unit time count
   unfolding table_in
   kept-all e = (rw e at g.rest, omega (arith, g.counted, ap (λ (rs : List Row). length (kept unit time rs)) e), omega (arith, g.few, g.within))
@@ -55,7 +56,7 @@ module _ (s : List ℕ) (j : holds_table s ≡ true) (b : Bytes s) (out : List �
     -- the row's bytes are those that lie there
     lying : bytes row_widths (row_values (row_at s place)) ≡ take 11 (drop from s)
     unfolding row_at
-    lying = row_kept s b from (omega (arith, judged-length s j)) (flagged s b 48 (judged_flags s j) place h)
+    lying = row_kept s g.fits from (omega (arith, judged-length s j)) (flagged s g.fits 48 (judged_flags s j) place h)
 
     pub keep_end : r.destination ≡ 0 → Kept s out unit time count
     keep_end z = kept-all (in_use_end (places s) place (a_place (row_at s) place h) (rw (at_place (row_at s) place h r same) z))
@@ -77,6 +78,7 @@ module _ (s : List ℕ) (j : holds_table s ≡ true) (b : Bytes s) (out : List �
             within = omega arith;
             few = omega (arith, g.few);
             long = g.long;
+            fits = g.fits;
             rest = rw e at g.rest;
             counted = rw e at g.counted;
             behind = further;
@@ -107,6 +109,7 @@ module _ (s : List ℕ) (j : holds_table s ≡ true) (b : Bytes s) (out : List �
               within = omega arith;
               few = omega (arith, g.few);
               long = g.long;
+              fits = g.fits;
               rest =
                   rw next
                   (sym (rw (split, not-true (lost unit time r) unlost) (sets_append (bytes row_widths (row_values r)) (rows_bytes rs) out start ∙ rw (length-bytes row_widths (row_values r) refl, whole, sets_same out start 11 (omega (arith, g.long, g.few)))))
@@ -130,10 +133,11 @@ module _ (s : List ℕ) (j : holds_table s ≡ true) (b : Bytes s) (out : List �
               within = omega arith;
               few = omega (arith, g.few);
               long = l ∙ g.long;
+              fits = g.fits;
               rest = rw (n, next) (put-turn rows_run out start w rs filled room f ∙ (sym (ap (λ (x : List Row). sets out start (rows_bytes x)) first) ∙ g.rest));
               counted = more;
               behind = ap (λ (x : List ℕ). drop (11 + 11 * (place + 1)) x) put ∙ (drop-sets (bytes row_widths (row_values w)) out start (11 + 11 * (place + 1)) (omega (arith, size, g.few)) ∙ further);
             }
 
-pub keep-first : (s : List ℕ) (unit time : ℕ) → length s ≡ 539 → Keeping s s unit time 0 0
-keep-first s unit time l = record { within = omega arith; few = omega arith; long = l; rest = refl; counted = omega arith; behind = refl }
+pub keep-first : (s : List ℕ) (unit time : ℕ) → length s ≡ 539 → Bytes s → Keeping s s unit time 0 0
+keep-first s unit time l b = record { within = omega arith; few = omega arith; long = l; fits = b; rest = refl; counted = omega arith; behind = refl }

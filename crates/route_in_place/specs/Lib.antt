@@ -1,3 +1,4 @@
 pub mod Changes
 pub mod Judged
 pub mod Lookups
+pub mod Outcomes

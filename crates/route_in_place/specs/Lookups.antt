@@ -1,12 +1,12 @@
 -- A table that lies in bytes: judged, with its row for a destination, and looked up in.
 -- Assumes nothing.
 use Rattle.std.specs.Prelude.{ℕ, cond, List}
-use Rattle.route_table.specs.declared.table.Found.{Found}
+use Rattle.route_table.specs.Outcomes.{Found}
 use Rattle.route_table.specs.Rows.{none, row_for}
 use Rattle.route_table.specs.Tables.{found_or, lookup_of}
 use Rattle.route_bytes.specs.StoredTables.{on_table}
 use Rattle.route_bytes.specs.TableBytes.{rows_in, holds_table}
-use Rattle.route_in_place.specs.declared.judging.Judged.{Judged}
+use Rattle.route_in_place.specs.Outcomes.{Judged}
 
 -- whether bytes hold a table within rule, and its row for a destination
 abbrev pub judged_for : ℕ → List ℕ → Judged

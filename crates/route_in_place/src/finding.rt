@@ -1,20 +1,19 @@
 // What a lookup in a table that lies in bytes answers.
 ghost use Rattle.std.specs.Prelude.{◌≡◌};
+ghost use Rattle.route_table.specs.Outcomes.{found};
 ghost use Rattle.route_in_place.specs.Lookups.{lookup_in};
 
 use crate::judging::judged_for;
-use octets::answers::Refusal;
-use octets::numbers::number32;
-use route_table::row::Row;
-use route_table::table::{Found, found_by, found_or};
+use octets::refusals::Refusal;
+use octets::stored::Stored;
+use route_table::table::{Route, found_by};
 
 // The next hop to a destination, by a row that is usable at this time, and for how long it is.
-pub fn lookup(s: &[u8], destination: u16, time: u32) -> Found
-    ensures { result ≡ lookup_in s.now destination time }
+pub fn lookup(s: &[u8], destination: u16, time: u32) -> Result<Route, Refusal>
+    ensures { found result ≡ lookup_in s.now destination time }
 {
-    let judged = judged_for(s, destination);
-    if !judged.holds {
-        return found_or(Refusal::RULE, Row::none(), 0);
-    }
-    found_by(number32(s, 2), judged.row, destination, time)
+    let Some(row) = judged_for(s, destination) else {
+        return Err(Refusal::Rule);
+    };
+    found_by(u32::read(s, 2), row, destination, time)
 }

@@ -10,22 +10,13 @@ use route_table::row::Row;
 pub fn standing_rows(s: &[u8], time: u32) -> [Row; 48]
     ensures { result ≡ pad (standing time (rows_in s.now)) }
 {
-    let mut out = [Row {
-        destination: 0,
-        next_hop: 0,
-        hops: 0,
-        quality: 0,
-        time: 0,
-        withdrawn: false,
-    }; 48];
+    let mut out = [Row::NONE; 48];
     let mut n = 0;
-    let mut place: u8 = 0;
-    while place < 48 {
+    for place in 0..48 {
         let row = row_at(s, place);
         if row.destination == 0 {
             return out;
         }
-        place += 1;
         if !row.stands(time) {
             continue;
         }

@@ -1,6 +1,7 @@
 -- Candidates, good and bad, and those of an update's entries.
 -- Assumes nothing.
 use Rattle.octets.proofs.Words.{◌≡◌, refl, ap, Bool, true, false, ◌&&◌, ◌||◌, cond, and-eq-true_iff, List, [], ◌∷◌, ℕ, ◌*◌, ◌≤◌, ◌<◌, ltb-false, eqb, leb, ltb, take, drop}
+use Rattle.std.specs.Prelude.{Some, None}
 use Rattle.octets.specs.Lists.{every, Each}
 use Rattle.octets.proofs.LayoutLaws.{fields-part}
 use Rattle.octets.proofs.TestLaws.{neither}
@@ -10,7 +11,7 @@ use Rattle.frame_traffic.specs.declared.entry.Entry.{Entry}
 use Rattle.frame_traffic.specs.Traffic.{entry_widths, entry_from, entry_rule, entry_at}
 use Rattle.route_merges.specs.declared.candidate.Candidate.{Candidate}
 use Rattle.route_merges.specs.Candidates.{offered, passed_over_of, offers, bad}
-use Rattle.route_merges.specs.Offering.{nothing, offer_of}
+use Rattle.route_merges.specs.Offering.{offer_of}
 
 -- a good candidate has at most 16 hops, and a quality of at least 40
 pub good-hops : (c : Candidate) → bad c ≡ false → c.hops ≤ 16
@@ -34,13 +35,21 @@ pub entry-part : (s : List ℕ) (position k : ℕ) → 10 ≤ k → entry_at (ta
 unfolding entry_at
 entry-part s position k h = ap entry_from (fields-part entry_widths s (10 * position) k h)
 
--- what an entry offers, by whether it is passed over
+-- ---- what an entry offers, by whether it is passed over
 module _ (own origin quality : ℕ) (e : Entry) where
-  pub over : passed_over_of own origin e ≡ true → nothing ≡ offer_of own origin quality e
-  over q = rw q
+  pub over : None ≡ offer_of own origin quality e → passed_over_of own origin e ≡ true
+  over q = go (passed_over_of own origin e) q
+    where
+      go : (b : Bool) → None ≡ cond b None (Some (offered quality e)) → b ≡ true
+      go true q = refl
+      go false q = cc
 
-  pub not_over : passed_over_of own origin e ≡ false → offered quality e ≡ offer_of own origin quality e
-  not_over q = rw q
+  pub not_over : (c : Candidate) → Some c ≡ offer_of own origin quality e → (passed_over_of own origin e ≡ false) × (c ≡ offered quality e)
+  not_over c q = go (passed_over_of own origin e) q
+    where
+      go : (b : Bool) → Some c ≡ cond b None (Some (offered quality e)) → (b ≡ false) × (c ≡ offered quality e)
+      go true q = cc
+      go false q = (refl, cc)
 
 -- ---- what holds of each of some candidates
 -- what holds of every entry's candidate that is not passed over holds of each that the entries offer

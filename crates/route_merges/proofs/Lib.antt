@@ -8,10 +8,8 @@ pub mod LearnLaws
 pub mod LoopLaws
 pub mod MergeLaws
 pub mod MoveLaws
-pub mod OfferLaws
 pub mod OtherLaws
 pub mod PadLaws
-pub mod RankLaws
 pub mod SearchLaws
 pub mod StepLaws
 pub mod StoredLaws

@@ -1,11 +1,15 @@
 -- Merging an update, from what its parts say.
 -- Assumes nothing.
-use Rattle.octets.proofs.Words.{◌≡◌, sym, ap, ◌∙◌, Bool, true, false, not, cond, List, ℕ, ◌≤◌, ◌<◌, eqb-true, ne_eqb, not-false, ltb-false, eqb, length}
+use Rattle.octets.proofs.Words.{◌≡◌, sym, ap, ◌∙◌, true, false, List, ℕ, ◌≤◌, ◌<◌, eqb-true, ne_eqb, not-false, ltb-false, eqb, length}
+use Rattle.std.specs.Prelude.{Ok, Err}
 use Rattle.octets.specs.Answers.{first}
+use Rattle.octets.specs.Refusals.{number_of}
+use Rattle.octets.specs.declared.refusals.Refusal.{Refusal}
 use Rattle.octets.specs.Lists.{every}
 use Rattle.octets.proofs.AnswerLaws.{refusing_numbered, none-holds}
 use Rattle.moments.specs.Moments.{in_order}
 use Rattle.frame_kinds.specs.Reading.{refusal_as}
+use Rattle.octets.proofs.RefusalLaws.{refusal_some}
 use Rattle.octets.specs.Addresses.{address}
 use Rattle.frame_kinds.specs.Shape.{values_in, part_in}
 use Rattle.frame_traffic.proofs.UpdateLaws.{updating}
@@ -14,14 +18,17 @@ use Rattle.frame_traffic.specs.declared.update.UpdateHeader.{UpdateHeader}
 use Rattle.frame_traffic.specs.Traffic.{update, update_values, update_from, entry_rule, entries_of}
 use Rattle.route_table.specs.declared.row.Row.{Row}
 use Rattle.route_table.specs.declared.table.Table.{Table}
-use Rattle.route_table.specs.Rows.{ascending, in_use, pad, standing, standing_places}
+use Rattle.route_table.specs.Rows.{in_use, pad, standing, standing_places}
 use Rattle.route_table.specs.Tables.{rows_of, within_rule}
 use Rattle.route_table.proofs.StandingLaws.{used, in_use_used, in_use-pad, standing-every, standing-ascending, standing-places}
 use Rattle.route_table.proofs.TableLaws.{held, within}
 use Rattle.route_merges.specs.Learning.{Learned, learned, learn_all}
 use Rattle.route_merges.specs.Merges.{update_in, merge_refusal, merged_rows, merged_count, merge_of, unmerged_reasons, merge_reasons}
-use Rattle.route_merges.specs.Offering.{walked, compared_walk, fair}
-use Rattle.route_merges.proofs.OfferLaws.{walked-fair, walked_same, walked-count}
+use Rattle.route_merges.specs.declared.learning.Tally.{Tally}
+use Rattle.route_merges.specs.Candidates.{candidates}
+use Rattle.route_merges.specs.Comparing.{compared_all}
+use Rattle.route_merges.specs.Outcomes.{merged}
+use Rattle.route_merges.specs.Searching.{Placed}
 
 -- the fields that were read are those of the frame
 pub header_in : (h : UpdateHeader) (s : List ℕ) → update_values h ≡ values_in update s → h ≡ update_in s
@@ -66,9 +73,6 @@ module _ (t : Table) (s : List ℕ) (quality time : ℕ) (m : Mergeable t s qual
   abbrev u : UpdateHeader
   u = update_in s
 
-  some : 0 < u.origin
-  some = some-origin t s quality time m
-
   standing_used : every used (standing time (rows_of t)) ≡ true
   standing_used = standing-every used time (rows_of t) (in_use_used t.rows)
 
@@ -77,56 +81,48 @@ module _ (t : Table) (s : List ℕ) (quality time : ℕ) (m : Mergeable t s qual
     stand_rows : in_use places ≡ standing time (rows_of t)
     stand_rows = ap in_use stand ∙ in_use-pad (standing time (rows_of t)) standing_used
 
-    stand_held : places ≡ pad (in_use places)
-    stand_held = stand ∙ ap pad (sym stand_rows)
+    stand_placed : Placed places
+    stand_placed =
+        record {
+          held = stand ∙ ap pad (sym stand_rows);
+          ascends = rw stand_rows (standing-ascending time (rows_of t) (within t m.rule).ascends);
+        }
 
-    stand_ascends : ascending (in_use places) ≡ true
-    stand_ascends = rw stand_rows (standing-ascending time (rows_of t) (within t m.rule).ascends)
-
-    walk-fair : every fair (walked t.own u.origin quality u.count (part_in update s)) ≡ true
-    walk-fair = walked-fair t.own u.origin quality u.count (part_in update s) some m.entries
-
-    merged-same : learn_all u.origin time (walked t.own u.origin quality u.count (part_in update s)) (learned (in_use places) 0) ≡ merged_rows t s quality time
-    unfolding merged_rows
-    merged-same =
-        rw stand_rows (walked_same t.own u.origin quality u.count (part_in update s) time (learned (standing time (rows_of t)) 0) some m.entries standing_used)
-
-    counted_same : compared_walk u.origin time (walked t.own u.origin quality u.count (part_in update s)) (learned (in_use places) 0) ≡ merged_count t s quality time
-    unfolding merged_count
-    counted_same =
-        rw stand_rows (walked-count t.own u.origin quality u.count (part_in update s) time (learned (standing time (rows_of t)) 0) some m.entries standing_used)
-
-    -- the same, of the unit, the header and the entries that were read
+    -- the unit, the header and the entries that were read
     module _ (own : ℕ) (h : UpdateHeader) (part : List ℕ) (eo : own ≡ t.own) (eh : h ≡ update_in s) (ep : part ≡ part_in update s) where
-      pub learnable :
-          (places ≡ pad (in_use places)) × (ascending (in_use places) ≡ true) × (h.count ≤ 24) × (0 < h.origin)
-          × (every fair (walked own h.origin quality h.count part) ≡ true)
-      learnable = rw (eo, eh, ep) (stand_held, stand_ascends, m.few, some, walk-fair)
+      pub learnable : Placed places × (h.count ≤ 24) × (0 < h.origin) × (every entry_rule (entries_of h.count part) ≡ true)
+      learnable = rw (eh, ep) (stand_placed, m.few, some-origin t s quality time m, m.entries)
 
-      pub merged_by : learn_all h.origin time (walked own h.origin quality h.count part) (learned (in_use places) 0) ≡ merged_rows t s quality time
-      merged_by = rw (eo, eh, ep) merged-same
+      -- what is learned from them, and how many rows are compared
+      pub merged_by : (all : Learned) → all ≡ learn_all h.origin time (candidates own h.origin quality (entries_of h.count part)) (learned (in_use places) 0) → all ≡ merged_rows t s quality time
+      unfolding merged_rows
+      merged_by all e = e ∙ rw (eo, eh, ep, stand_rows)
 
-      pub counted-by : compared_walk h.origin time (walked own h.origin quality h.count part) (learned (in_use places) 0) ≡ merged_count t s quality time
-      counted-by = rw (eo, eh, ep) counted_same
+      pub counted-by : (count : ℕ) → count ≡ compared_all h.origin time (candidates own h.origin quality (entries_of h.count part)) (learned (in_use places) 0) → count ≡ merged_count t s quality time
+      unfolding merged_count
+      counted-by count e =
+          e ∙ (λ i. compared_all (eh i).origin time (candidates (eo i) (eh i).origin quality (entries_of (eh i).count (ep i))) (learned (stand_rows i) 0))
 
 -- ---- the answer
 module _ (t : Table) (s : List ℕ) (quality time : ℕ) where
   -- 14 where the table is not within rule, else why such a table does not merge it
-  pub refused-by : (rule : Bool) (why n : ℕ) → rule ≡ within_rule t → why ≡ first (unmerged_reasons t.own t.time s quality time) → n ≡ cond (not rule) 14 why → n ≡ merge_refusal t s quality time
+  pub broken : within_rule t ≡ false → 14 ≡ merge_refusal t s quality time
   unfolding merge_refusal
-  refused-by rule why n r w e = e ∙ rw (r, w)
+  broken e = rw e
 
-  pub unmerged : (n : ℕ) → n ≡ merge_refusal t s quality time → (n ≡ 0 → ⊥) → record { refused = n; skipped = 0; compared = 0; table = t } ≡ merge_of t s quality time
-  unfolding merge_of
-  unmerged n e z = rw (← e, ne_eqb n 0 z)
+  pub in_rule : within_rule t ≡ true → (n : ℕ) → n ≡ first (unmerged_reasons t.own t.time s quality time) → n ≡ merge_refusal t s quality time
+  unfolding merge_refusal
+  in_rule e n f = f ∙ rw e
 
-  pub merges : (skipped compared : ℕ) (rows : List Row) (all : Learned) (count : ℕ) → merge_refusal t s quality time ≡ 0 → all ≡ merged_rows t s quality time
-      → count ≡ merged_count t s quality time → (rows ≡ pad all.rows) × (skipped ≡ all.skipped) × (compared ≡ count)
-      → record {
-        refused = 0;
-        skipped = skipped;
-        compared = compared;
-        table = record { own = t.own; time = time; forwarded = t.forwarded; origin = t.origin; sequence = t.sequence; rows = rows };
-      } ≡ merge_of t s quality time
+  pub unmerged : (r : Refusal) → number_of r ≡ merge_refusal t s quality time → merged t (Err r) ≡ merge_of t s quality time
   unfolding merge_of
-  merges skipped compared rows all count z same counts (r, k, n) = rw (z, ← same, k, r, n, counts)
+  unmerged r e = rw (← e, ne_eqb (number_of r) 0 (refusal_some r))
+
+  pub merges : (tally : Tally) (rows : List Row) (all : Learned) (count : ℕ) → merge_refusal t s quality time ≡ 0 → all ≡ merged_rows t s quality time
+      → count ≡ merged_count t s quality time → rows ≡ pad (in_use rows) → learned (in_use rows) tally.skipped ≡ all → tally.compared ≡ count
+      → merged t (Ok (record { table = record { own = t.own; time = time; forwarded = t.forwarded; origin = t.origin; sequence = t.sequence; rows = rows }; tally = tally }))
+      ≡ merge_of t s quality time
+  unfolding merge_of
+  merges tally rows all count z same counts held l n =
+      let kept : rows ≡ pad all.rows = held ∙ ap (λ (x : Learned). pad x.rows) l in
+      rw (z, ← same, kept, ap (λ (x : Learned). x.skipped) l, n, counts)

@@ -6,7 +6,7 @@ use Rattle.octets.proofs.ListLaws.{every_drop}
 use Rattle.route_table.specs.declared.row.Row.{Row}
 use Rattle.route_table.specs.Rows.{none, pad}
 use Rattle.route_table.proofs.StandingLaws.{used}
-use Rattle.route_merges.proofs.MoveLaws.{pushed, moved_in}
+use Rattle.route_merges.specs.Searching.{pushed, moved_in}
 
 pub used_at : (rs : List Row) (at : ℕ) → every used rs ≡ true → at < length rs → 0 < (get_or rs at none).destination
 unfolding every

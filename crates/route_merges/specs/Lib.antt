@@ -5,5 +5,6 @@ pub mod Laws
 pub mod Learning
 pub mod Merges
 pub mod Offering
+pub mod Outcomes
 pub mod Searching
 pub mod StoredMerges

@@ -11,7 +11,7 @@ use Rattle.frame_traffic.specs.Traffic.{update, update_from, entries_of}
 use Rattle.route_table.specs.declared.table.Table.{Table}
 use Rattle.route_table.specs.Rows.{standing}
 use Rattle.route_table.specs.Tables.{rows_of, within_rule, with_rows}
-use Rattle.route_merges.specs.declared.merging.Merged.{Merged}
+use Rattle.route_merges.specs.Outcomes.{Merged}
 use Rattle.route_merges.specs.Candidates.{candidates}
 use Rattle.route_merges.specs.Comparing.{compared_all}
 use Rattle.route_merges.specs.Learning.{Learned, learned, learn_all}

@@ -2,6 +2,7 @@
 #![tactic(auto)]
 
 pub mod candidate;
+pub mod learning;
 pub mod merging;
 mod steps;
 pub mod stored;

@@ -1,64 +1,41 @@
 -- The places of a table by value: those in use counted, an entry put for each of some, and those of a page.
 -- Assumes nothing.
-use Rattle.octets.proofs.Words.{◌≡◌, refl, sym, ap, ◌∙◌, Bool, true, false, cond, List, [], ◌∷◌, ◌++◌, append-nil, ℕ, ◌+◌, ◌*◌, ◌-◌, ◌≤◌, ◌<◌, min, dec_le, add-one, arith, eqb, length, get_or, take, drop, length-take, length-drop, drop_of_length-le, sets, drop-cons, get_or-take, length-take-le, take-take, take-add, take-nil, drop_at}
-use Rattle.octets.specs.Layouts.{bytes}
+use Rattle.octets.proofs.Words.{◌≡◌, refl, sym, ap, ◌∙◌, Bool, true, false, cond, List, [], ◌∷◌, ◌++◌, append-nil, ℕ, ◌+◌, ◌*◌, ◌-◌, ◌≤◌, min, dec_le, arith, eqb, ltb, ltb-false, length, take, drop, length-take, drop_of_length-le, length-take-le, take-take, take-add, take-nil, drop_at}
+use Rattle.std.specs.Prelude.{Some, None}
+use Rattle.std.specs.Option.{unwrap_or}
+use Rattle.std.specs.List.{position, position_or_len}
+use Rattle.std.proofs.lemmas.List.Recursion.{is_position_or_len}
 use Rattle.octets.specs.Lists.{every}
-use Rattle.octets.proofs.PartLaws.{take_min}
-use Rattle.frame_traffic.specs.declared.entry.Entry.{Entry}
-use Rattle.frame_traffic.specs.Traffic.{entry_widths, entry_values}
+use Rattle.std.proofs.lemmas.List.{take_min}
 use Rattle.route_table.specs.declared.row.Row.{Row}
 use Rattle.route_table.specs.declared.table.Table.{Table}
-use Rattle.route_table.specs.Rows.{none, stands, in_use, pad, standing, standing_places}
+use Rattle.route_table.specs.Rows.{stands, in_use, pad, standing, standing_places}
 use Rattle.route_table.specs.Tables.{rows_of}
-use Rattle.route_table.proofs.StandingLaws.{used, standing-all, standing-every, in_use_used, in_use-pad}
-use Rattle.route_table.proofs.RowLaws.{in_use_end, in_use-turn}
-use Rattle.route_pages.specs.Pages.{entry_for, on_page}
-use Rattle.route_pages.proofs.EntryLaws.{row_entries, entry-turn}
+use Rattle.route_table.proofs.StandingLaws.{used, standing-all, standing-every, in_use_used, in_use-fits, in_use-pad}
+use Rattle.route_pages.specs.Pages.{on_page}
+use Rattle.route_pages.specs.Places.{is_unused}
 
--- ---- counting the places in use
-module _ (rows : List Row) (i : ℕ) (l : length rows ≡ 48) (e : i + length (in_use (drop i rows)) ≡ length (in_use rows)) where
-  pub count_end : i < 48 → (get_or rows i none).destination ≡ 0 → i ≡ length (in_use rows)
-  count_end h z = omega (arith, ap length (in_use_end rows i (omega arith) z))
+-- ---- the places in use
+-- as many as there are before the first that is not
+in_use-position : (rows : List Row) → length (in_use rows) ≡ position_or_len is_unused rows
+in_use-position rows = is_position_or_len (λ rs. length (in_use rs)) is_unused refl step rows
+  where
+    step : (r : Row) (rs : List Row) → length (in_use (r ∷ rs)) ≡ cond (eqb r.destination 0) 0 (1 + length (in_use rs))
+    step r rs = go (eqb r.destination 0)
+      where
+        go : (b : Bool) → length (cond b [] (r ∷ in_use rs)) ≡ cond b 0 (1 + length (in_use rs))
+        go true = refl
+        go false = omega arith
 
-  pub count_turn : i < 48 → ((get_or rows i none).destination ≡ 0 → ⊥) → i + 1 + length (in_use (drop (i + 1) rows)) ≡ length (in_use rows)
-  count_turn h z = omega (arith, ap length (in_use-turn rows i (omega arith) z))
-
-  pub count-all : i ≡ 48 → 48 ≡ length (in_use rows)
-  count-all h = omega (arith, ap (λ (rs : List Row). length (in_use rs)) (drop_of_length-le rows {i = i} (omega arith)))
-
--- ---- the entries for some places: to store those of the places left is to store all
-pub record PutPlaces (out₀ : List ℕ) (rows : List Row) (from to time : ℕ) (out : List ℕ) (i : ℕ) : Type 0 where
-  pub within : from ≤ i
-  pub long : length out ≡ length out₀
-  pub rest : sets out (8 + 10 * (i - from)) (row_entries time (drop i (take to rows))) ≡ sets out₀ 8 (row_entries time (drop from (take to rows)))
-
-pub places-first : (out : List ℕ) (rows : List Row) (from to time : ℕ) → PutPlaces out rows from to time out from
-places-first out rows from to time =
-    let e : from - from ≡ 0 = omega arith in
-    record { within = omega arith; long = refl; rest = rw e }
-
-module _ (out₀ : List ℕ) (rows : List Row) (from to time : ℕ) (out : List ℕ) (i : ℕ) (l : to ≤ length rows) (g : PutPlaces out₀ rows from to time out i) where
-  pub places-last : to ≤ i → out ≡ sets out₀ 8 (row_entries time (drop from (take to rows)))
-  places-last h = rw (drop_of_length-le (take to rows) {i = i} (omega (arith, length-take-le to rows l))) at g.rest
-
-  pub places-on : i < to → 9 + 10 * (to - from) ≤ length out₀ → (e : Entry) (filled : List ℕ) → e ≡ entry_for time (get_or rows i none)
-      → filled ≡ sets (take (8 + 10 * (i - from) + 10 - (8 + 10 * (i - from))) (drop (8 + 10 * (i - from)) out)) 0 (bytes entry_widths (entry_values e))
-      → (new : List ℕ) → new ≡ take (8 + 10 * (i - from)) out ++ (filled ++ drop (8 + 10 * (i - from) + 10 - (8 + 10 * (i - from))) (drop (8 + 10 * (i - from)) out)) → length new ≡ length out
-      → PutPlaces out₀ rows from to time new (i + 1)
-  places-on h room e filled k f new n s =
-      let r = get_or rows i none in
-      let put = i - from in
-      let next : i + 1 - from ≡ put + 1 = omega (arith, g.within) in
-      let short : i < length (take to rows) = omega (arith, length-take-le to rows l) in
-      let first : drop i (take to rows) ≡ r ∷ drop (i + 1) (take to rows) = rw (add-one i, drop-cons (take to rows) i none short, get_or-take to rows i none h) in
-      record {
-        within = omega (arith, g.within);
-        long = s ∙ g.long;
-        rest =
-            rw next
-            (entry-turn time r (drop (i + 1) (take to rows)) out put (omega (arith, g.long, g.within)) e filled k f new n
-            ∙ (sym (ap (λ (rs : List Row). sets out (8 + 10 * put) (row_entries time rs)) first) ∙ g.rest));
-      }
+pub used-places : (rows : List Row) → length rows ≡ 48 → unwrap_or (position is_unused rows) 48 ≡ length (in_use rows)
+used-places rows l = go (position_or_len is_unused rows) (in_use-position rows)
+  where
+    go : (n : ℕ) → length (in_use rows) ≡ n → unwrap_or (cond (ltb n (length rows)) (Some n) None) 48 ≡ length (in_use rows)
+    go n e = by (ltb n (length rows)) refl
+      where
+        by : (b : Bool) → ltb n (length rows) ≡ b → unwrap_or (cond b (Some n) None) 48 ≡ length (in_use rows)
+        by true q = sym e
+        by false q = omega (arith, ltb-false n (length rows) q, l, in_use-fits rows l, e)
 
 -- ---- the places of a page
 in_use-take : (l : List Row) → take (length (in_use l)) l ≡ in_use l
@@ -87,7 +64,7 @@ drop-take n m l = rw (take-add n m l) (go (dec_le n (length l)))
         rw (z, take-nil {A = Row} m, append-nil (take n l)) (drop_of_length-le (take n l) {i = n} (omega (arith, length-take n l)))
 
 module _ (t : Table) (p time : ℕ) (stand : List Row) (total from to : ℕ) (stood : stand ≡ standing_places time t.rows) (counted : total ≡ length (in_use stand))
-    (begins : from ≡ 24 * p) (ends : to ≡ min (from + 24) total) where
+    (begins : from ≡ min (24 * p) total) (ends : to ≡ min (from + 24) total) where
   abbrev rs : List Row
   rs = standing time (rows_of t)
 
@@ -97,11 +74,14 @@ module _ (t : Table) (p time : ℕ) (stand : List Row) (total from to : ℕ) (st
   total_is : total ≡ length rs
   total_is = counted ∙ ap length rows_are
 
-  pub page-places : drop from (take to stand) ≡ on_page rs p
+  pub page-places : take (to - from) (drop from stand) ≡ on_page rs p
   page-places =
+      let whole : from + (to - from) ≡ to = omega (arith, begins, ends) in
       let a : take to stand ≡ take to rs = sym (take-take to total stand (omega arith)) ∙ ap (take to) (ap (λ (n : ℕ). take n stand) counted ∙ (in_use-take stand ∙ rows_are)) in
       let b : take to rs ≡ take (from + 24) rs = ap (λ (n : ℕ). take n rs) (ends ∙ ap (min (from + 24)) total_is) ∙ take_min (from + 24) rs in
-      rw (a, b, drop-take from 24 rs, begins)
-
-  pub page-count : to - from ≡ length (on_page rs p)
-  page-count = sym (length-take 24 (drop (24 * p) rs) ∙ omega (arith, length-drop (24 * p) rs, total_is))
+      sym (drop-take from (to - from) stand) ∙
+      rw (whole, a, b, drop-take from 24 rs) (ap (take 24) (go (dec_le (24 * p) (length rs))))
+    where
+      go : Dec (24 * p ≤ length rs) → drop from rs ≡ drop (24 * p) rs
+      go (yes h) = ap (λ (n : ℕ). drop n rs) (omega (arith, begins, total_is))
+      go (no h) = drop_of_length-le rs {i = from} (omega (arith, begins, total_is)) ∙ sym (drop_of_length-le rs {i = 24 * p} (omega arith))

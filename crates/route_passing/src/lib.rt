@@ -1,14 +1,16 @@
 // What a forwarder needs of a beacon, apart from any layout; why a table does not pass it on, and what it records when it does.
 #![tactic(auto)]
 
-ghost use Rattle.std.specs.Prelude.{◌≡◌};
+ghost use Rattle.std.specs.Prelude.{◌≡◌, Ok};
 ghost use Rattle.octets.specs.Answers.{first};
-ghost use Rattle.route_passing.specs.Passes.{again, passing_reasons, passed_head, pass_of};
+ghost use Rattle.octets.specs.Refusals.{status_of};
+ghost use Rattle.route_table.specs.Outcomes.{changed, found};
+ghost use Rattle.route_passing.specs.Passes.{again, to_forward, passing_reasons, passed_head, pass_of};
 
 use moments::in_order;
-use octets::answers::{Refusal, refuse_if};
+use octets::refusals::{Refusal, refuse_if};
 use route_table::standing::standing_places;
-use route_table::table::{Changed, Found, Head, Table, found_by, row_for, settled};
+use route_table::table::{Head, Route, Table};
 
 // `longest` is the longest delay that its kind has room for.
 #[derive(Clone, Copy)]
@@ -30,27 +32,35 @@ fn again(head: Head, passing: Passing) -> bool
     head.forwarded & (head.origin == passing.original_source) & (head.sequence == passing.sequence)
 }
 
-// Why a beacon that was read is not passed on by a table within rule with this head, whatever the room; 0 where it is. `found` is what the table answers
-// to a lookup of the beacon's original source.
+// Whether it is this unit's to forward, which has this route to its original source.
+fn to_forward(head: Head, route: Route, passing: Passing) -> bool
+    ensures { result ≡ to_forward head (found (Ok route)) passing }
+{
+    let next = u16::from(route.hops) == u16::from(passing.hop) + 1;
+    next & (passing.hop < passing.max_hops) & !again(head, passing)
+}
+
+// Why a beacon that was read is not passed on by a table within rule with this head, whatever the room. `route` is what the table answers to a lookup of the
+// beacon's original source.
 pub fn why_not_passed(
     head: Head,
-    found: Found,
+    route: Result<Route, Refusal>,
     network: u16,
     passing: Passing,
     delay: u32,
     time: u32,
-) -> u8
-    ensures { result ≡ first (passing_reasons head found network passing delay time) }
+) -> Result<(), Refusal>
+    ensures { status_of result ≡ first (passing_reasons head (found route) network passing delay time) }
 {
-    let next = found.hops as u16 == passing.hop as u16 + 1;
-    let ours = next & (passing.hop < passing.max_hops) & !again(head, passing);
-    let sum = passing.delay as u64 + delay as u64;
-    let refused = refuse_if((passing.longest as u64) < sum, Refusal::FIELD, 0);
-    let refused = refuse_if(!ours, Refusal::NOT_OURS, refused);
-    let refused = refuse_if(!(found.refused == 0), Refusal::NO_ROUTE, refused);
-    let refused = refuse_if(!in_order(head.time, time), Refusal::EARLIER, refused);
-    let refused = refuse_if(!(passing.network == network), Refusal::NETWORK, refused);
-    refuse_if(passing.source == head.own, Refusal::OWN, refused)
+    refuse_if(passing.source == head.own, Refusal::Own)?;
+    refuse_if(passing.network != network, Refusal::Network)?;
+    refuse_if(!in_order(head.time, time), Refusal::Earlier)?;
+    let Ok(route) = route else {
+        return Err(Refusal::NoRoute);
+    };
+    refuse_if(!to_forward(head, route, passing), Refusal::NotOurs)?;
+    let sum = u64::from(passing.delay) + u64::from(delay);
+    refuse_if(u64::from(passing.longest) < sum, Refusal::Field)
 }
 
 // The head of a table when a beacon was passed on: its pair and the time.
@@ -58,47 +68,33 @@ pub fn passed_head(head: Head, passing: Passing, time: u32) -> Head
     ensures { result ≡ passed_head head passing time }
 {
     Head {
-        own: head.own,
         time,
         forwarded: true,
         origin: passing.original_source,
         sequence: passing.sequence,
+        ..head
     }
 }
 
-// The table when a beacon was passed on. `before` is what refuses the beacon before the table is asked, `behind` what refuses it when all else would not;
-// 0 where nothing does.
+// The table when a beacon was passed on. `before` is what refuses the beacon before the table is asked, `behind` what refuses it when all else would not.
+#[tactic(auto, unfolding(crate::specs::Passes::pass_of))]
 pub fn pass(
     table: Table,
-    before: u8,
+    before: Result<(), Refusal>,
     network: u16,
     passing: Passing,
     delay: u32,
     time: u32,
-    behind: u8,
-) -> Changed
-    ensures { result ≡ pass_of table before network passing delay time behind }
+    behind: Result<(), Refusal>,
+) -> Result<Table, Refusal>
+    ensures { changed table result ≡ pass_of table (status_of before) network passing delay time (status_of behind) }
 {
-    let rows = table.rows;
+    refuse_if(!table.within_rule(), Refusal::Rule)?;
+    before?;
     let head = table.head();
-    let row = row_for(rows, passing.original_source);
-    let found = found_by(table.time, row, passing.original_source, time);
-    let unpassed = why_not_passed(head, found, network, passing, delay, time);
-    let refused = refuse_if(!(unpassed == 0), unpassed, behind);
-    let refused = refuse_if(!(before == 0), before, refused);
-    let refused = refuse_if(!table.within_rule(), Refusal::RULE, refused);
-    let new = passed_head(head, passing, time);
-    let stand = standing_places(rows, time);
-    settled(
-        refused,
-        table,
-        Table {
-            own: new.own,
-            time: new.time,
-            forwarded: new.forwarded,
-            origin: new.origin,
-            sequence: new.sequence,
-            rows: stand,
-        },
-    )
+    let route = table.route_to(passing.original_source, time);
+    why_not_passed(head, route, network, passing, delay, time)?;
+    behind?;
+    let rows = standing_places(table.rows, time);
+    Ok(passed_head(head, passing, time).placed(rows))
 }

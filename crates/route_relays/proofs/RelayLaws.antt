@@ -1,7 +1,11 @@
 -- Relaying, from what its parts say.
 -- Assumes nothing.
-use Rattle.octets.proofs.Words.{◌≡◌, refl, sym, ap, ◌∙◌, Bool, true, false, not, ◌&&◌, cond, and-eq-true_iff, false≢true, List, [], ◌∷◌, ℕ, ◌+◌, ◌≤◌, arith, eq-eqb, eqb-true, leb-false, ltb-false, not-true, not-false, eqb, ltb, length, sets}
+use Rattle.octets.proofs.Words.{◌≡◌, refl, sym, ap, ◌∙◌, Bool, true, false, not, ◌&&◌, cond, and-eq-true_iff, false≢true, List, [], ◌∷◌, ℕ, ◌+◌, ◌≤◌, arith, eq-eqb, ne_eqb, eqb-true, leb-false, ltb-false, not-false, eqb, ltb, length, sets}
+use Rattle.std.specs.Prelude.{Result, Ok, Err}
 use Rattle.octets.specs.Answers.{Reason, first}
+use Rattle.octets.specs.Refusals.{number_of}
+use Rattle.octets.specs.declared.refusals.Refusal.{Refusal}
+use Rattle.octets.proofs.RefusalLaws.{refusal_some}
 use Rattle.octets.specs.Parts.{Lent, part_of}
 use Rattle.octets.proofs.AnswerLaws.{Numbered, refusing_numbered, none-holds}
 use Rattle.octets.proofs.TestLaws.{neither}
@@ -13,14 +17,16 @@ use Rattle.frame_kinds.proofs.ReadingLaws.{passed, part_length}
 use Rattle.frame_traffic.specs.declared.data_frame.DataHeader.{DataHeader}
 use Rattle.frame_traffic.specs.Traffic.{data_kind, data_values, data_from}
 use Rattle.frame_kinds.proofs.StoredLaws.{frame-length}
-use Rattle.route_table.specs.declared.table.Found.{Found}
+use Rattle.route_table.specs.Outcomes.{Found, found}
+use Rattle.route_table.specs.declared.table.Route.{Route}
 use Rattle.route_table.specs.declared.table.Table.{Table}
 use Rattle.route_table.specs.Rows.{row_for}
 use Rattle.route_table.specs.Tables.{rows_of, within_rule, found_by, lookup_of}
 use Rattle.route_table.proofs.LookupLaws.{looked_up}
 use Rattle.route_bytes.specs.TableBytes.{table_in, is_table, holds_table}
 use Rattle.route_in_place.proofs.JudgedLaws.{judged-table}
-use Rattle.route_relays.specs.declared.relaying.Relayed.{Relayed}
+use Rattle.route_relays.specs.Outcomes.{told}
+use Rattle.route_relays.specs.declared.relaying.Relayed.TheVariants.{Ours, Copied}
 use Rattle.route_relays.specs.Relays.{data_in, is_for, for_us, passed_on, copy_of, unrelayed_reasons, relay_reasons, relay_refusal, relay_of, relay_by, relay_in, handed_back, Relaying, relayed, unwritten, passed_to, relayed_or}
 
 pub header_in : (h : DataHeader) (s : List ℕ) → data_values h ≡ values_in data_kind s → h ≡ data_in s
@@ -30,6 +36,10 @@ header_in h s e = ap data_from e
 pub copy_length : (s : List ℕ) → length (part_in data_kind s) + 10 ≡ length (copy_of s)
 copy_length s =
     omega (arith, frame-length (1 ∷ data_kind.widths) (data_kind.code ∷ data_values (passed_on (data_in s))) (part_in data_kind s) [] 9 refl refl)
+
+-- of a frame that was read it has as many bytes
+pub copy-size : (s : List ℕ) → refusal_as data_kind s ≡ 0 → length s ≡ length (copy_of s)
+copy-size s e = omega (arith, copy_length s, part_length data_kind s e, (passed _ _ _ s e).sized)
 
 -- the addresses of a frame that was read
 pub read_destination : (s : List ℕ) → refusal_as data_kind s ≡ 0 → address (data_in s).destination ≡ true
@@ -184,38 +194,32 @@ module _ (table s : List ℕ) (time least : ℕ) (out : List ℕ) where
       go true q = unrelayed (table_in table) s time least out (rw q at e)
       go false q = refl
 
--- ---- the answers, with what was read as the code has it
-module _ (own last : ℕ) (found : Found) (s : List ℕ) (time least : ℕ) (out : List ℕ) (h : DataHeader) (n : ℕ) (e : data_values h ≡ values_in data_kind s)
-    (z : n ≡ first (unrelayed_reasons own last found s time least (length out))) where
-  module _ (f : (eqb n 0 && not (eqb h.destination own)) ≡ true) where
-    none : n ≡ 0
-    none = eqb-true n 0 ((and-eq-true_iff (eqb n 0) (not (eqb h.destination own))).0 f).0
+-- ---- the answers, by which way the frame goes
+module _ (own last : ℕ) (route : Result Route Refusal) (s : List ℕ) (time least : ℕ) (out : List ℕ) where
+  abbrev number : ℕ
+  number = first (unrelayed_reasons own last (found route) s time least (length out))
 
-    other : is_for own s ≡ false
-    other = rw (header_in h s e) at (not-true (eqb h.destination own) ((and-eq-true_iff (eqb n 0) (not (eqb h.destination own))).0 f).1)
-
-    on : OnwardBy own last found s time least (length out)
-    on = onward_by own last found s time least (length out) (sym z ∙ none) other
-
-    size : length s ≡ length (copy_of s)
-    size = omega (arith, copy_length s, part_length data_kind s on.unread, (passed _ _ _ s on.unread).sized)
-
-    -- it can be copied
-    pub copied_on : (refusal_as data_kind s ≡ 0) × (length s ≤ length out)
-    copied_on = (on.unread, omega (arith, size, on.fits))
-
-    pub relayed-on : (held : List ℕ) → held ≡ sets out 0 (copy_of s)
-        → relayed (record { refused = n; ours = false; next_hop = found.next_hop; size = length s; left = found.left }) held ≡ relay_by own last found s time least out
-    unfolding relay_by
-    relayed-on held q = rw (q, size, ← z, none, other)
-
-  -- a frame of which nothing is written
-  pub relayed_off : (r : Relayed) → (eqb n 0 && not (eqb h.destination own)) ≡ false → r ≡ unwritten n h.count → relayed r out ≡ relay_by own last found s time least out
+  pub by-refused : (r : Refusal) → number_of r ≡ number → relayed (told (Err r)) out ≡ relay_by own last (found route) s time least out
   unfolding relay_by
-  relayed_off r f a =
-      let g = header_in h s e in
-      let off : (eqb n 0 && not (is_for own s)) ≡ false = rw g at f in
-      rw (a, ← z, g, off)
+  by-refused r e = rw (← e, ne_eqb (number_of r) 0 (refusal_some r))
+
+  module _ (z : 0 ≡ number) where
+    pub by-ours : is_for own s ≡ true → (h : DataHeader) → data_values h ≡ values_in data_kind s → relayed (told (Ok (Ours h.count))) out ≡ relay_by own last (found route) s time least out
+    unfolding relay_by
+    by-ours o h e = rw (← z, o, header_in h s e)
+
+    module _ (o : is_for own s ≡ false) where
+      on : OnwardBy own last (found route) s time least (length out)
+      on = onward_by own last (found route) s time least (length out) (sym z) o
+
+      -- it can be copied
+      pub copied_on : (refusal_as data_kind s ≡ 0) × (length s ≤ length out)
+      copied_on = (on.unread, omega (arith, copy-size s on.unread, on.fits))
+
+      pub by-copied : (r : Route) → route ≡ Ok r → (held : List ℕ) → held ≡ sets out 0 (copy_of s)
+          → relayed (told (Ok (Copied r.next_hop (length s) r.left))) held ≡ relay_by own last (found route) s time least out
+      unfolding relay_by
+      by-copied r q held e = rw (← z, o, q, e, copy-size s on.unread)
 
 -- ---- a payload that is handed back
 module _ (t : Table) (s : Lent) (time : ℕ) where
@@ -223,16 +227,20 @@ module _ (t : Table) (s : Lent) (time : ℕ) where
   unfolding handed_back relay_refusal
   handed_to_none w = rw w
 
-  module _ (w : within_rule t ≡ true) (h : DataHeader) (n : ℕ) (e : data_values h ≡ values_in data_kind s.bytes)
-      (z : n ≡ first (unrelayed_reasons t.own t.time (found_by t.time (row_for h.destination (rows_of t)) h.destination time) s.bytes time 0 0)) where
+  module _ (w : within_rule t ≡ true) (n : ℕ)
+      (z : n ≡ first (unrelayed_reasons t.own t.time (found_by t.time (row_for (data_in s.bytes).destination (rows_of t)) (data_in s.bytes).destination time) s.bytes time 0 0)) where
     same : n ≡ relay_refusal t s.bytes time 0 0
     unfolding relay_refusal
-    same = z ∙ rw (header_in h s.bytes e, ← looked_up t (data_in s.bytes).destination time w, w)
+    same = z ∙ rw (← looked_up t (data_in s.bytes).destination time w, w)
 
-    pub handed_part : (eqb n 0 && eqb h.destination t.own) ≡ true → part_lent data_kind s ≡ handed_back t s time
+    pub handed_part : n ≡ 0 → is_for t.own s.bytes ≡ true → part_lent data_kind s ≡ handed_back t s time
     unfolding handed_back
-    handed_part f = let g = rw (header_in h s.bytes e) at f in rw (← same, g)
+    handed_part e o = rw (← same, e, o)
 
-    pub handed_none : (eqb n 0 && eqb h.destination t.own) ≡ false → part_of s 0 0 ≡ handed_back t s time
+    pub handed_none : (n ≡ 0 → is_for t.own s.bytes ≡ false) → part_of s 0 0 ≡ handed_back t s time
     unfolding handed_back
-    handed_none f = let g = rw (header_in h s.bytes e) at f in rw (← same, g)
+    handed_none o = go (eqb n 0) refl
+      where
+        go : (b : Bool) → eqb n 0 ≡ b → part_of s 0 0 ≡ cond (eqb (relay_refusal t s.bytes time 0 0) 0 && for_us t s.bytes) (part_lent data_kind s) (part_of s 0 0)
+        go true q = rw (← same, q, o (eqb-true n 0 q))
+        go false q = rw (← same, q)

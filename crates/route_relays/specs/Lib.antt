@@ -1,2 +1,4 @@
 pub mod Laws
+pub mod Outcomes
 pub mod Relays
+pub mod Ways

@@ -9,11 +9,11 @@ use Rattle.frame_kinds.specs.Reading.{refusal_as}
 use Rattle.frame_kinds.specs.Shape.{values_in, part_in, part_lent, frame_of}
 use Rattle.frame_traffic.specs.declared.data_frame.DataHeader.{DataHeader}
 use Rattle.frame_traffic.specs.Traffic.{data_kind, data_values, data_from}
-use Rattle.route_table.specs.declared.table.Found.{Found}
+use Rattle.route_table.specs.Outcomes.{Found}
 use Rattle.route_table.specs.declared.table.Table.{Table}
 use Rattle.route_table.specs.Tables.{within_rule, lookup_of}
 use Rattle.route_bytes.specs.StoredTables.{on_table}
-use Rattle.route_relays.specs.declared.relaying.Relayed.{Relayed}
+use Rattle.route_relays.specs.Outcomes.{Relayed}
 
 -- the fields of a data frame
 abbrev pub data_in : List ℕ → DataHeader

@@ -5,7 +5,7 @@ use Rattle.octets.proofs.TestLaws.{of-cond}
 use Rattle.moments.specs.Moments.{age_at, in_order}
 use Rattle.moments.proofs.MomentLaws.{young_in_order, ages_add}
 use Rattle.route_table.specs.declared.row.Row.{Row}
-use Rattle.route_table.specs.declared.table.Found.{Found}
+use Rattle.route_table.specs.Outcomes.{Found}
 use Rattle.route_table.specs.declared.table.Table.{Table}
 use Rattle.route_table.specs.Rows.{left_at, row_rule, row_for}
 use Rattle.route_table.specs.Tables.{rows_of, leads_to, found_or, lookup_refusal, lookup_of}

@@ -3,6 +3,7 @@ pub mod HasLaws
 pub mod KeepLaws
 pub mod LeftLaws
 pub mod LookupLaws
+pub mod OutcomeLaws
 pub mod PlaceLaws
 pub mod RowLaws
 pub mod RuleLaws

@@ -33,16 +33,6 @@ standing-all time (r ∷ rs) e =
     let (here, later) = (and-eq-true_iff (stands time r) (every (stands time) rs)).0 e in
     rw (here, standing-all time rs later)
 
--- places of which every row stands are as they were, others are gathered
-module _ (time : ℕ) (places : List Row) where
-  pub places_same : every (stands time) (in_use places) ≡ true → places ≡ standing_places time places
-  unfolding standing_places
-  places_same e = rw e
-
-  pub places-gathered : every (stands time) (in_use places) ≡ false → pad (standing time (in_use places)) ≡ standing_places time places
-  unfolding standing_places
-  places-gathered e = rw e
-
 -- the places of a list of rows, without those that are gone
 pub standing-places : (time : ℕ) (places : List Row) → places ≡ pad (in_use places) → standing_places time places ≡ pad (standing time (in_use places))
 unfolding standing_places

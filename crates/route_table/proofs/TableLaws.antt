@@ -1,6 +1,6 @@
 -- The calls on a table, from what its parts say.
 -- Assumes nothing.
-use Rattle.octets.proofs.Words.{◌≡◌, refl, sym, ap, ◌∙◌, Bool, true, false, not, ◌&&◌, cond, and-eq-true_iff, false≢true, List, [], ◌∷◌, ◌++◌, map, ℕ, zero, suc, ◌-◌, ◌≤◌, ℕ_discrete, arith, ne_eqb, leb-true, le-leb, eqb-true, not-true, not-false, eqb, leb, length, drop, replicate, length-map, length-drop}
+use Rattle.octets.proofs.Words.{◌≡◌, refl, sym, ap, ◌∙◌, Bool, true, false, not, ◌&&◌, cond, and-eq-true_iff, false≢true, List, [], ◌∷◌, ◌++◌, map, ℕ, zero, suc, ◌-◌, ◌≤◌, arith, ne_eqb, leb-true, le-leb, eqb-true, not-true, not-false, eqb, leb, length, drop, replicate, length-map, length-drop}
 use Rattle.octets.specs.Answers.{first}
 use Rattle.octets.specs.Lists.{every}
 use Rattle.octets.proofs.AnswerLaws.{none-holds}
@@ -11,7 +11,7 @@ use Rattle.route_table.specs.declared.row.Row.{Row}
 use Rattle.route_table.specs.declared.table.Table.{Table}
 use Rattle.route_table.specs.Places.{ok_places}
 use Rattle.route_table.specs.Rows.{none, usable, row_rule, is_none, forgotten, ascending, in_use, pad, standing, standing_places}
-use Rattle.route_table.specs.Tables.{rows_of, pair_ok, within_rule, settled, with_rows, forget_reasons, forget_of}
+use Rattle.route_table.specs.Tables.{rows_of, pair_ok, within_rule, settled, forget_reasons, forget_of}
 use Rattle.route_table.proofs.PlaceLaws.{ok_right}
 use Rattle.route_table.proofs.StandingLaws.{standing-places, standing_shorter, in_use-fits}
 
@@ -28,14 +28,6 @@ table_right t pair places l p q =
     rw (p, q, ok_right t.own t.time t.rows)
     (regrouped (address t.own && pair_ok t.forwarded t.origin t.sequence) _ (ascending (in_use t.rows)) (every (row_rule t.own t.time) (in_use t.rows)) _
     (le-leb _ _ (in_use-fits t.rows l)))
-
--- only an accepted call shows the new table
-pub settled_same : (n : ℕ) (t a b : Table) → (n ≡ 0 → a ≡ b) → settled n t a ≡ settled n t b
-settled_same n t a b h = go (ℕ_discrete n 0)
-  where
-    go : Dec (n ≡ 0) → settled n t a ≡ settled n t b
-    go (yes z) = rw (h z)
-    go (no z) = rw (ne_eqb n 0 z)
 
 map-places : (f : Row → Row) → f none ≡ none → (xs : List Row) (k : ℕ) → map f (xs ++ replicate k none) ≡ map f xs ++ replicate k none
 map-places f e (x ∷ xs) k = rw (map-places f e xs k)
@@ -140,17 +132,15 @@ forgettable t unit time e =
     record { right = not-false (within_rule t) none.0; known = not-false (address unit) none.1.0; ordered = not-false (in_order t.time time) none.1.1.1.0 }
 
 -- the table then, with its rows as the loops leave them
-module _ (t : Table) (unit time n : ℕ) (rows : List Row) (l : length t.rows ≡ 48) where
+module _ (t : Table) (unit time : ℕ) (rows : List Row) (l : length t.rows ≡ 48) where
   abbrev Left : Table
   Left = record { own = t.own; time = time; forwarded = t.forwarded; origin = t.origin; sequence = t.sequence; rows = rows }
 
-  pub forgets : n ≡ first (forget_reasons t unit time) → rows ≡ map (forgotten unit time) (standing_places time t.rows) → settled n t Left ≡ forget_of t unit time
+  pub forgets : first (forget_reasons t unit time) ≡ 0 → rows ≡ map (forgotten unit time) (standing_places time t.rows) → settled 0 t Left ≡ forget_of t unit time
   unfolding forget_of
-  forgets e q =
-      let h : n ≡ 0 → Left ≡ with_rows t time (map (forgotten unit time) (standing time (rows_of t))) =
-      λ z.
-      let f = forgettable t unit time (sym e ∙ z) in
+  forgets z q =
+      let f = forgettable t unit time z in
       let stand = ap (map (forgotten unit time)) (standing-places time t.rows (held t l f.right)) in
-      ap (λ (rs : List Row). record { own = t.own; time = time; forwarded = t.forwarded; origin = t.origin; sequence = t.sequence; rows = rs })
-      (q ∙ (stand ∙ map-pad (forgotten unit time) (forgotten-none unit time (address-some unit f.known)) (standing time (rows_of t)))) in
-      settled_same n t Left _ h ∙ rw e
+      ap (λ (rs : List Row). settled 0 t (record { own = t.own; time = time; forwarded = t.forwarded; origin = t.origin; sequence = t.sequence; rows = rs }))
+      (q ∙ (stand ∙ map-pad (forgotten unit time) (forgotten-none unit time (address-some unit f.known)) (standing time (rows_of t)))) ∙
+      rw z

@@ -1,4 +1,5 @@
 pub mod Left
+pub mod Outcomes
 pub mod Places
 pub mod Rows
 pub mod Tables

@@ -8,8 +8,7 @@ use Rattle.moments.specs.Moments.{in_order}
 use Rattle.octets.specs.Addresses.{address}
 use Rattle.route_table.specs.declared.row.Row.{Row}
 use Rattle.route_table.specs.declared.table.Table.{Table}
-use Rattle.route_table.specs.declared.table.Changed.{Changed}
-use Rattle.route_table.specs.declared.table.Found.{Found}
+use Rattle.route_table.specs.Outcomes.{Changed, Found}
 use Rattle.route_table.specs.declared.table.Head.{Head}
 use Rattle.route_table.specs.Rows.{none, left_at, leads, row_rule, is_none, forgotten, ascending, in_use, pad, standing, row_for}
 
@@ -20,6 +19,10 @@ rows_of t = in_use t.rows
 -- a table without its rows
 abbrev pub head_of : Table → Head
 head_of t = record { own = t.own; time = t.time; forwarded = t.forwarded; origin = t.origin; sequence = t.sequence }
+
+-- the table with this head and these places
+abbrev pub placed : Head → List Row → Table
+placed h places = record { own = h.own; time = h.time; forwarded = h.forwarded; origin = h.origin; sequence = h.sequence; rows = places }
 
 -- the table with this head and these rows
 abbrev pub table_of : Head → List Row → Table

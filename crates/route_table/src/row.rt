@@ -1,13 +1,14 @@
 // One row of a routing table: how far a destination is, and by which neighbour.
 ghost use Rattle.std.specs.Prelude.{◌≡◌, cond};
 ghost use Rattle.route_table.specs.Places.{carries_rule, ok_row};
-ghost use Rattle.route_table.specs.Rows.{none, usable, left_at, leads, stands, row_rule, is_none, withdrawn_at, lost, forgotten};
+ghost use Rattle.route_table.specs.Rows.{usable, left_at, leads, stands, row_rule, is_none, withdrawn_at, lost, forgotten};
 
 use moments::{age, in_order};
 use octets::addresses::is_address;
+use octets::choices::either;
 
 // The largest field first, so that rows have no gaps.
-#[derive(Clone, Copy)]
+#[derive(Clone, Copy, PartialEq, Eq)]
 pub struct Row {
     pub time: u32,
     pub destination: u16,
@@ -28,14 +29,17 @@ fn lifetime(withdrawn: bool) -> u32
     }
 }
 
-// The first row where a test holds, else the second.
-pub(crate) fn either(test: bool, first: Row, second: Row) -> Row
-    ensures { result ≡ cond test first second }
-{
-    if test { first } else { second }
-}
-
 impl Row {
+    // A place that is not in use.
+    pub const NONE: Row = Row {
+        time: 0,
+        destination: 0,
+        next_hop: 0,
+        hops: 0,
+        quality: 0,
+        withdrawn: false,
+    };
+
     // How long a row may carry traffic, how long it stands, and how long if it was withdrawn.
     pub const USABLE_MS: u32 = 300_000;
 
@@ -46,20 +50,6 @@ impl Row {
     pub const MOST_HOPS: u8 = 16;
 
     pub const LEAST_QUALITY: u8 = 40;
-
-    // A place that is not in use.
-    pub fn none() -> Row
-        ensures { result ≡ none }
-    {
-        Row {
-            destination: 0,
-            next_hop: 0,
-            hops: 0,
-            quality: 0,
-            time: 0,
-            withdrawn: false,
-        }
-    }
 
     // Whether it may carry traffic at this time.
     pub fn usable(self, time: u32) -> bool
@@ -73,11 +63,7 @@ impl Row {
         ensures { result ≡ left_at time self }
     {
         let old = age(time, self.time);
-        if old <= Row::USABLE_MS {
-            Row::USABLE_MS - old
-        } else {
-            0
-        }
+        Row::USABLE_MS.saturating_sub(old)
     }
 
     // Whether traffic to a destination may go by it at this time.
@@ -115,15 +101,11 @@ impl Row {
     fn is_none(self) -> bool
         ensures { result ≡ is_none self }
     {
-        (self.destination == 0)
-            & (self.next_hop == 0)
-            & (self.hops == 0)
-            & (self.quality == 0)
-            & (self.time == 0)
-            & !self.withdrawn
+        self == Row::NONE
     }
 
     // Whether it may stand before a row with this destination, 0 for none.
+    // Kept: 0 and no Option, as the place behind holds it and the definition `ok_before` takes it.
     pub(crate) fn ordered(self, own: u16, last: u32, after: u16) -> bool
         ensures { result ≡ ok_row own last self after }
     {
@@ -146,12 +128,9 @@ impl Row {
         ensures { result ≡ forgotten unit time self }
     {
         let withdrawn = Row {
-            destination: self.destination,
-            next_hop: self.next_hop,
-            hops: self.hops,
-            quality: self.quality,
             time,
             withdrawn: true,
+            ..self
         };
         either(self.lost(unit, time), withdrawn, self)
     }

@@ -1,4 +1,6 @@
 // The rows that stand: gone ones are dropped, and the others move to the front.
+// Kept: this loop and all that go up the rows, here and in the crates above, end at the destination 0 themselves: no count of the rows in use is stored, so
+// that a slice of them takes a walk of its own to find its end.
 ghost use Rattle.std.specs.Prelude.{◌≡◌, length};
 ghost use Rattle.octets.specs.Lists.{every};
 ghost use Rattle.route_table.specs.Rows.{stands, in_use, pad, standing, standing_places};
@@ -9,8 +11,7 @@ use crate::row::Row;
 fn all_stand(rows: [Row; 48], time: u32) -> bool
     ensures { result ≡ every (stands time) (in_use rows) }
 {
-    for i in 0..48 {
-        let row = rows[i];
+    for row in &rows {
         if row.destination == 0 {
             return true;
         }
@@ -25,30 +26,23 @@ fn all_stand(rows: [Row; 48], time: u32) -> bool
 fn gathered(rows: [Row; 48], time: u32) -> [Row; 48]
     ensures { result ≡ pad (standing time (in_use rows)) }
 {
-    let mut out = [Row {
-        destination: 0,
-        next_hop: 0,
-        hops: 0,
-        quality: 0,
-        time: 0,
-        withdrawn: false,
-    }; 48];
+    let mut out = [Row::NONE; 48];
     let mut n = 0;
-    for i in 0..48 {
-        let row = rows[i];
+    for row in &rows {
         if row.destination == 0 {
             return out;
         }
         if !row.stands(time) {
             continue;
         }
-        out[n] = row;
+        out[n] = *row;
         n += 1;
     }
     out
 }
 
 // The places without the rows that are gone. Most calls find none gone and move nothing.
+#[tactic(auto, unfolding(crate::specs::Rows::standing_places))]
 pub fn standing_places(rows: [Row; 48], time: u32) -> [Row; 48]
     ensures { (result ≡ standing_places time rows) × (length rows ≡ 48) }
 {

@@ -3,16 +3,18 @@ ghost use Rattle.std.specs.Prelude.{◌≡◌, map, length};
 ghost use Rattle.route_table.specs.Places.{ok_places};
 ghost use Rattle.route_table.specs.Rows.{forgotten, in_use, row_for};
 ghost use Rattle.octets.specs.Answers.{first};
-ghost use Rattle.route_table.specs.Tables.{head_of, pair_ok, within_rule, settled, empty_table, fresh_of, found_or, found_by, lookup_of, unforgotten_reasons, forget_of};
+ghost use Rattle.octets.specs.Refusals.{status_of};
+ghost use Rattle.route_table.specs.Outcomes.{changed, found};
+ghost use Rattle.route_table.specs.Tables.{rows_of, head_of, placed, pair_ok, within_rule, empty_table, fresh_of, found_by, lookup_of, unforgotten_reasons, forget_of};
 
-use crate::row::{Row, either};
+use crate::row::Row;
 use crate::standing::standing_places;
 use moments::in_order;
 use octets::addresses::is_address;
-use octets::answers::{Refusal, refuse_if};
-use octets::choices::either32;
+use octets::refusals::{Refusal, refuse_if};
 
 // `forwarded` says whether a beacon was forwarded; `origin` and `sequence` are then the pair of the last one.
+// Kept: the three are no Option, since a stored table may hold a pair out of rule, which `pair_ok` tells and is refused with 14.
 #[derive(Clone, Copy)]
 pub struct Table {
     pub own: u16,
@@ -24,6 +26,7 @@ pub struct Table {
 }
 
 // A table without its rows.
+// Kept: its pair is no Option, as Table's: the head of a stored table may hold a pair out of rule.
 #[derive(Clone, Copy)]
 pub struct Head {
     pub own: u16,
@@ -33,39 +36,29 @@ pub struct Head {
     pub sequence: u16,
 }
 
-// What a changing call gives: the table, which is as it was where `refused` is not 0.
-#[derive(Drop)]
-pub struct Changed {
-    pub refused: u8,
-    pub table: Table,
-}
-
-// What a lookup answers: the number that refuses it, 0 where there is a next hop, and for how many ms more its row is usable; where it is refused the
-// others are 0.
-#[derive(Clone, Copy)]
-pub struct Found {
-    pub refused: u8,
+// What a lookup finds: the next hop, how many hops away the destination is, and for how many ms more the row is usable.
+#[derive(Clone, Copy, Debug, PartialEq, Eq)]
+pub struct Route {
     pub next_hop: u16,
     pub hops: u8,
     pub left: u32,
 }
 
 // Whether each place may stand before the next.
+// Kept: an index, and no `zip` of the places with those behind them: tried, the proof did not close, since such a loop gives no list that it goes over.
 fn places_ok(own: u16, last: u32, rows: [Row; 48]) -> bool
     ensures { (result ≡ ok_places own last rows) × (length rows ≡ 48) }
 {
     for i in 0..47 {
-        let row = rows[i];
-        let after = rows[i + 1];
-        if !row.ordered(own, last, after.destination) {
+        if !rows[i].ordered(own, last, rows[i + 1].destination) {
             return false;
         }
     }
-    let row = rows[47];
-    row.ordered(own, last, 0)
+    rows[47].ordered(own, last, 0)
 }
 
 // The pair of the last beacon forwarded, or zeros.
+// Kept: a flag and two numbers, as Table's: this tells a stored pair that is out of rule, which no Option holds.
 pub fn pair_ok(forwarded: bool, origin: u16, sequence: u16) -> bool
     ensures { result ≡ pair_ok forwarded origin sequence }
 {
@@ -77,19 +70,19 @@ pub fn pair_ok(forwarded: bool, origin: u16, sequence: u16) -> bool
 }
 
 // The row for a destination, or none.
+// Kept: `Row::NONE` and no Option, as the definition `row_for`: `found_by` refuses that row like one that does not lead there.
 pub fn row_for(rows: [Row; 48], destination: u16) -> Row
     ensures { result ≡ row_for destination (in_use rows) }
 {
-    for i in 0..48 {
-        let row = rows[i];
+    for row in &rows {
         if row.destination == 0 {
-            return Row::none();
+            return Row::NONE;
         }
         if row.destination == destination {
-            return row;
+            return *row;
         }
     }
-    Row::none()
+    Row::NONE
 }
 
 // Each row when a unit is forgotten.
@@ -97,95 +90,68 @@ fn forgotten_rows(rows: [Row; 48], unit: u16, time: u32) -> [Row; 48]
     ensures { result ≡ map (forgotten unit time) rows }
 {
     let mut out = rows;
-    for i in 0..48 {
-        let row = out[i];
-        out[i] = row.forgotten(unit, time);
+    for row in &mut out {
+        *row = row.forgotten(unit, time);
     }
     out
 }
 
-fn zeros(own: u16, time: u32) -> Table
-    ensures { result ≡ empty_table own time }
-{
-    Table {
-        own,
-        time,
-        forwarded: false,
-        origin: 0,
-        sequence: 0,
-        rows: [Row {
-            destination: 0,
-            next_hop: 0,
-            hops: 0,
-            quality: 0,
-            time: 0,
-            withdrawn: false,
-        }; 48],
-    }
-}
-
-// The table that a call gives: the new one, or the old one with the number that refuses the call.
-pub fn settled(refused: u8, old: Table, new: Table) -> Changed
-    ensures { result ≡ settled refused old new }
-{
-    if refused == 0 {
-        return Changed {
-            refused,
-            table: new,
-        };
-    }
-    Changed {
-        refused,
-        table: old,
-    }
-}
-
-// The answer by a row that is usable for so many ms more, unless a number refuses it.
-pub fn found_or(refused: u8, row: Row, left: u32) -> Found
-    ensures { result ≡ found_or refused row left }
-{
-    let by = either(refused == 0, row, Row::none());
-    Found {
-        refused,
-        next_hop: by.next_hop,
-        hops: by.hops,
-        left: either32(refused == 0, left, 0),
-    }
-}
-
 // What a table within rule answers to a lookup, where it has this last accepted time and this row for the destination: a table by value and one that
 // lies in bytes find the row in their own ways.
-pub fn found_by(last: u32, row: Row, destination: u16, time: u32) -> Found
-    ensures { result ≡ found_by last row destination time }
+#[tactic(auto, unfolding(crate::specs::Tables::found_by))]
+pub fn found_by(last: u32, row: Row, destination: u16, time: u32) -> Result<Route, Refusal>
+    ensures { found result ≡ found_by last row destination time }
 {
-    let refused = refuse_if(!row.leads(destination, time), Refusal::NO_ROUTE, 0);
-    let refused = refuse_if(!in_order(last, time), Refusal::EARLIER, refused);
-    found_or(
-        refuse_if(!is_address(destination), Refusal::FIELD, refused),
-        row,
-        row.left(time),
-    )
+    refuse_if(!is_address(destination), Refusal::Field)?;
+    refuse_if(!in_order(last, time), Refusal::Earlier)?;
+    refuse_if(!row.leads(destination, time), Refusal::NoRoute)?;
+    Ok(Route {
+        next_hop: row.next_hop,
+        hops: row.hops,
+        left: row.left(time),
+    })
 }
 
-// Why a table within rule of the unit `own`, with this last accepted time, does not forget a unit; 0 where it does.
-pub fn why_unforgotten(own: u16, last: u32, unit: u16, time: u32) -> u8
-    ensures { result ≡ first (unforgotten_reasons own last unit time) }
+// Why a table within rule of the unit `own`, with this last accepted time, does not forget a unit.
+pub fn why_unforgotten(own: u16, last: u32, unit: u16, time: u32) -> Result<(), Refusal>
+    ensures { status_of result ≡ first (unforgotten_reasons own last unit time) }
 {
-    let refused = refuse_if(!in_order(last, time), Refusal::EARLIER, 0);
-    let refused = refuse_if(unit == own, Refusal::OWN, refused);
-    refuse_if(!is_address(unit), Refusal::FIELD, refused)
+    refuse_if(!is_address(unit), Refusal::Field)?;
+    refuse_if(unit == own, Refusal::Own)?;
+    refuse_if(!in_order(last, time), Refusal::Earlier)
+}
+
+impl Head {
+    // The table with this head and these places.
+    pub fn placed(self, rows: [Row; 48]) -> Table
+        ensures { result ≡ placed self rows }
+    {
+        Table {
+            own: self.own,
+            time: self.time,
+            forwarded: self.forwarded,
+            origin: self.origin,
+            sequence: self.sequence,
+            rows,
+        }
+    }
 }
 
 impl Table {
-    // An empty table; a unit that is no address is refused, with zeros.
-    pub fn fresh(own: u16, time: u32) -> Changed
-        ensures { result ≡ fresh_of own time }
+    // An empty table; a unit that is no address is refused.
+    #[tactic(auto, unfolding(crate::specs::Tables::fresh_of))]
+    pub fn fresh(own: u16, time: u32) -> Result<Table, Refusal>
+        ensures { changed (empty_table 0 0) result ≡ fresh_of own time }
     {
-        settled(
-            refuse_if(!is_address(own), Refusal::FIELD, 0),
-            zeros(0, 0),
-            zeros(own, time),
-        )
+        refuse_if(!is_address(own), Refusal::Field)?;
+        Ok(Table {
+            own,
+            time,
+            forwarded: false,
+            origin: 0,
+            sequence: 0,
+            rows: [Row::NONE; 48],
+        })
     }
 
     pub fn head(self) -> Head
@@ -204,42 +170,39 @@ impl Table {
     pub fn within_rule(self) -> bool
         ensures { result ≡ within_rule self }
     {
-        let rows = self.rows;
         is_address(self.own)
             & pair_ok(self.forwarded, self.origin, self.sequence)
-            & places_ok(self.own, self.time, rows)
+            & places_ok(self.own, self.time, self.rows)
+    }
+
+    // What it answers to a lookup where it is within rule.
+    pub fn route_to(self, to: u16, time: u32) -> Result<Route, Refusal>
+        ensures { found result ≡ found_by self.time (row_for to (rows_of self)) to time }
+    {
+        found_by(self.time, row_for(self.rows, to), to, time)
     }
 
     // The next hop to a destination, by a row that is usable at this time.
-    pub fn lookup(self, destination: u16, time: u32) -> Found
-        ensures { result ≡ lookup_of self destination time }
+    #[tactic(auto, unfolding(crate::specs::Tables::lookup_of, crate::specs::Tables::found_by))]
+    pub fn lookup(self, destination: u16, time: u32) -> Result<Route, Refusal>
+        ensures { found result ≡ lookup_of self destination time }
     {
-        if !self.within_rule() {
-            return found_or(Refusal::RULE, Row::none(), 0);
-        }
-        let rows = self.rows;
-        found_by(self.time, row_for(rows, destination), destination, time)
+        refuse_if(!self.within_rule(), Refusal::Rule)?;
+        self.route_to(destination, time)
     }
 
     // Withdraws all usable rows to a unit or through it.
-    pub fn forget(self, unit: u16, time: u32) -> Changed
-        ensures { result ≡ forget_of self unit time }
+    #[tactic(auto, unfolding(crate::specs::Tables::forget_of))]
+    pub fn forget(self, unit: u16, time: u32) -> Result<Table, Refusal>
+        ensures { changed self result ≡ forget_of self unit time }
     {
-        let rows = self.rows;
-        let refused = why_unforgotten(self.own, self.time, unit, time);
-        let refused = refuse_if(!self.within_rule(), Refusal::RULE, refused);
-        let next = forgotten_rows(standing_places(rows, time), unit, time);
-        settled(
-            refused,
-            self,
-            Table {
-                own: self.own,
-                time,
-                forwarded: self.forwarded,
-                origin: self.origin,
-                sequence: self.sequence,
-                rows: next,
-            },
-        )
+        refuse_if(!self.within_rule(), Refusal::Rule)?;
+        why_unforgotten(self.own, self.time, unit, time)?;
+        let standing = standing_places(self.rows, time);
+        Ok(Table {
+            time,
+            rows: forgotten_rows(standing, unit, time),
+            ..self
+        })
     }
 }

@@ -1,8 +1,7 @@
 -- Ascending rows for units of a list are no more than the list has.
 -- Assumes nothing.
-use Rattle.octets.proofs.Words.{◌≡◌, refl, sym, ap, ◌∙◌, Bool, true, false, ◌||◌, cond, and-eq-true_iff, false≢true, List, [], ◌∷◌, ℕ, suc, ◌+◌, ◌≤◌, arith, eqb-true, ltb-true, eqb, ltb, length}
+use Rattle.octets.proofs.Words.{◌≡◌, ap, ◌∙◌, true, cond, false≢true, List, [], ◌∷◌, ℕ, suc, ◌+◌, ◌≤◌, arith, eqb, ltb, length}
 use Rattle.octets.specs.Lists.{every, Each, some}
-use Rattle.octets.proofs.TestLaws.{or_left, or_right, or_elim}
 use Rattle.octets.proofs.OrderLaws.{ascending-rest, ascending_above, find_first, find_behind}
 use Rattle.route_table.specs.declared.row.Row.{Row}
 use Rattle.route_table.specs.Rows.{none, leading_to, ascending}
@@ -17,23 +16,12 @@ without n (m ∷ l) = cond (eqb n m) l (m ∷ without n l)
 pub without_shorter : (n : ℕ) (l : List ℕ) → among n l ≡ true → suc (length (without n l)) ≡ length l
 unfolding without among some
 without_shorter n [] e = absurd (false≢true e)
-without_shorter n (m ∷ l) e = go (eqb n m) refl (without_shorter n l)
-  where
-    go : (b : Bool) → eqb n m ≡ b → (among n l ≡ true → suc (length (without n l)) ≡ length l) → suc (length (cond b l (m ∷ without n l))) ≡ suc (length l)
-    go true q ih = refl
-    go false q ih = ap suc (ih (rw q at e))
+without_shorter n (m ∷ l) e = grind (arith, e, without_shorter n l)
 
 pub without_other : (n k : ℕ) → (k ≡ n → ⊥) → (l : List ℕ) → among k l ≡ true → among k (without n l) ≡ true
 unfolding without among some
 without_other n k d [] e = e
-without_other n k d (m ∷ l) e = go (eqb n m) refl (without_other n k d l)
-  where
-    go : (b : Bool) → eqb n m ≡ b → (among k l ≡ true → among k (without n l) ≡ true) → among k (cond b l (m ∷ without n l)) ≡ true
-    go true q ih = or_elim (among k l ≡ true) (eqb k m) (among k l) e (λ h. absurd (d (eqb-true k m h ∙ sym (eqb-true n m q)))) (λ h. h)
-    go false q ih =
-        or_elim ((eqb k m || among k (without n l)) ≡ true) (eqb k m) (among k l) e
-        (λ h. or_left (eqb k m) (among k (without n l)) h)
-        (λ h. or_right (eqb k m) (among k (without n l)) (ih h))
+without_other n k d (m ∷ l) e = grind (arith, d, e, without_other n k d l)
 
 abbrev pub For : List ℕ → Row → Type 0
 For l r = among r.destination l ≡ true
@@ -41,10 +29,7 @@ For l r = among r.destination l ≡ true
 behind-first : (n : ℕ) (l : List ℕ) (rs : List Row) → every (λ s. ltb n s.destination) rs ≡ true → Each (For l) rs → Each (For (without n l)) rs
 unfolding every
 behind-first n l [] a e = tt
-behind-first n l (s ∷ rs) a e =
-    let (here, later) = (and-eq-true_iff (ltb n s.destination) (every (λ s. ltb n s.destination) rs)).0 a in
-    let low = ltb-true n s.destination here in
-    (without_other n s.destination (λ z. omega arith) l e.0, behind-first n l rs later e.1)
+behind-first n l (s ∷ rs) a e = (without_other n s.destination (grind (arith, a)) l e.0, behind-first n l rs (grind (arith, a)) e.1)
 
 pub no_more : (rs : List Row) (l : List ℕ) → ascending rs ≡ true → Each (For l) rs → length rs ≤ length l
 no_more [] l a e = omega arith

@@ -1,10 +1,9 @@
 -- Three units in a line, computed.
 -- Assumes nothing.
-use Rattle.octets.proofs.Words.{◌≡◌, refl, true, false, ◌&&◌, ◌||◌, and-eq-true_iff, or_comm, ℕ, ℕ_discrete, arith, eqb-true, ne_eqb, eqb}
+use Rattle.octets.proofs.Words.{◌≡◌, refl, true, false, ◌&&◌, ◌||◌, or_comm, ℕ, arith, eqb}
 use Rattle.octets.specs.Numbers.{num, digits}
 use Rattle.octets.specs.Sums.{xors}
 use Rattle.octets.specs.Lists.{tab, every, some}
-use Rattle.octets.proofs.TestLaws.{or_elim}
 use Rattle.moments.specs.Moments.{age_at, in_order}
 use Rattle.frame_kinds.specs.Reading.{is_sealed, read_refusal}
 use Rattle.frame_kinds.specs.Shape.{sealed}
@@ -21,19 +20,10 @@ use Rattle.site_converges.proofs.SiteLaws.{among-every, within_more}
 
 line-inside : (a b : ℕ) → line.linked a b ≡ true → among b line.units ≡ true
 unfolding among some
-line-inside a b e =
-    or_elim (among b line.units ≡ true) (eqb a 2 && (eqb b 1 || eqb b 3)) (eqb b 2 && (eqb a 1 || eqb a 3)) e
-    (λ h.
-    or_elim (among b line.units ≡ true) (eqb b 1) (eqb b 3) ((and-eq-true_iff (eqb a 2) (eqb b 1 || eqb b 3)).0 h).1
-    (λ k. rw (eqb-true b 1 k)) (λ k. rw (eqb-true b 3 k)))
-    (λ h. rw (eqb-true b 2 ((and-eq-true_iff (eqb b 2) (eqb a 1 || eqb a 3)).0 h).0))
+line-inside a b e = grind (arith, e)
 
 line-apart : (a : ℕ) → line.linked a a ≡ false
-line-apart a = go (ℕ_discrete a 2)
-  where
-    go : Dec (a ≡ 2) → line.linked a a ≡ false
-    go (yes e) = rw e
-    go (no e) = rw (ne_eqb a 2 e)
+line-apart a = grind arith
 
 -- any two units are within two links
 line_short : every (λ a. every (λ b. within line 2 a b) line.units) line.units ≡ true
@@ -52,7 +42,7 @@ line_sited =
       across =
           λ a b m n.
           within_more line 2 _ a b (omega arith)
-          (among-every (λ y. within line 2 a y) line.units (among-every (λ x. every (λ y. within line 2 x y) line.units) line.units line_short a m) b n);
+          (among-every (within line 2 a) line.units (among-every (λ x. every (within line 2 x) line.units) line.units line_short a m) b n);
     }
 
 pub line_tells : LineTells

@@ -4,7 +4,7 @@ use Rattle.octets.proofs.Words.{◌≡◌, sym, ap, subst, ◌∙◌, true, fals
 use Rattle.moments.specs.Moments.{in_order}
 use Rattle.moments.proofs.MomentLaws.{young_in_order}
 use Rattle.octets.specs.Addresses.{address}
-use Rattle.route_table.specs.declared.table.Found.{Found}
+use Rattle.route_table.specs.Outcomes.{Found}
 use Rattle.route_table.specs.Rows.{row_for}
 use Rattle.route_table.specs.Tables.{rows_of, leads_to, lookup_of}
 use Rattle.route_table.proofs.LookupLaws.{lookup-told, lookup-leads, not_led}

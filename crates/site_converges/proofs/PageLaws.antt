@@ -1,8 +1,8 @@
 -- A neighbour's page: what it offers, and that each of its rows stands on one.
 -- Assumes nothing.
-use Rattle.octets.proofs.Words.{◌≡◌, refl, Bool, true, false, cond, List, [], ◌∷◌, map, ⊎_elim, ℕ, ◌≤◌, arith, eqb-false, eqb}
+use Rattle.octets.proofs.Words.{◌≡◌, refl, Bool, true, false, cond, List, [], ◌∷◌, map, ⊎_elim, ℕ, ◌≤◌, arith}
 use Rattle.octets.specs.Lists.{Some, Each}
-use Rattle.octets.proofs.TestLaws.{neither}
+use Rattle.octets.proofs.TestLaws.{of-cond}
 use Rattle.route_table.specs.declared.row.Row.{Row}
 use Rattle.route_merges.specs.declared.candidate.Candidate.{Candidate}
 use Rattle.route_merges.specs.Candidates.{offered, passed_over_of, offers, candidates}
@@ -20,10 +20,9 @@ module _ (s : Site) (c : Course) (u r o : ℕ) (near : s.linked u o ≡ true) (q
       let live = good-usable s c o now r written x g t in
       let hops = entry-hops written x live in
       let best = entry-quality written x live in
-      let unlike = neither (eqb (entry_for written x).destination u) (eqb (entry_for written x).destination o) (neither _ (eqb (entry_for written x).next_hop u) q).0 in
       record {
         near = near;
-        other = eqb-false (entry_for written x).destination u unlike.0;
+        other = grind (arith, q);
         less = x.hops;
         down = omega (arith, hops);
         low = g.low;
@@ -34,12 +33,9 @@ module _ (s : Site) (c : Course) (u r o : ℕ) (near : s.linked u o ≡ true) (q
 
   offers-fit : (rs : List Row) → Each (Good s c o now r) rs → Each (Offer s u r o) (offers u o quality (map (entry_for written) rs))
   offers-fit [] e = tt
-  offers-fit (x ∷ rs) e = go (passed_over_of u o (entry_for written x)) refl (offers-fit rs e.1)
-    where
-      go : (b : Bool) → passed_over_of u o (entry_for written x) ≡ b → Each (Offer s u r o) (offers u o quality (map (entry_for written) rs))
-          → Each (Offer s u r o) (cond b (offers u o quality (map (entry_for written) rs)) (offered quality (entry_for written x) ∷ offers u o quality (map (entry_for written) rs)))
-      go true q later = later
-      go false q later = (row_offer x e.0 q, later)
+  offers-fit (x ∷ rs) e =
+      let later = offers-fit rs e.1 in
+      of-cond (Each (Offer s u r o)) (passed_over_of u o (entry_for written x)) _ _ (λ q. later) (λ q. (row_offer x e.0 q, later))
 
   pub candidates-fit : (o ≡ u → ⊥) → (rs : List Row) → Each (Good s c o now r) rs → Each (Offer s u r o) (candidates u o quality (map (entry_for written) rs))
   candidates-fit n rs e =

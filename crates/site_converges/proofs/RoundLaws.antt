@@ -1,6 +1,6 @@
 -- A round: from the units within r links to those within one more; and any number of rounds.
 -- Assumes nothing.
-use Rattle.octets.proofs.Words.{◌≡◌, refl, sym, ap, ap₂, subst, ◌∙◌, Bool, true, false, not, ◌&&◌, and-eq-true_iff, false≢true, List, [], ◌∷◌, map, ⊎_elim, ℕ, zero, suc, ◌*◌, ◌-◌, ◌≤◌, ℕ_discrete, arith, eq-eqb, ne_eqb, eqb-false, leb-true, eqb, leb, drop}
+use Rattle.octets.proofs.Words.{◌≡◌, refl, sym, ap, ap₂, subst, ◌∙◌, true, false, false≢true, List, [], ◌∷◌, map, ⊎_elim, ℕ, zero, suc, ◌*◌, ◌-◌, ◌≤◌, ℕ_discrete, arith, ne_eqb, eqb, drop}
 use Rattle.octets.specs.Lists.{Some, Each}
 use Rattle.octets.proofs.EachLaws.{each_take, each-drop, each-every}
 use Rattle.octets.proofs.TestLaws.{by_bool}
@@ -180,13 +180,13 @@ module _ (s : Site) (c : Course) (z : Sited s) where
 -- ---- what right rows name
 module _ (s : Site) (c : Course) (z : Sited s) (r u now : ℕ) (rows : List Row) (g : Right s c u now r r rows) where
   pub row : (d : ℕ) → address d ≡ true → Has d rows → Good s c u now r (row_for d rows)
-  row d a h = each_row (Good s c u now r) d (omega (arith, leb-true 1 d ((and-eq-true_iff (leb 1 d) (leb d 0xFFFE)).0 a).0)) rows g.good h
+  row d a h = each_row (Good s c u now r) d (grind (arith, a)) rows g.good h
 
   leading : (d : ℕ) → Has d rows → Good s c u now r (row_for d rows) → Leads s u d (row_for d rows).next_hop (row_for d rows).hops
   leading d h y =
       let x = row_for d rows in
-      let on : within s y.less x.next_hop d ≡ true = subst (λ (e : ℕ). within s y.less x.next_hop e ≡ true) h y.on in
-      let best : Fewest s x.hops u d = subst (λ (e : ℕ). Fewest s x.hops u e) h y.fewest in
+      let on : within s y.less x.next_hop d ≡ true = rw h at y.on in
+      let best : Fewest s x.hops u d = rw h at y.fewest in
       let less : y.less ≡ x.hops - 1 = omega (arith, y.down) in
       record {
         fewest = best;
@@ -201,14 +201,8 @@ module _ (s : Site) (c : Course) (z : Sited s) (r u now : ℕ) (rows : List Row)
   named : (d : ℕ) → address d ≡ true → Dec (Has d rows) → eqb (row_for d rows).destination d ≡ to_know s r u d
   named d a (yes h) =
       let y = row d a h in
-      let w : within s r u d ≡ true = within_more s (row_for d rows).hops r u d y.low (subst (λ (k : ℕ). within s (row_for d rows).hops u k ≡ true) h y.fewest.enough) in
-      rw (eq-eqb (row_for d rows).destination d h, ne_eqb d u (λ v. y.other (h ∙ v)), w)
-  named d a (no h) = rw (ne_eqb (row_for d rows).destination d h) (sym (none (eqb d u) refl (within s r u d) refl))
-    where
-      none : (a : Bool) → eqb d u ≡ a → (b : Bool) → within s r u d ≡ b → (not a && b) ≡ false
-      none true p b q = refl
-      none false p true q = absurd (h (g.known d (eqb-false d u p) q))
-      none false p false q = refl
+      grind (arith, h, y.other, within_more s (row_for d rows).hops r u d y.low, y.fewest.enough)
+  named d a (no h) = grind (arith, h, g.known d)
 
   pub right_names : now ≤ span → Names s c r u rows
   right_names limit =

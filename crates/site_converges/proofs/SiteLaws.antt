@@ -1,6 +1,6 @@
 -- Links: more are no worse, one more leads on, and what is reached is a unit of the site.
 -- Assumes nothing.
-use Rattle.octets.proofs.Words.{◌≡◌, refl, sym, ◌∙◌, Bool, true, false, ◌&&◌, and-eq-true_iff, false≢true, List, [], ◌∷◌, ℕ, zero, suc, ◌≤◌, dec_le, arith, eqb-true, eq-eqb, eqb}
+use Rattle.octets.proofs.Words.{◌≡◌, refl, Bool, true, false, ◌&&◌, and-eq-true_iff, false≢true, List, [], ◌∷◌, ℕ, zero, suc, ◌≤◌, arith, eqb-true, eq-eqb, eqb}
 use Rattle.octets.specs.Lists.{every, some}
 use Rattle.octets.proofs.TestLaws.{or_left, or_right, or_elim}
 use Rattle.site_converges.specs.Sites.{Site, Fewest, among, within}
@@ -18,17 +18,12 @@ some_elim R test (m ∷ l) e f =
 pub some-by : (test : ℕ → Bool) (l : List ℕ) (n : ℕ) → among n l ≡ true → test n ≡ true → some test l ≡ true
 unfolding among some
 some-by test [] n a e = a
-some-by test (m ∷ l) n a e =
-    or_elim (some test (m ∷ l) ≡ true) (eqb n m) (among n l) a
-    (λ h. or_left (test m) (some test l) (rw (eqb-true n m h) at e))
-    (λ h. or_right (test m) (some test l) (some-by test l n h e))
+some-by test (m ∷ l) n a e = grind (arith, a, e, some-by test l n)
 
 pub among-every : (test : ℕ → Bool) (l : List ℕ) → every test l ≡ true → (n : ℕ) → among n l ≡ true → test n ≡ true
 unfolding every among some
 among-every test [] e n a = absurd (false≢true a)
-among-every test (m ∷ l) e n a =
-    let (here, later) = (and-eq-true_iff (test m) (every test l)).0 e in
-    or_elim (test n ≡ true) (eqb n m) (among n l) a (λ h. rw (eqb-true n m h) here) (λ h. among-every test l later n h)
+among-every test (m ∷ l) e n a = grind (arith, e, a, among-every test l)
 
 -- ---- links
 module _ (s : Site) where
@@ -40,13 +35,7 @@ module _ (s : Site) where
   within_more r zero a b h e =
       let z : r ≡ 0 = omega arith in
       rw z at e
-  within_more r (suc k) a b h e = go (dec_le r k) (λ l. within_more r k a b l e)
-    where
-      go : Dec (r ≤ k) → (r ≤ k → within s k a b ≡ true) → within s (suc k) a b ≡ true
-      go (yes l) ih = within-suc k a b (ih l)
-      go (no l) ih =
-          let z : r ≡ suc k = omega arith in
-          rw z at e
+  within_more r (suc k) a b h e = grind (arith, h, e, within_more r k a b, within-suc k a b)
 
   pub within_step : (r a n b : ℕ) → among n s.units ≡ true → s.linked a n ≡ true → within s r n b ≡ true → within s (suc r) a b ≡ true
   unfolding within
@@ -84,8 +73,4 @@ module _ (s : Site) where
 
   -- by a link to a unit from which so many are the fewest: one more are the fewest, or so many are enough from here
   pub fewest-step : (k a n b : ℕ) → among n s.units ≡ true → s.linked a n ≡ true → within s k n b ≡ true → within s k a b ≡ false → Fewest s (suc k) a b
-  fewest-step k a n b m l e f = record { enough = within_step k a n b m l e; least = λ j w. go j w (dec_le j k) }
-    where
-      go : (j : ℕ) → within s j a b ≡ true → Dec (j ≤ k) → suc k ≤ j
-      go j w (yes h) = absurd (false≢true (sym f ∙ within_more j k a b h w))
-      go j w (no h) = omega arith
+  fewest-step k a n b m l e f = record { enough = within_step k a n b m l e; least = λ j w. grind (arith, f, w, within_more j k a b) }

@@ -1,9 +1,9 @@
 -- One candidate in the middle of a round: the rows stay right, the candidate's destination has one, and none is skipped.
 -- Assumes nothing.
-use Rattle.octets.proofs.Words.{◌≡◌, refl, sym, ap, ◌∙◌, true, false, not, ◌&&◌, ◌||◌, and-eq-true_iff, false≢true, List, [], ◌∷◌, ℕ, suc, ◌≤◌, ◌<◌, arith, eqb-true, eqb-false, ltb-true, ltb-false, le-ltb, le-leb, leb-true, eqb, leb, ltb, length}
+use Rattle.octets.proofs.Words.{◌≡◌, refl, ap, ◌∙◌, true, false, not, ◌&&◌, List, [], ◌∷◌, ℕ, suc, ◌≤◌, ◌<◌, arith, le-ltb, le-leb, eqb, length}
 use Rattle.octets.specs.Lists.{Each}
 use Rattle.octets.proofs.EachLaws.{each_also}
-use Rattle.octets.proofs.TestLaws.{of-cond, or_elim, by_bool}
+use Rattle.octets.proofs.TestLaws.{by_bool}
 use Rattle.moments.specs.Moments.{age_at}
 use Rattle.moments.proofs.MomentLaws.{age-between}
 use Rattle.octets.specs.Addresses.{address}
@@ -13,7 +13,7 @@ use Rattle.route_table.specs.Rows.{none, leading_to, usable, stands, ascending, 
 use Rattle.route_table.proofs.HasLaws.{Has, each_row}
 use Rattle.route_merges.specs.declared.candidate.Candidate.{Candidate}
 use Rattle.route_merges.specs.Candidates.{bad}
-use Rattle.route_merges.specs.Learning.{put, row_by, gives_way, taken_back, Learned, met, new_to, learn, learn_all}
+use Rattle.route_merges.specs.Learning.{put, row_by, gives_way, taken_back, Learned, learned, learn, learn_all}
 use Rattle.route_merges.proofs.HasLaws.{put_has, each-put, learn_all-has}
 use Rattle.site_converges.specs.Sites.{Site, Sited, Fewest, among, within}
 use Rattle.site_converges.specs.Courses.{Course, span, since_began, InTime}
@@ -97,7 +97,7 @@ module _ (s : Site) (c : Course) (u : ℕ) where
 
 module _ (s : Site) (c : Course) (z : Sited s) (u : ℕ) (m : among u s.units ≡ true) (r : ℕ) where
   pub some-unit : (d : ℕ) → among d s.units ≡ true → 0 < d
-  some-unit d k = omega (arith, leb-true 1 d ((and-eq-true_iff (leb 1 d) (leb d 0xFFFE)).0 (among-every address s.units z.addresses d k)).0)
+  some-unit d k = grind (arith, among-every address s.units z.addresses d k)
 
   pub named : (now limit : ℕ) (x : Row) → Good s c u now limit x → among x.destination s.units ≡ true
   named now limit x g = reached s x.hops u x.destination m g.fewest.enough
@@ -131,20 +131,10 @@ module _ (s : Site) (c : Course) (z : Sited s) (u : ℕ) (m : among u s.units �
           omega (arith, o.fewest.least g.less there, g.down, shorter)
 
       not_taken : taken_back via time y ≡ true → ⊥
-      not_taken k = elsewhere (eqb-true y.next_hop via ((and-eq-true_iff (usable time y) (eqb y.next_hop via)).0 k).1)
+      not_taken k = grind (arith, elsewhere, k)
 
       no_way : gives_way via time x y ≡ true → ⊥
-      no_way k =
-          or_elim ⊥ (not (usable time y) || eqb y.next_hop via || ltb x.hops y.hops) (eqb x.hops y.hops && ltb y.quality x.quality) k
-          (λ a.
-          or_elim ⊥ (not (usable time y) || eqb y.next_hop via) (ltb x.hops y.hops) a
-          (λ b.
-          or_elim ⊥ (not (usable time y)) (eqb y.next_hop via) b
-          (λ f. false≢true (sym (ap not (good-usable s c u now (suc r) time y g (reaches c u time t))) ∙ f))
-          (λ f. elsewhere (eqb-true y.next_hop via f)))
-          (λ b. omega (arith, ltb-true x.hops y.hops b, o.down, shorter)))
-          (λ a.
-          omega (arith, eqb-true x.hops y.hops ((and-eq-true_iff (eqb x.hops y.hops) (ltb y.quality x.quality)).0 a).0, o.down, shorter))
+      no_way k = grind (arith, elsewhere, shorter, o.down, good-usable s c u now (suc r) time y g (reaches c u time t), k)
 
     -- ---- a candidate with the fewest hops
     module _ (w : within s o.less u d ≡ false) where
@@ -206,26 +196,16 @@ module _ (s : Site) (c : Course) (z : Sited s) (u : ℕ) (m : among u s.units �
           (λ w.
           let e = h.known d o.other (within_more s o.less r u d o.low w) in
           let g = there e in
-          of-cond After (eqb y.destination d) (met via time x y l) (new_to via time x l)
-          (λ q.
-          of-cond After (bad x) _ _
-          (λ b. of-cond After (taken_back via time y) _ _ (λ k. absurd (not_taken y e g w k)) (λ k. (h, e, refl)))
-          (λ b. of-cond After (gives_way via time x y) _ _ (λ k. absurd (no_way y e g w k)) (λ k. (h, e, refl))))
-          (λ q. absurd (eqb-false y.destination d q e)))
+          let same : learn via time x l ≡ l = grind (arith, e, not_taken y e g w, no_way y e g w) in
+          rw same (h, e, refl))
           (λ w.
-          let g = new w in
-          of-cond After (eqb y.destination d) (met via time x y l) (new_to via time x l)
+          by_bool (After (learn via time x l)) (eqb y.destination d && not (gives_way via time x y))
           (λ q.
-          of-cond After (bad x) _ _
-          (λ b. absurd (false≢true (sym (fine w) ∙ b)))
-          (λ b. of-cond After (gives_way via time x y) _ _ (λ k. (put_right g, has-put, refl)) (λ k. (h, eqb-true y.destination d q, refl))))
+          let same : learn via time x l ≡ l = grind (arith, q, fine w) in
+          rw same (h, grind (arith, q), refl))
           (λ q.
-          of-cond After (bad x) _ _
-          (λ b. absurd (false≢true (sym (fine w) ∙ b)))
-          (λ b.
-          of-cond After (ltb (length l.rows) 48) _ _
-          (λ k. (put_right g, has-put, refl))
-          (λ k. absurd (let full = ltb-false (length l.rows) 48 k in let free = room (eqb-false y.destination d q) in omega arith)))))
+          let wins : learn via time x l ≡ learned (put (row_by via time x) l.rows) l.skipped = grind (arith, q, fine w, room) in
+          rw wins (put_right (new w), has-put, refl)))
 
   -- ---- one candidate after the other
   pub learn_all_right : (via time : ℕ) → InTime c u time → (xs : List Candidate) → Each (Offer s u r via) xs → (l : Learned) → Right s c u (since_began c u time) r (suc r) l.rows

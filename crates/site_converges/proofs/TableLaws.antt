@@ -1,10 +1,10 @@
 -- Through the calls a table comes to hold what its rows learn, and so it converges.
 -- Assumes nothing.
-use Rattle.octets.proofs.Words.{◌≡◌, refl, sym, ap, subst, ◌∙◌, true, not, and-eq-true_iff, false≢true, List, [], ◌∷◌, ◌++◌, map, ℕ, zero, suc, ◌+◌, ◌≤◌, ◌<◌, ℕ_discrete, arith, ne_eqb, le-ltb, eqb, ltb, length, get_or, take}
-use Rattle.octets.specs.Answers.{Said, Reason, reason, accepted}
+use Rattle.octets.proofs.Words.{◌≡◌, refl, sym, ap, subst, ◌∙◌, true, and-eq-true_iff, false≢true, List, [], ◌∷◌, ◌++◌, map, ℕ, zero, suc, ◌+◌, ◌≤◌, ◌<◌, ℕ_discrete, arith, length, get_or, take}
+use Rattle.octets.specs.Answers.{Said, accepted}
 use Rattle.octets.specs.Layouts.{Bytes}
 use Rattle.octets.specs.Lists.{Each}
-use Rattle.octets.proofs.AnswerLaws.{unless-none, first-none}
+use Rattle.octets.proofs.AnswerLaws.{unless-none}
 use Rattle.octets.proofs.StoreLaws.{take-sets}
 use Rattle.moments.specs.Elapsed.{Clock, started, moved}
 use Rattle.moments.specs.Moments.{age_at, in_order}
@@ -22,7 +22,7 @@ use Rattle.route_merges.specs.Candidates.{candidates}
 use Rattle.route_merges.specs.Learning.{Learned, learned, learn_all}
 use Rattle.route_merges.specs.Merges.{merge_refusal, merged_rows, merge_of}
 use Rattle.route_merges.proofs.KeepLaws.{merge-gives, merge-rules, merge-within}
-use Rattle.route_pages.specs.Pages.{entry_for, on_page, page_frame, page_reasons, page_refusal, page_of}
+use Rattle.route_pages.specs.Pages.{entry_for, on_page, page_frame, page_refusal, page_of}
 use Rattle.route_pages.proofs.PageLaws.{page_short}
 use Rattle.route_pages.proofs.StandLaws.{page_frame-bytes}
 use Rattle.route_history.specs.TableCalls.{answer, next, after_calls, Happened, recorded, step_of, clock_of}
@@ -89,16 +89,8 @@ module _ (s : Site) (c : Course) (z : Sited s) (r : ℕ) (before : ℕ → Table
     -- it is written
     none : page_refusal tb h.page h.written (length page_buffer) ≡ 0
     none =
-        first-none (page_reasons tb h.page h.written (length page_buffer)) (
-          ap not (same o unit).rule,
-          (
-            ap not g.timely,
-            (
-              ap not (subst (λ (rs : List Row). to_hear rs h.page ≡ true) (sym stood) g.there),
-              (le-ltb _ (length (page_frame tb h.page h.written)) (page_short tb h.page h.written), tt),
-            ),
-          ),
-        )
+        let there : to_hear (standing h.written (rows_of tb)) h.page ≡ true = rw (sym stood) at g.there in
+        grind (arith, (same o unit).rule, g.timely, there, page_short tb h.page h.written)
 
     abbrev size : ℕ
     size = length (page_frame tb h.page h.written)
@@ -141,10 +133,7 @@ module _ (s : Site) (c : Course) (z : Sited s) (r : ℕ) (before : ℕ → Table
 
       -- it is merged
       taken : merge_refusal t heard h.quality h.time ≡ 0
-      taken =
-          let reasons : List Reason = reason (not (within_rule t)) 14 ∷ reason (eqb tb.own t.own) 6 ∷ reason (not (in_order t.time h.time)) 8 ∷ reason (ltb h.quality 40) 9 ∷ [] in
-          offers.refusals t h.quality h.time
-          ∙ first-none reasons (ap not k.rule, (ne_eqb tb.own t.own apart, (ap not order, (le-ltb h.quality 40 (omega (arith, f.clear)), tt))))
+      taken = grind (arith, offers.refusals t h.quality h.time, k.rule, apart, order, f.clear)
 
       pub merged : (merge_of t heard h.quality h.time).refused ≡ 0
       unfolding merge_of

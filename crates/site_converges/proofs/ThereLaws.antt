@@ -1,6 +1,6 @@
 -- Rounds at any site: each unit begins at 0, and at 300,000 writes and merges all pages, in the order of the units.
 -- Assumes nothing.
-use Rattle.octets.proofs.Words.{◌≡◌, refl, sym, ap, subst, Bool, true, false, cond, false≢true, List, [], ◌∷◌, ◌++◌, map, inl, inr, ℕ, zero, suc, ◌*◌, ◌≤◌, ℕ_discrete, arith, eqb-true, ltb-true, eqb, ltb, length}
+use Rattle.octets.proofs.Words.{◌≡◌, refl, sym, ap, subst, true, cond, false≢true, List, [], ◌∷◌, ◌++◌, map, inl, inr, ℕ, zero, suc, ◌≤◌, ℕ_discrete, arith, eqb-true, eqb}
 use Rattle.octets.specs.Lists.{Some, Each, some}
 use Rattle.octets.proofs.EachLaws.{each_append, each_also, some-behind, some_first}
 use Rattle.octets.proofs.TestLaws.{or_elim, of-cond}
@@ -89,14 +89,8 @@ module _ (s : Site) (u : ℕ) (before : ℕ → Table) (timely : (o : ℕ) → s
   -- every page that there is
   pages_all : (o p : ℕ) → p ≤ 1 → page_there (rows_of (before o)) p ≡ true → Hears (pages before o) o p
   pages_all o zero l t = inl (refl, refl)
-  pages_all o (suc p) l t =
-      let one : suc p ≡ 1 = omega arith in
-      let there : page_there (rows_of (before o)) 1 ≡ true = subst (λ (n : ℕ). page_there (rows_of (before o)) n ≡ true) one t in
-      inr (go (page_there (rows_of (before o)) 1) there (sym one))
-    where
-      go : (b : Bool) → b ≡ true → 1 ≡ suc p → Some (λ h. (h.from ≡ o) × (h.page ≡ suc p)) (cond b (call o 1 ∷ []) [])
-      go true e one = inl (refl, one)
-      go false e one = absurd (false≢true e)
+  pages_all o (suc zero) l t = inr (rw t (inl (refl, refl)))
+  pages_all o (suc (suc p)) l t = absurd (omega (arith, l))
 
   hearing_all : (o p : ℕ) → s.linked u o ≡ true → p ≤ 1 → page_there (rows_of (before o)) p ≡ true → (os : List ℕ) → among o os ≡ true
       → Hears (hearing s before u os) o p
@@ -109,19 +103,13 @@ module _ (s : Site) (u : ℕ) (before : ℕ → Table) (timely : (o : ℕ) → s
       let same = eqb-true o n e in
       let near : s.linked u n ≡ true = subst (λ (k : ℕ). s.linked u k ≡ true) same l in
       rw near (some_first P (pages before n) (hearing s before u os) (subst (λ (k : ℕ). Some P (pages before k)) same (pages_all o p few t))))
-      (λ e. go (s.linked u n) (hearing_all o p l few t os e))
-    where
-      go : (b : Bool) → Hears (hearing s before u os) o p
-          → Some (λ h. (h.from ≡ o) × (h.page ≡ p)) (cond b (pages before n ++ hearing s before u os) (hearing s before u os))
-      go true i = some-behind (λ h. (h.from ≡ o) × (h.page ≡ p)) (pages before n) (hearing s before u os) i
-      go false i = i
+      (λ e.
+      let later = hearing_all o p l few t os e in
+      of-cond (Some P) (s.linked u n) _ _ (λ q. some-behind P (pages before n) (hearing s before u os) later) (λ q. later))
 
 -- right rows are at most 48, and so there are at most two pages
 two_pages : (s : Site) (c : Course) → Sited s → (u : ℕ) → among u s.units ≡ true → (now r : ℕ) (rows : List Row) → Right s c u now r r rows → (p : ℕ) → page_there rows p ≡ true → p ≤ 1
-two_pages s c z u m now r rows g p t =
-    or_elim (p ≤ 1) (eqb p 0) (ltb (24 * p) (length rows)) t
-    (λ e. omega (arith, eqb-true p 0 e))
-    (λ e. omega (arith, ltb-true (24 * p) (length rows) e, few-rows s c z u m r now r rows g.up g.good))
+two_pages s c z u m now r rows g p t = grind (arith, t, few-rows s c z u m r now r rows g.up g.good)
 
 -- it is in order with every time in time
 late : (s : Site) (u n : ℕ) → InTime (course s) u n → in_order n 300000 ≡ true

@@ -1,13 +1,14 @@
 -- The numbers of a plan, and what its rule makes of them.
 -- Assumes nothing.
-use Rattle.octets.proofs.Words.{◌≡◌, refl, sym, ap, ◌∙◌, Bool, true, false, ◌||◌, and-eq-true_iff, false≢true, List, [], ◌∷◌, ℕ, ◌+◌, ◌*◌, ◌≤◌, ◌<◌, ◌^◌, mul-le-mul, arith, eqb-true, leb-true, le-leb, ltb-true, ltb-false, eqb, leb, ltb, get_or}
-use mir.Val.{bool_byte}
-use Rattle.octets.specs.Lists.{tab, all}
+use Rattle.std.proofs.Common.{Some, None}
+use Rattle.octets.proofs.Words.{◌≡◌, refl, sym, ap, ◌∙◌, Bool, true, false, ◌&&◌, ◌||◌, cond, and-eq-true_iff, false≢true, List, ℕ, ◌*◌, ◌≤◌, ◌<◌, ◌^◌, mul-le-mul, arith, eqb-true, leb-true, le-leb, eqb, leb, get_or}
+use Rattle.octets.specs.Answers.{Said, accepted, refused}
+use Rattle.octets.specs.Lists.{tab}
 use Rattle.octets.proofs.ListLaws.{get_or-tab}
 use Rattle.octets.proofs.TestLaws.{all_hold}
 use Rattle.octets.specs.Addresses.{address, network}
 use Rattle.site_plan.specs.declared.plan.Plan.{Plan}
-use Rattle.site_plan.specs.Plans.{slots, plan_rule, discovery_slots, active, slots_in, plan_rules, long_beacons, short_beacons}
+use Rattle.site_plan.specs.Plans.{slots, plan_rule, active, slots_in, plan_rules, long_beacons, short_beacons, plan_values, plan_of}
 use Rattle.site_plan.specs.Laws.{LengthsByTable, RuleBounds}
 
 -- ---- the length of a superframe and its time
@@ -36,25 +37,6 @@ superframe_fits active slots ms e h =
     let few : slots ≤ 100 = omega (arith, e, few-length active) in
     let short : ms ≤ 65535 = omega (arith, h) in
     omega (arith, mul-le-mul few short)
-
--- ---- discovery
--- a test, as a number
-pub test_few : (b : Bool) → bool_byte b ≤ 1
-test_few true = omega arith
-test_few false = omega arith
-
--- from two slots on there is one more from the 7th, the 10th and the 13th row on
-pub by-steps : (rows : ℕ) → 2 + bool_byte (ltb 6 rows) + bool_byte (ltb 9 rows) + bool_byte (ltb 12 rows) ≡ discovery_slots rows
-by-steps rows = go (ltb 6 rows) (ltb 9 rows) (ltb 12 rows) refl refl refl
-  where
-    go : (a b c : Bool) → ltb 6 rows ≡ a → ltb 9 rows ≡ b → ltb 12 rows ≡ c → 2 + bool_byte a + bool_byte b + bool_byte c ≡ discovery_slots rows
-    go true true true p q r = omega (arith, ltb-true 12 rows r)
-    go true true false p q r = omega (arith, ltb-true 9 rows q, ltb-false 12 rows r)
-    go true false true p q r = omega (arith, ltb-false 9 rows q, ltb-true 12 rows r)
-    go true false false p q r = omega (arith, ltb-true 6 rows p, ltb-false 9 rows q)
-    go false true c p q r = omega (arith, ltb-false 6 rows p, ltb-true 9 rows q)
-    go false false true p q r = omega (arith, ltb-false 9 rows q, ltb-true 12 rows r)
-    go false false false p q r = omega (arith, ltb-false 6 rows p)
 
 -- ---- the rule
 -- what its bounds rest on, and that its network and its manager are such
@@ -110,30 +92,8 @@ rule_bounds p e =
     }
 
 -- ---- numbers that are wider than the fields of a plan
--- what `fit` tests
-abbrev fits : Plan → List Bool
-fits p = leb p.max_hops 255 ∷ leb p.rows 255 ∷ leb p.data_slots 255 ∷ leb p.slot_ms 65535 ∷ leb p.beacon_type 255 ∷ []
-
 abbrev fitting : Plan → Bool
-fitting p = all (fits p)
-
-pub record Fitting (p : Plan) : Type 0 where
-  pub hops : p.max_hops ≤ 255
-  pub rows : p.rows ≤ 255
-  pub data_slots : p.data_slots ≤ 255
-  pub slot_ms : p.slot_ms ≤ 65535
-  pub beacon : p.beacon_type ≤ 255
-
-pub fitted : (p : Plan) → fitting p ≡ true → Fitting p
-fitted p e =
-    let holds = all_hold (fits p) e in
-    record {
-      hops = leb-true _ _ (holds 0);
-      rows = leb-true _ _ (holds 1);
-      data_slots = leb-true _ _ (holds 2);
-      slot_ms = leb-true _ _ (holds 3);
-      beacon = leb-true _ _ (holds 4);
-    }
+fitting p = leb p.max_hops 255 && leb p.rows 255 && leb p.data_slots 255 && leb p.slot_ms 65535 && leb p.beacon_type 255
 
 -- numbers within rule fit
 fits_in_rule : (p : Plan) → plan_rule p ≡ true → fitting p ≡ true
@@ -148,9 +108,40 @@ fits_in_rule p e =
     )
 
 -- so those of which one does not are out of rule
-pub too_wide : (p : Plan) → fitting p ≡ false → plan_rule p ≡ false
+too_wide : (p : Plan) → fitting p ≡ false → plan_rule p ≡ false
 too_wide p e = go (plan_rule p) refl
   where
     go : (b : Bool) → plan_rule p ≡ b → plan_rule p ≡ false
     go true r = absurd (false≢true (sym e ∙ fits_in_rule p r))
     go false r = r
+
+-- ---- making one
+-- what making a plan of these numbers says
+abbrev asked : Plan → Said
+asked p = plan_of p.network p.manager p.max_hops p.rows p.data_slots p.slot_ms p.beacon_type
+
+within : (p : Plan) → plan_rule p ≡ true → accepted (plan_values p) ≡ asked p
+unfolding plan_of
+within p r = rw r
+
+without : (p : Plan) → plan_rule p ≡ false → refused 14 ≡ asked p
+unfolding plan_of
+without p r = rw r
+
+module _ (p q : Plan) where
+  same : (b : Bool) → Some q ≡ cond b (Some p) None → p ≡ q
+  same true e = cc
+  same false e = cc
+
+  pub made : Some q ≡ cond (fitting p) (Some p) None → plan_rule q ≡ true → accepted (plan_values q) ≡ asked p
+  made e r = rw (same (fitting p) e) (within q r)
+
+  pub out_of_rule : Some q ≡ cond (fitting p) (Some p) None → plan_rule q ≡ false → refused 14 ≡ asked p
+  out_of_rule e r = rw (same (fitting p) e) (without q r)
+
+pub unfit : (p : Plan) → None ≡ cond (fitting p) (Some p) None → refused 14 ≡ asked p
+unfit p e = go (fitting p) refl e
+  where
+    go : (b : Bool) → fitting p ≡ b → None ≡ cond b (Some p) None → refused 14 ≡ asked p
+    go true f h = cc
+    go false f h = without p (too_wide p f)

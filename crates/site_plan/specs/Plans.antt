@@ -1,11 +1,12 @@
 -- The site plan: what is computed from its numbers, where each region of its slots begins, and which numbers are refused.
 -- Assumes nothing.
-use Rattle.std.specs.Prelude.{ℕ, ◌+◌, ◌*◌, ◌/◌, min, max, Bool, not, ◌&&◌, ◌||◌, List, [], ◌∷◌, eqb, leb}
-use Rattle.octets.specs.Answers.{Said, accepted, refused, reason, first, unless}
+use Rattle.std.specs.Prelude.{ℕ, ◌+◌, ◌*◌, ◌/◌, min, max, Bool, not, ◌&&◌, ◌||◌, List, [], ◌∷◌, Result, eqb, leb}
+use Rattle.octets.specs.Answers.{Said, accepted, reason, first, unless}
+use Rattle.octets.specs.Refusals.{told_by}
+use Rattle.octets.specs.declared.refusals.Refusal.{Refusal}
 use Rattle.octets.specs.Lists.{all}
 use Rattle.octets.specs.Addresses.{address, network}
 use Rattle.site_plan.specs.declared.plan.Plan.{Plan}
-use Rattle.site_plan.specs.declared.plan.Made.{Made}
 
 -- ---- how many slots
 -- a third, rounded up
@@ -85,9 +86,8 @@ abbrev pub plan_values : Plan → List ℕ
 plan_values p = p.network ∷ p.manager ∷ p.max_hops ∷ p.rows ∷ p.data_slots ∷ p.slot_ms ∷ p.beacon_type ∷ []
 
 -- the plan, or document 01's number
-abbrev pub told_plan : Made → Said
-told_plan (Made.Plan p) = accepted (plan_values p)
-told_plan (Made.Refused r) = refused r.number
+abbrev pub told_plan : Result Plan Refusal → Said
+told_plan answer = told_by plan_values answer
 
 -- a plan made from seven numbers: any broken rule is 14
 unfoldable pub plan_of : ℕ → ℕ → ℕ → ℕ → ℕ → ℕ → ℕ → Said

@@ -3,6 +3,8 @@
 use Rattle.std.specs.Prelude.{ℕ, ◌+◌, ◌-◌, Bool, ◌&&◌, ◌||◌, cond, List, [], ◌∷◌, eqb, leb, ltb}
 use Rattle.slot_sets.specs.Sets.{Slots, has}
 use Rattle.site_plan.specs.declared.plan.Plan.{Plan}
+use Rattle.site_plan.specs.declared.schedules.SlotKind.{SlotKind}
+use Rattle.site_plan.specs.declared.schedules.SlotKind.TheVariants.{Tx, Rx, BeaconTx, BeaconRx, ControlTx, ControlRx, DiscoveryTx, DiscoveryRx, Sleep}
 use Rattle.site_plan.specs.Plans.{slots, control_slot_at, data_slot_at, discovery_slot_at, sleep_slot_at}
 
 -- ---- the kinds
@@ -32,6 +34,18 @@ discovery_rx = 7
 
 abbrev pub sleep : ℕ
 sleep = 8
+
+-- the number of a kind
+abbrev pub slot_number : SlotKind → ℕ
+slot_number Tx = tx
+slot_number Rx = rx
+slot_number BeaconTx = beacon_tx
+slot_number BeaconRx = beacon_rx
+slot_number ControlTx = control_tx
+slot_number ControlRx = control_rx
+slot_number DiscoveryTx = discovery_tx
+slot_number DiscoveryRx = discovery_rx
+slot_number Sleep = sleep
 
 -- whatever a unit is: in a slot of these kinds it sends, in one of those it listens
 abbrev pub sends : ℕ → Bool

@@ -1,25 +1,7 @@
-// The numbers of the kinds of slots, and the limits and times of document 01's plan, by their names there.
+// The limits and times of document 01's plan, by their names there.
 use crate::plan::Plan;
 
 impl Plan {
-    pub const TX: u8 = 0;
-
-    pub const RX: u8 = 1;
-
-    pub const BEACON_TX: u8 = 2;
-
-    pub const BEACON_RX: u8 = 3;
-
-    pub const CONTROL_TX: u8 = 4;
-
-    pub const CONTROL_RX: u8 = 5;
-
-    pub const DISCOVERY_TX: u8 = 6;
-
-    pub const DISCOVERY_RX: u8 = 7;
-
-    pub const SLEEP: u8 = 8;
-
     pub const MOST_HOPS: u8 = 10;
 
     pub const FEWEST_ROWS: u8 = 2;

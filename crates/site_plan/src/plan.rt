@@ -1,11 +1,12 @@
 // A site's plan: the seven numbers that it is made from, and when they are refused.
-ghost use Rattle.std.specs.Prelude.{◌≡◌, ◌&&◌, leb};
+ghost use Rattle.std.specs.Prelude.{◌≡◌, ◌&&◌, cond, leb, Some, None};
 ghost use Rattle.site_plan.specs.Plans.{plan_rule, plan_of, told_plan};
 
 use octets::addresses::is_address;
-use octets::answers::Refusal;
+use octets::refusals::Refusal;
 
 // `beacon_type` is the kind of beacons that its manager sends, by its type.
+// Kept: it is a number, since a stored plan may hold any, and `plan_rule` refuses those that name no kind.
 #[derive(Clone, Copy)]
 pub struct Plan {
     pub network: u16,
@@ -17,25 +18,31 @@ pub struct Plan {
     pub beacon_type: u8,
 }
 
-// What making a plan answers.
-#[derive(Drop)]
-pub enum Made {
-    Plan(Plan),
-    Refused(Refusal),
-}
-
-// Whether five numbers fit into a plan's fields. Those that do not are out of rule, whatever the others are.
-fn fit(max_hops: u32, rows: u32, data_slots: u32, slot_ms: u32, beacon_type: u32) -> bool
-    ensures { result ≡ (leb max_hops 255 && leb rows 255 && leb data_slots 255 && leb slot_ms 65535 && leb beacon_type 255) }
+// The plan of seven numbers, if each fits into its field.
+fn fitting(
+    network: u16,
+    manager: u16,
+    max_hops: u32,
+    rows: u32,
+    data_slots: u32,
+    slot_ms: u32,
+    beacon_type: u32,
+) -> Option<Plan>
+    ensures { result ≡ cond (leb max_hops 255 && leb rows 255 && leb data_slots 255 && leb slot_ms 65535 && leb beacon_type 255) (Some (record { network = network; manager = manager; max_hops = max_hops; rows = rows; data_slots = data_slots; slot_ms = slot_ms; beacon_type = beacon_type })) None }
 {
-    (max_hops <= 255)
-        & (rows <= 255)
-        & (data_slots <= 255)
-        & (slot_ms <= 65_535)
-        & (beacon_type <= 255)
+    Some(Plan {
+        network,
+        manager,
+        max_hops: u8::try_from(max_hops).ok()?,
+        rows: u8::try_from(rows).ok()?,
+        data_slots: u8::try_from(data_slots).ok()?,
+        slot_ms: u16::try_from(slot_ms).ok()?,
+        beacon_type: u8::try_from(beacon_type).ok()?,
+    })
 }
 
 impl Plan {
+    // Numbers that do not fit are out of rule, whatever the others are.
     pub fn new(
         network: u16,
         manager: u16,
@@ -44,26 +51,25 @@ impl Plan {
         data_slots: u32,
         slot_ms: u32,
         beacon_type: u32,
-    ) -> Made
+    ) -> Result<Plan, Refusal>
         ensures { told_plan result ≡ plan_of network manager max_hops rows data_slots slot_ms beacon_type }
     {
-        let number = Refusal::RULE;
-        if !fit(max_hops, rows, data_slots, slot_ms, beacon_type) {
-            return Made::Refused(Refusal { number });
-        }
-        let plan = Plan {
+        let Some(plan) = fitting(
             network,
             manager,
-            max_hops: max_hops as u8,
-            rows: rows as u8,
-            data_slots: data_slots as u8,
-            slot_ms: slot_ms as u16,
-            beacon_type: beacon_type as u8,
+            max_hops,
+            rows,
+            data_slots,
+            slot_ms,
+            beacon_type,
+        ) else {
+            return Err(Refusal::Rule);
         };
         if plan.within_rule() {
-            return Made::Plan(plan);
+            Ok(plan)
+        } else {
+            Err(Refusal::Rule)
         }
-        Made::Refused(Refusal { number })
     }
 
     // Whether it is a plan that could have been made: a stored one may hold any numbers.

@@ -4,8 +4,10 @@ ghost use Rattle.std.proofs.lemmas.List.Edits.{sets};
 ghost use Rattle.site_plan.specs.PlanBytes.{plan_at, bytes_of_plan, section_at, section_bytes};
 
 use crate::plan::Plan;
-use octets::fixed::{put8, put16};
-use octets::numbers::{number8, number16};
+use octets::stored::Stored;
+
+// How long a plan is that its caller keeps.
+pub const PLAN_SIZE: usize = 10;
 
 // The plan that the section from a place on says, within rule or not, with beacons of the kind that document 01 has.
 pub fn section_plan(s: &[u8], place: u8) -> Plan
@@ -13,12 +15,12 @@ pub fn section_plan(s: &[u8], place: u8) -> Plan
 {
     let at = place as usize;
     Plan {
-        network: number16(s, at),
-        manager: number16(s, at + 2),
-        max_hops: number8(s, at + 4),
-        rows: number8(s, at + 5),
-        data_slots: number8(s, at + 6),
-        slot_ms: number16(s, at + 7),
+        network: u16::read(s, at),
+        manager: u16::read(s, at + 2),
+        max_hops: u8::read(s, at + 4),
+        rows: u8::read(s, at + 5),
+        data_slots: u8::read(s, at + 6),
+        slot_ms: u16::read(s, at + 7),
         beacon_type: Plan::BEACON,
     }
 }
@@ -27,15 +29,9 @@ pub fn section_plan(s: &[u8], place: u8) -> Plan
 pub fn plan_of(s: &[u8], place: u8) -> Plan
     ensures { result ≡ plan_at s.now place }
 {
-    let section = section_plan(s, place);
     Plan {
-        network: section.network,
-        manager: section.manager,
-        max_hops: section.max_hops,
-        rows: section.rows,
-        data_slots: section.data_slots,
-        slot_ms: section.slot_ms,
-        beacon_type: number8(s, place as usize + 9),
+        beacon_type: u8::read(s, place as usize + 9),
+        ..section_plan(s, place)
     }
 }
 
@@ -44,12 +40,12 @@ pub fn put_section(out: &mut [u8], place: u8, plan: Plan)
     ensures { out.new ≡ sets out.old place (section_bytes plan) }
 {
     let at = place as usize;
-    put16(out, at, plan.network);
-    put16(out, at + 2, plan.manager);
-    put8(out, at + 4, plan.max_hops);
-    put8(out, at + 5, plan.rows);
-    put8(out, at + 6, plan.data_slots);
-    put16(out, at + 7, plan.slot_ms);
+    plan.network.store(out, at);
+    plan.manager.store(out, at + 2);
+    plan.max_hops.store(out, at + 4);
+    plan.rows.store(out, at + 5);
+    plan.data_slots.store(out, at + 6);
+    plan.slot_ms.store(out, at + 7);
 }
 
 // The bytes of a plan, from a place on.
@@ -57,5 +53,5 @@ pub fn put_plan(out: &mut [u8], place: u8, plan: Plan)
     ensures { out.new ≡ sets out.old place (bytes_of_plan plan) }
 {
     put_section(out, place, plan);
-    put8(out, place as usize + 9, plan.beacon_type);
+    plan.beacon_type.store(out, place as usize + 9);
 }

@@ -1,25 +1,18 @@
 -- The place of a unit on a sheet: found or not, and where no unit is listed twice the only one.
 -- Assumes nothing.
-use Rattle.octets.proofs.Words.{◌≡◌, refl, sym, ap, ap₂, ◌∙◌, Bool, true, false, not, ◌&&◌, ◌||◌, cond, and-eq-true_iff, List, [], ◌∷◌, ℕ, zero, suc, ◌+◌, ◌-◌, ◌/◌, ◌<◌, ◌≤◌, not-suc-le-zero, le_of_suc-le-suc, arith, eq-eqb, ne_eqb, eqb-true, lt-ltb, ltb-true, ltb-false, not-true, eqb, eqb-suc-suc, ltb, leb-suc-suc, length, get_or, drop, length-drop, drop_of_length-le}
+use Rattle.std.proofs.Common.{Option, Some, None}
+use Rattle.std.specs.Option.{is_some}
+use Rattle.octets.proofs.Words.{subst, le-ltb, ◌≡◌, refl, sym, ap, ap₂, ◌∙◌, Bool, true, false, not, ◌&&◌, ◌||◌, cond, and-eq-true_iff, List, [], ◌∷◌, ℕ, zero, suc, ◌+◌, ◌-◌, ◌/◌, ◌<◌, ◌≤◌, not-suc-le-zero, le_of_suc-le-suc, arith, eq-eqb, ne_eqb, eqb-true, lt-ltb, not-true, eqb, eqb-suc-suc, ltb, leb-suc-suc, length, get_or, drop, length-drop}
 use Rattle.octets.specs.Lists.{some}
-use Rattle.octets.proofs.TestLaws.{neither, by_bool}
+use Rattle.octets.proofs.TestLaws.{neither}
 use Rattle.site_sheet.specs.declared.rows.Row.{Row}
-use Rattle.site_sheet.specs.Seen.{row_at, place_of}
+use Rattle.site_sheet.specs.Seen.{row_at, place_of, Searched}
 use Rattle.site_sheet.specs.SheetBytes.{row_size, proposed_at, sheet_in}
 use Rattle.site_sheet.specs.Sheets.{Proposed, listed, distinct}
 use Rattle.site_sheet.proofs.RowLaws.{one_here, none_left, one_more, rows-length}
 
 -- ---- on a list
 module _ (u : ℕ) where
-  pub place-few : (l : List Proposed) → place_of l u ≤ length l
-  unfolding place_of
-  place-few [] = omega arith
-  place-few (g ∷ l) = go (eqb g.unit u) (place-few l)
-    where
-      go : (b : Bool) → place_of l u ≤ length l → cond b 0 (suc (place_of l u)) ≤ suc (length l)
-      go true h = omega arith
-      go false h = omega (arith, h)
-
   -- a unit is listed where its place is not past the end
   pub listed-place : (l : List Proposed) → listed l u ≡ ltb (place_of l u) (length l)
   unfolding place_of listed some
@@ -70,19 +63,27 @@ module _ (s : List ℕ) (u place all : ℕ) where
       let more : place_of (drop place (sheet_in s)) u ≡ suc (place_of (drop (place + 1) (sheet_in s)) u) = ap (λ (l : List Proposed). place_of l u) (one_here (length s / row_size) (proposed_at s) place h) ∙ rw (ne_eqb (row_at s place).unit u here) in
       omega (arith, e, more)
 
-  pub place-past : length s / row_size ≤ place → place + place_of (drop place (sheet_in s)) u ≡ all → place ≡ all
-  unfolding place_of
-  place-past h e =
-      let count = rows-length s in
-      let none : place_of (drop place (sheet_in s)) u ≡ 0 = ap (λ (l : List Proposed). place_of l u) (drop_of_length-le (sheet_in s) {i = place} (omega (arith, count))) in
-      omega (arith, e, none)
-
--- from a place on, it is at most the end
-pub place-within : (s : List ℕ) (u from : ℕ) → from ≤ length s / row_size → from + place_of (drop from (sheet_in s)) u ≤ length s / row_size
-place-within s u from h =
+-- a search that comes to the end finds nobody
+pub not-there : (s : List ℕ) (u from place : ℕ) → length s / row_size ≤ place → place + place_of (drop place (sheet_in s)) u ≡ from + place_of (drop from (sheet_in s)) u
+    → listed (drop from (sheet_in s)) u ≡ false
+unfolding place_of
+not-there s u from place h e =
     let count = rows-length s in
     let rest = length-drop from (sheet_in s) in
-    omega (arith, place-few u (drop from (sheet_in s)), count, rest, h)
+    listed-place u (drop from (sheet_in s)) ∙ le-ltb (place_of (drop from (sheet_in s)) u) (length (drop from (sheet_in s))) (omega (arith, e, h, count, rest))
+
+-- a unit is found exactly if it is listed from the place on
+pub searched-listed : (s : List ℕ) (from u : ℕ) (r : Option ℕ) → Searched s from u r → is_some r ≡ listed (drop from (sheet_in s)) u
+searched-listed s from u None h = sym h
+searched-listed s from u (Some place) h =
+    let count = rows-length s in
+    let rest = length-drop from (sheet_in s) in
+    let (there, e) = h in
+    sym (listed-place u (drop from (sheet_in s)) ∙ lt-ltb (place_of (drop from (sheet_in s)) u) (length (drop from (sheet_in s))) (omega (arith, there, e, count, rest)))
+
+turned_over : (a b : Bool) → not a ≡ b → a ≡ not b
+turned_over true b e = ap not e
+turned_over false b e = ap not e
 
 -- ---- no unit is listed twice
 module _ (s : List ℕ) (i : ℕ) where
@@ -90,24 +91,11 @@ module _ (s : List ℕ) (i : ℕ) where
   unfolding sheet_in distinct
   distinct_none e = none_left (length s / row_size) (proposed_at s) distinct i e
 
-  -- a unit that is not behind a place is found at the end
-  pub behind : (u : ℕ) → i ≤ length s / row_size → eqb (i + place_of (drop i (sheet_in s)) u) (length s / row_size) ≡ not (listed (drop i (sheet_in s)) u)
-  behind u h =
-      let count = rows-length s in
-      let rest = length-drop i (sheet_in s) in
-      let few = place-few u (drop i (sheet_in s)) in
-      let p = place_of (drop i (sheet_in s)) u in
-      by_bool _ (ltb p (length (drop i (sheet_in s))))
-      (λ q.
-      let there : p < length (drop i (sheet_in s)) = ltb-true p (length (drop i (sheet_in s))) q in
-      ne_eqb (i + p) (length s / row_size) (λ z. omega (arith, there, z, count, rest)) ∙ sym (ap not (listed-place u (drop i (sheet_in s)) ∙ q)))
-      (λ q.
-      let past : length (drop i (sheet_in s)) ≤ p = ltb-false p (length (drop i (sheet_in s))) q in
-      eq-eqb (i + p) (length s / row_size) (omega (arith, past, few, count, rest)) ∙ sym (ap not (listed-place u (drop i (sheet_in s)) ∙ q)))
-
-  pub distinct-turn : (row : Row) (place end : ℕ) (good : Bool) → 0 < i → i ≤ length s / row_size → good ≡ distinct (drop i (sheet_in s)) → row ≡ row_at s (i - 1)
-      → place ≡ i + place_of (drop i (sheet_in s)) row.unit → end ≡ length s / row_size → (eqb place end && good) ≡ distinct (drop (i - 1) (sheet_in s))
+  pub distinct-turn : (row : Row) (r : Option ℕ) (none good : Bool) → 0 < i → i ≤ length s / row_size → good ≡ distinct (drop i (sheet_in s)) → row ≡ row_at s (i - 1)
+      → Searched s (i - 1 + 1) row.unit r → is_some r ≡ not none → (none && good) ≡ distinct (drop (i - 1) (sheet_in s))
   unfolding sheet_in distinct
-  distinct-turn row place end good z h e at ep en =
+  distinct-turn row r none good z h e at ended said =
+      let back : i - 1 + 1 ≡ i = omega arith in
+      let found = searched-listed s i row.unit r (subst (λ (k : ℕ). Searched s k row.unit r) back ended) in
       one_more (length s / row_size) (proposed_at s) distinct i _ z h
-      (ap₂ ◌&&◌ (ap₂ eqb ep en ∙ (behind row.unit h ∙ ap (λ (x : Row). not (listed (drop i (sheet_in s)) x.unit)) at)) e)
+      (ap₂ ◌&&◌ (turned_over none _ (sym said ∙ found) ∙ ap (λ (x : Row). not (listed (drop i (sheet_in s)) x.unit)) at) e)

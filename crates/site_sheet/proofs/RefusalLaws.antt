@@ -1,17 +1,14 @@
--- The loops that look for a reason to refuse a sheet, and the first of the reasons.
+-- The loops that look for a reason to refuse a sheet.
 -- Assumes nothing.
-use Rattle.octets.proofs.Words.{◌≡◌, ap, ap₂, ◌∙◌, Bool, true, not, ◌&&◌, cond, List, ℕ, ◌-◌, ◌/◌, ◌<◌, ◌≤◌, leb, length, take, drop}
+use Rattle.octets.proofs.Words.{◌≡◌, ap, ap₂, ◌∙◌, Bool, true, ◌&&◌, List, ℕ, ◌-◌, ◌/◌, ◌<◌, ◌≤◌, length, drop}
 use Rattle.octets.specs.Addresses.{address}
-use Rattle.octets.specs.Answers.{first}
 use Rattle.octets.specs.Lists.{every}
-use Rattle.site_plan.specs.declared.plan.Plan.{Plan}
-use Rattle.site_plan.specs.Plans.{plan_rule}
 use Rattle.site_sheet.specs.declared.rows.Row.{Row}
 use Rattle.site_sheet.specs.declared.rows.Ends.{Ends}
 use Rattle.site_sheet.specs.Seen.{row_at, ends_at}
 use Rattle.site_sheet.specs.SheetBytes.{row_size, link_size, proposed_at, sheet_in, link_at, links_in}
-use Rattle.site_sheet.specs.Sheets.{unit_addressed, link_addressed, reasons}
-use Rattle.site_sheet.proofs.RowLaws.{rows-length, none_left, one_more}
+use Rattle.site_sheet.specs.Sheets.{unit_addressed, link_addressed}
+use Rattle.site_sheet.proofs.RowLaws.{none_left, one_more}
 
 module _ (s : List ℕ) (i : ℕ) where
   pub units-none : i ≡ length s / row_size → true ≡ every unit_addressed (drop i (sheet_in s))
@@ -36,11 +33,3 @@ module _ (s : List ℕ) (i : ℕ) where
   links_more ends a b good z h e r p q =
       one_more (length s / link_size) (link_at s) (every link_addressed) i _ z h
       (ap₂ ◌&&◌ (ap₂ ◌&&◌ (p ∙ ap (λ (x : Ends). address x.one) r) (q ∙ ap (λ (x : Ends). address x.other) r)) e)
-
--- ---- the reasons that need no search
-pub unfit_as :
-    (p : Plan) (links s : List ℕ) (n a b c d : ℕ) (within l u : Bool) → n ≡ length s / row_size → a ≡ cond (not (leb n p.rows)) 14 0
-    → within ≡ plan_rule p → b ≡ cond (not within) 14 a → l ≡ every link_addressed (links_in links) → c ≡ cond (not l) 4 b
-    → u ≡ every unit_addressed (sheet_in s) → d ≡ cond (not u) 4 c → d ≡ first (take 4 (reasons p (links_in links) (sheet_in s)))
-unfit_as p links s n a b c d within l u en ea ew eb el ec eu ed =
-    ed ∙ rw (eu, ec, el, eb, ew, ea, en, rows-length s)

@@ -1,11 +1,10 @@
 -- Rows and links in bytes, and a loop over a list from its end.
 -- Assumes nothing.
-use Rattle.octets.proofs.Words.{◌≡◌, sym, ap, ap₂, ◌∙◌, List, [], ◌∷◌, ℕ, suc, ◌+◌, ◌-◌, ◌*◌, ◌/◌, ◌%◌, ◌<◌, ◌≤◌, arith, eq-eqb, ne_eqb, eqb-true, eqb-false, eqb, length, get_or, take, drop, drop_of_length-le, drop-cons}
+use Rattle.octets.proofs.Words.{◌≡◌, sym, ap, ap₂, ◌∙◌, List, [], ◌∷◌, ℕ, suc, ◌+◌, ◌-◌, ◌*◌, ◌/◌, ◌<◌, ◌≤◌, arith, length, get_or, take, drop, drop_of_length-le, drop-cons}
 use Rattle.octets.specs.Lists.{tab}
 use Rattle.octets.specs.Numbers.{num}
 use Rattle.octets.proofs.LayoutLaws.{fields-part}
 use Rattle.octets.proofs.ListLaws.{length-tab, get_or-tab}
-use Rattle.octets.proofs.TestLaws.{by_bool}
 use Rattle.site_sheet.specs.declared.rows.Row.{Row}
 use Rattle.site_sheet.specs.declared.rows.Ends.{Ends}
 use Rattle.site_sheet.specs.Seen.{row_at, ends_at}
@@ -18,13 +17,6 @@ rows-length s = sym (length-tab (length s / row_size) (proposed_at s))
 pub links-length : (s : List ℕ) → length s / 4 ≡ length (links_in s)
 unfolding links_in
 links-length s = sym (length-tab (length s / link_size) (link_at s))
-
--- so many rows take all bytes where none is left
-pub whole_as : (count n : ℕ) → count ≡ n / row_size → eqb (row_size * count) n ≡ eqb (n % row_size) 0
-whole_as count n e =
-    by_bool _ (eqb (row_size * count) n)
-    (λ q. q ∙ sym (eq-eqb (n % row_size) 0 (omega (arith, e, eqb-true (row_size * count) n q))))
-    (λ q. q ∙ sym (ne_eqb (n % row_size) 0 (λ z. eqb-false (row_size * count) n q (omega (arith, e, z)))))
 
 -- the numbers in a part are those of the row or the link
 module _ (s : List ℕ) (k part a b : ℕ) where

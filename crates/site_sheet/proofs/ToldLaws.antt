@@ -3,8 +3,9 @@
 use Rattle.octets.proofs.Words.{◌≡◌, refl, List, [], ◌∷◌, ℕ}
 use Rattle.octets.specs.Answers.{accepted, OneToOne}
 use Rattle.octets.proofs.AnswerLaws.{one_by_return}
-use Rattle.site_sheet.specs.declared.checking.Checked.{Checked}
-use Rattle.site_sheet.specs.Verdicts.{Verdict, fine, unit, pair, verdict_values, told_checked}
+use Rattle.octets.proofs.RefusalLaws.{told_one}
+use Rattle.site_sheet.specs.declared.checking.Verdict.{Verdict as Given}
+use Rattle.site_sheet.specs.Verdicts.{Verdict, fine, unit, pair, verdict_values, given}
 use Rattle.site_sheet.specs.Laws.{CheckedOneToOne}
 
 -- the verdict that has these values
@@ -23,19 +24,18 @@ verdict_back (pair u v) = refl
 pub verdict-one : OneToOne (λ v. accepted (verdict_values v))
 verdict-one = one_by_return _ verdict-from verdict_back
 
--- the answer that says this
-checked_from : ℕ → List ℕ → Checked
-checked_from number [] = Checked.Refused (record { number = number })
-checked_from number (n ∷ []) = Checked.Fine
-checked_from number (n ∷ u ∷ []) = Checked.Unit u
-checked_from number (n ∷ u ∷ v ∷ vs) = Checked.Pair (record { lower = u; higher = v })
+-- the answer's verdict that has these values
+given-from : List ℕ → Given
+given-from [] = Given.Fine
+given-from (n ∷ []) = Given.Fine
+given-from (n ∷ u ∷ []) = Given.Unit u
+given-from (n ∷ u ∷ v ∷ vs) = Given.Pair (record { lower = u; higher = v })
 
-checked_back : (c : Checked) → checked_from (told_checked c).refusal (told_checked c).values ≡ c
-unfolding checked_from
-checked_back Checked.Fine = refl
-checked_back (Checked.Unit u) = refl
-checked_back (Checked.Pair n) = refl
-checked_back (Checked.Refused r) = refl
+given_back : (g : Given) → given-from (verdict_values (given g)) ≡ g
+unfolding given-from
+given_back Given.Fine = refl
+given_back (Given.Unit u) = refl
+given_back (Given.Pair n) = refl
 
 pub checked_one_to_one : CheckedOneToOne
-checked_one_to_one = one_by_return told_checked checked_from checked_back
+checked_one_to_one = told_one (λ g. verdict_values (given g)) given-from given_back

@@ -1,10 +1,12 @@
 -- The verdict on a sheet: who offends, which of them is the first, and what the check of a sheet says.
 -- Assumes nothing.
-use Rattle.std.specs.Prelude.{ℕ, Bool, not, ◌&&◌, ◌||◌, cond, List, [], ◌∷◌, ◌++◌, eqb, leb, ltb}
-use Rattle.octets.specs.Answers.{Said, accepted, refused, first, unless}
+use Rattle.std.specs.Prelude.{ℕ, Bool, not, ◌&&◌, ◌||◌, cond, List, [], ◌∷◌, ◌++◌, Result, eqb, leb, ltb}
+use Rattle.octets.specs.Answers.{Said, accepted, first, unless}
+use Rattle.octets.specs.Refusals.{told_by}
+use Rattle.octets.specs.declared.refusals.Refusal.{Refusal}
 use Rattle.slot_sets.specs.Sets.{count, is_empty, minus, disjoint, firsts}
 use Rattle.site_plan.specs.declared.plan.Plan.{Plan}
-use Rattle.site_sheet.specs.declared.checking.Checked.{Checked}
+use Rattle.site_sheet.specs.declared.checking.Verdict.{Verdict as Given}
 use Rattle.site_sheet.specs.Sheets.{Proposed, Link, near, reasons}
 
 -- ---- who offends
@@ -97,9 +99,12 @@ verdict_values (pair u v) = 2 ∷ u ∷ v ∷ []
 unfoldable pub check_sheet : Plan → List Link → List Proposed → Said
 check_sheet p links sheet = unless (first (reasons p links sheet)) (accepted (verdict_values (verdict p.data_slots links sheet)))
 
+-- the verdict that an answer gives
+abbrev pub given : Given → Verdict
+given Given.Fine = fine
+given (Given.Unit u) = unit u
+given (Given.Pair n) = pair n.lower n.higher
+
 -- what each case of an answer says
-abbrev pub told_checked : Checked → Said
-told_checked Checked.Fine = accepted (verdict_values fine)
-told_checked (Checked.Unit u) = accepted (verdict_values (unit u))
-told_checked (Checked.Pair n) = accepted (verdict_values (pair n.lower n.higher))
-told_checked (Checked.Refused r) = refused r.number
+abbrev pub told_checked : Result Given Refusal → Said
+told_checked answer = told_by (λ v. verdict_values (given v)) answer

@@ -6,3 +6,4 @@ mod judging;
 mod neighbours;
 mod refusing;
 pub mod rows;
+mod sheet;

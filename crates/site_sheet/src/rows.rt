@@ -1,9 +1,9 @@
-// A sheet and its links in the caller's bytes, row by row. A part of known length spares a test of the buffer's end before each field.
-ghost use Rattle.std.specs.Prelude.{◌≡◌, ◌+◌, ◌/◌, ◌%◌, ◌<◌, ◌≤◌, eqb, length, drop};
-ghost use Rattle.site_sheet.specs.Seen.{row_at, ends_at, place_of};
-ghost use Rattle.site_sheet.specs.SheetBytes.{row_size, link_size, sheet_in};
+// The rows of a sheet and its links in the caller's bytes. A part of known length spares a test of the buffer's end before each field.
+ghost use Rattle.std.specs.Prelude.{◌≡◌, ◌/◌, ◌%◌, ◌<◌, eqb, length};
+ghost use Rattle.site_sheet.specs.Seen.{row_at, ends_at};
+ghost use Rattle.site_sheet.specs.SheetBytes.{row_size, link_size};
 
-use octets::numbers::{number16, number64};
+use octets::stored::Stored;
 
 const ROW_SIZE: usize = 10;
 
@@ -17,13 +17,14 @@ pub(crate) struct Row {
 }
 
 // The two units of a link.
-#[derive(Drop)]
+#[derive(Clone, Copy)]
 pub(crate) struct Ends {
     pub one: u16,
     pub other: u16,
 }
 
-// How many whole rows there are. They are counted, since the chip that this is for has no divider.
+// How many whole rows there are.
+// Kept: they are counted by hand, since the chip that this is for has no divider.
 pub(crate) fn row_count(sheet: &[u8]) -> usize
     ensures { result ≡ length sheet.now / row_size }
 {
@@ -51,8 +52,8 @@ pub(crate) fn row_at(sheet: &[u8], place: usize) -> Row
     let end = start + ROW_SIZE;
     let row = &sheet[start..end];
     Row {
-        unit: number16(row, 0),
-        slots: number64(row, 2),
+        unit: u16::read(row, 0),
+        slots: u64::read(row, 2),
     }
 }
 
@@ -68,6 +69,7 @@ pub fn whole_links(links: &[u8]) -> bool
     links.len() % LINK_SIZE == 0
 }
 
+// Kept: beside `row_at`, since a row and a link have fields of their own; one reader of parts of any size would need a proof of products.
 pub(crate) fn link_at(links: &[u8], place: usize) -> Ends
     requires { place < length links.now / link_size }
     ensures { result ≡ ends_at links.now place }
@@ -76,22 +78,7 @@ pub(crate) fn link_at(links: &[u8], place: usize) -> Ends
     let end = start + LINK_SIZE;
     let link = &links[start..end];
     Ends {
-        one: number16(link, 0),
-        other: number16(link, 2),
+        one: u16::read(link, 0),
+        other: u16::read(link, 2),
     }
-}
-
-// The first place of a unit from a place on, or the number of rows.
-pub(crate) fn place_from(sheet: &[u8], count: usize, from: usize, unit: u16) -> usize
-    requires { (count ≡ length sheet.now / row_size) × (from ≤ count) }
-    ensures { result ≡ from + place_of (drop from (sheet_in sheet.now)) unit }
-{
-    let mut place = from;
-    while place < count {
-        if row_at(sheet, place).unit == unit {
-            return place;
-        }
-        place += 1;
-    }
-    place
 }

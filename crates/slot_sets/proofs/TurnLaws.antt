@@ -1,47 +1,33 @@
--- The turns that drop a mask's lowest slots one by one: what is left after some, after one more, and at the end.
+-- The turns that drop a mask's lowest slots one by one: what is left after one more, and what was dropped where none is left.
 -- Assumes nothing.
 use mathlib.Core.Path.{◌≡◌, refl, sym, ap, ◌∙◌}
-use mathlib.Core.Bool.{Bool, true, false, not, ◌&&◌, and-eq-true_iff}
-use Prim.Native.Nat.{ℕ, ◌+◌, ◌-◌, ◌<◌, ◌≤◌}
+use mathlib.Core.Bool.{true, false}
+use Prim.Native.Nat.{ℕ, ◌+◌, ◌-◌, ◌<◌}
 use native.Mathlib.Numerals.{add-one}
 use native.Mathlib.Omega.{arith}
-use borrow.Author.Tests.{ltb-true, ltb-false, eqb-true, eqb-false, not-true}
 use lib.Bits.{bit_and}
-use lib.Dec.{eqb, ltb}
-use Rattle.slot_sets.specs.Sets.{is_empty, slots_of}
-use Rattle.slot_sets.proofs.SetLaws.{empty_is-nothing}
-use Rattle.slot_sets.proofs.DropLaws.{without_lowest, one_more, none_left}
+use Rattle.slot_sets.specs.Sets.{Slots, [], ◌∷◌, is_empty, fill, slotwise, no_slots, minus, lowest, slots_of}
+use Rattle.slot_sets.proofs.SetLaws.{cons, empty_is-nothing}
+use Rattle.slot_sets.proofs.DropLaws.{without_lowest, one_more, none_left, minus-left}
 use Rattle.slot_sets.proofs.MaskLaws.{mask-nothing, mask-drop}
 
--- what is left of m after so many turns of at most k
-pub record Left (m k left dropped : ℕ) : Type 0 where
-  pub few : dropped ≤ k
-  pub rest : slots_of left ≡ without_lowest dropped (slots_of m)
+pub turned : (m left dropped : ℕ) → slots_of left ≡ without_lowest dropped (slots_of m) → (left ≡ 0 → ⊥)
+    → slots_of (bit_and left (left - 1)) ≡ without_lowest (dropped + 1) (slots_of m)
+turned m left dropped rest some =
+    mask-drop left (omega (arith, some)) ∙ ap (without_lowest 1) rest ∙ rw add-one (one_more dropped (slots_of m))
 
--- there is one more turn as long as slots are there, and wanted
-abbrev pub goes_on : ℕ → ℕ → ℕ → Bool
-goes_on k left dropped = not (eqb left 0) && ltb dropped k
+minus-nothing : {n : ℕ} (s : Slots n) → minus s no_slots ≡ s
+unfolding minus slotwise no_slots fill
+minus-nothing [] = refl
+minus-nothing (true ∷ s) = cons refl (minus-nothing s)
+minus-nothing (false ∷ s) = cons refl (minus-nothing s)
 
-pub there : (left : ℕ) (b : Bool) → (not (eqb left 0) && b) ≡ true → 0 < left
-there left b e = omega (arith, eqb-false left 0 (not-true (eqb left 0) ((and-eq-true_iff (not (eqb left 0)) b).0 e).0))
-
-pub wanted : (k left dropped : ℕ) → goes_on k left dropped ≡ true → dropped < k
-wanted k left dropped e = ltb-true dropped k ((and-eq-true_iff (not (eqb left 0)) (ltb dropped k)).0 e).1
-
-pub turned : {m k left dropped : ℕ} → Left m k left dropped → goes_on k left dropped ≡ true → Left m k (bit_and left (left - 1)) (dropped + 1)
-turned {m} {k} {left} {dropped} l e = record {
-  few = omega (arith, wanted k left dropped e);
-  rest = mask-drop left (there left (ltb dropped k) e) ∙ ap (without_lowest 1) l.rest ∙ rw add-one (one_more dropped (slots_of m));
-}
-
--- at the end either all have gone, or as many as were wanted
-pub ended : {m k left dropped : ℕ} → Left m k left dropped → goes_on k left dropped ≡ false → slots_of left ≡ without_lowest k (slots_of m)
-ended {m} {k} {left} {dropped} l e = go (eqb left 0) refl e
-  where
-    go : (b : Bool) → eqb left 0 ≡ b → (not b && ltb dropped k) ≡ false → slots_of left ≡ without_lowest k (slots_of m)
-    go true q t =
-        let empty : is_empty (slots_of left) ≡ true = (empty_is-nothing 64 (slots_of left)).1 (ap slots_of (eqb-true left 0 q) ∙ mask-nothing) in
-        l.rest ∙ none_left dropped k (slots_of m) l.few (ap is_empty (sym l.rest) ∙ empty)
-    go false q t =
-        let all : dropped ≡ k = omega (arith, ltb-false dropped k t, l.few) in
-        l.rest ∙ ap (λ (n : ℕ). without_lowest n (slots_of m)) all
+-- where none is left before k turns are made, all slots are the k lowest
+pub all_dropped : (m k left dropped : ℕ) → slots_of left ≡ without_lowest dropped (slots_of m) → left ≡ 0 → dropped < k
+    → slots_of m ≡ lowest k (slots_of m)
+all_dropped m k left dropped rest none l =
+    let set = slots_of m in
+    let gone : without_lowest dropped set ≡ no_slots = sym rest ∙ ap slots_of none ∙ mask-nothing in
+    let empty : is_empty (without_lowest dropped set) ≡ true = (empty_is-nothing 64 (without_lowest dropped set)).1 gone in
+    let later : no_slots ≡ without_lowest k set = sym gone ∙ none_left dropped k set (omega arith) empty in
+    sym (minus-nothing set) ∙ ap (minus set) later ∙ minus-left k set

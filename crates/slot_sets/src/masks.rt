@@ -72,15 +72,16 @@ pub fn below(d: u32) -> u64
 }
 
 // The k lowest slots, or all where there are fewer. A mask and one less differ from its lowest slot down, so a turn drops that slot; what
-// has been dropped at the end is the answer.
+// has been dropped at the end is the answer. Where none is left, no further turn is made.
 pub fn lowest(m: u64, k: u32) -> u64
     ensures { slots_of result ≡ lowest k (slots_of m) }
 {
     let mut left = m;
-    let mut dropped: u32 = 0;
-    while (left != 0) & (dropped < k) {
+    for _ in 0..k {
+        if left == 0 {
+            return m;
+        }
         left = left & (left - 1);
-        dropped += 1;
     }
     without(m, left)
 }

@@ -8,6 +8,8 @@ use std::io;
 use std::io::{Read, Write};
 
 // Reads until the buffer is full or the input ends, and says how many bytes that were.
+// Kept: a read gives any number of bytes, so no range counts them. The library's `read_to_end` may fail for want of memory, and this program fails on
+// nothing but its input and its output.
 fn read_full<R: Read>(input: &mut R, out: &mut [u8]) -> io::Result<usize>
     ensures { IfOk result (λ n. n ≤ length out.new) }
 {

@@ -1,3 +1,2 @@
 pub mod BestLaws
-pub mod ChoiceLaws
 pub mod OrderLaws

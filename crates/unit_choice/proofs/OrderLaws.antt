@@ -2,7 +2,7 @@
 -- Assumes nothing.
 use Rattle.octets.proofs.Words.{◌≡◌, refl, sym, ap, ◌∙◌, Bool, true, false, not, ◌&&◌, ◌||◌, and-eq-true_iff, false≢true, ℕ, ◌<◌, arith, eq-eqb, eqb-true, eqb-false, ltb-true, ltb-false, lt-ltb, eqb, ltb}
 use Rattle.octets.proofs.TestLaws.{or_elim, or_left, or_right, by_bool}
-use Rattle.unit_choice.specs.declared.choosing.Rank.{Rank}
+use Rattle.unit_choice.specs.Outcomes.{Rank}
 use Rattle.unit_choice.specs.Choices.{ours, ranks_above}
 use Rattle.unit_choice.specs.Laws.{NeverAboveItself, AboveGoesOn, EqualGoesOn}
 

@@ -5,8 +5,8 @@ use Rattle.std.specs.Prelude.{ℕ, Bool, not, ◌&&◌, ◌||◌, cond, List, []
 use Rattle.octets.specs.Answers.{Reason, reason, first}
 use Rattle.octets.specs.Parts.{Lent, part_of}
 use Rattle.frame_beacons.specs.EitherBeacons.{either_in, refusal_for}
-use Rattle.unit_choice.specs.declared.choosing.Rank.{Rank}
-use Rattle.unit_choice.specs.declared.choosing.Chosen.{Chosen}
+use Rattle.unit_choice.specs.Outcomes.{Rank}
+use Rattle.unit_choice.specs.Outcomes.{Chosen}
 
 -- a frame that was heard, and how well
 pub record Heard : Type 0 where

@@ -3,7 +3,7 @@
 use Rattle.std.specs.Prelude.{◌≡◌, ℕ, ◌≤◌, true, false, ◌||◌, cond, eqb}
 use Rattle.octets.specs.Parts.{Lent}
 use Rattle.frame_beacons.specs.EitherBeacons.{either_refusal, either_in, refusal_for}
-use Rattle.unit_choice.specs.declared.choosing.Rank.{Rank}
+use Rattle.unit_choice.specs.Outcomes.{Rank}
 use Rattle.unit_choice.specs.Choices.{Heard, heard, rank_of, ours, ranks_above, chosen_of, handed_back}
 
 -- ---- the order

@@ -1,67 +1,73 @@
-// The choice between two frames that were heard in one slot: as a number, and as the chosen one of the two slices.
-ghost use Rattle.std.specs.Prelude.{◌≡◌};
+// The choice between two frames that were heard in one slot: which of the two, and as that one of the two slices.
+ghost use Rattle.std.specs.Prelude.{◌≡◌, IfOk};
 ghost use Rattle.octets.specs.Parts.{lent};
+ghost use Rattle.octets.specs.Refusals.{status_of};
 ghost use Rattle.unit_choice.specs.Choices.{heard, rank_of, ranks_above, chosen_of, handed_back};
+ghost use Rattle.unit_choice.specs.Outcomes.{ranked, chosen_by};
 
 use frame_beacons::either::{EitherBeacon, hop_in};
-use octets::answers::refuse_if;
-use octets::choices::either;
-use octets::parts::part;
+use octets::refusals::Refusal;
 
-// What of a frame counts in the choice: the number that refuses it as a beacon for this unit, its hop, and how well it was heard.
-#[derive(Drop)]
-pub struct Rank {
-    pub refused: u8,
-    pub hop: u8,
-    pub quality: u8,
+#[derive(Clone, Copy, Debug, PartialEq, Eq)]
+pub enum Which {
+    First = 0,
+    Second = 1,
 }
 
-// Which of the two is to be followed, 0 or 1; 0 where `refused` is not 0.
-#[derive(Drop)]
-pub struct Chosen {
-    pub refused: u8,
-    pub which: u8,
+// What of a beacon for this unit counts in the choice: its hop, and how well it was heard.
+#[derive(Clone, Copy)]
+struct Standing {
+    hop: u8,
+    quality: u8,
 }
 
-fn rank_of(network: u16, frame: &[u8], quality: u8) -> Rank
-    ensures { result ≡ rank_of network (heard frame.now quality) }
-{
-    Rank {
-        refused: EitherBeacon::refusal_for(network, frame),
-        hop: hop_in(frame),
-        quality,
+impl Standing {
+    #[tactic(auto, unfolding(crate::specs::Choices::rank_of))]
+    fn of(network: u16, frame: &[u8], quality: u8) -> Result<Standing, Refusal>
+        ensures refused { status_of result ≡ (rank_of network (heard frame.now quality)).refused }
+        ensures ranked { IfOk result (λ s. ranked s ≡ rank_of network (heard frame.now quality)) }
+    {
+        EitherBeacon::refusal_for(network, frame)?;
+        Ok(Standing {
+            hop: hop_in(frame),
+            quality,
+        })
+    }
+
+    // Whether it is to be followed rather than the other.
+    // Kept: no derived order, since the lower hop but the higher quality goes first.
+    fn ranks_above(self, other: Standing) -> bool
+        ensures { result ≡ ranks_above (ranked self) (ranked other) }
+    {
+        let nearer = self.hop < other.hop;
+        let clearer = (self.hop == other.hop) & (other.quality < self.quality);
+        nearer | clearer
     }
 }
 
-// Whether the first is to be followed rather than the second.
-fn ranks_above(one: Rank, other: Rank) -> bool
-    ensures { result ≡ ranks_above one other }
-{
-    let nearer = one.hop < other.hop;
-    let clearer = (one.hop == other.hop) & (other.quality < one.quality);
-    (one.refused == 0) & (!(other.refused == 0) | nearer | clearer)
-}
-
-// The number of the frame to follow.
+// The frame to follow; where neither will do, the first's own refusal.
+#[tactic(auto, unfolding(crate::specs::Choices::chosen_of))]
 pub fn choose(
     network: u16,
     first: &[u8],
     first_quality: u8,
     second: &[u8],
     second_quality: u8,
-) -> Chosen
-    ensures { result ≡ chosen_of network (heard first.now first_quality) (heard second.now second_quality) }
+) -> Result<Which, Refusal>
+    ensures { chosen_by result ≡ chosen_of network (heard first.now first_quality) (heard second.now second_quality) }
 {
-    let one = rank_of(network, first, first_quality);
-    let other = rank_of(network, second, second_quality);
-    let one_will_do = (one.refused == 0) | (other.refused == 0);
-    Chosen {
-        refused: refuse_if(!one_will_do, one.refused, 0),
-        which: either(ranks_above(other, one), 1, 0),
+    let one = Standing::of(network, first, first_quality);
+    let other = Standing::of(network, second, second_quality);
+    match (one, other) {
+        (Ok(one), Ok(other)) if other.ranks_above(one) => Ok(Which::Second),
+        (Ok(_), _) => Ok(Which::First),
+        (Err(_), Ok(_)) => Ok(Which::Second),
+        (Err(refusal), Err(_)) => Err(refusal),
     }
 }
 
 // The frame to follow, as the one of the two slices that it is; nothing of the first where neither will do.
+#[tactic(auto, unfolding(crate::specs::Choices::handed_back))]
 pub fn follow<'a>(
     network: u16,
     first: &'a [u8],
@@ -71,12 +77,9 @@ pub fn follow<'a>(
 ) -> &'a [u8]
     ensures { lent result ≡ handed_back network (lent first.entry) first_quality (lent second.entry) second_quality }
 {
-    let chosen = choose(network, first, first_quality, second, second_quality);
-    if chosen.refused != 0 {
-        return part(first, 0, 0);
+    match choose(network, first, first_quality, second, second_quality) {
+        Ok(Which::First) => first,
+        Ok(Which::Second) => second,
+        Err(_) => &first[..0],
     }
-    if chosen.which == 1 {
-        return second;
-    }
-    first
 }

@@ -1,7 +1,9 @@
 -- Whole numbers modulo 2^32, and numbers of 32 bits read with their sign: a sum goes through, and either is the other's way back.
 -- Assumes nothing.
-use Rattle.octets.proofs.Words.{◌≡◌, refl, sym, ap, subst, ◌∙◌, Bool, true, false, cond, ℕ, zero, suc, ◌+◌, ◌-◌, ◌/◌, ◌%◌, ◌^◌, ◌≤◌, ◌<◌, arith, ltb-true, ltb-false, lt-ltb, le-ltb, ltb}
-use Rattle.std.proofs.Common.{ℤ, pos, negsuc, ◌+ℤ◌, ◌-ℤ◌, neg_ℤ, nat_abs}
+use Rattle.octets.proofs.Words.{◌≡◌, refl, sym, ap, subst, ◌∙◌, Bool, true, false, cond, ℕ, zero, suc, ◌+◌, ◌-◌, ◌%◌, ◌^◌, ◌≤◌, ◌<◌, arith, ltb-true, ltb-false, lt-ltb, le-ltb, ltb}
+use Rattle.std.proofs.Common.{ℤ, pos, negsuc, ◌+ℤ◌, ◌-ℤ◌, neg_ℤ, nat_abs, int_div, w32, rules}
+use Rattle.std.specs.Int.{cast_signed, cast_unsigned}
+use Rattle.std.proofs.lemmas.Int.{of_z-to_z, quot_fits}
 use lib.IntN.{sub_ℕ, -ℤ-+ℤ_cancel}
 use lib.Signed.{mag}
 use Rattle.moments.specs.Moments.{age_at}
@@ -104,17 +106,29 @@ wrapped-signed n h =
 pub signed-mag : (n : ℕ) → n < 2 ^ 32 → mag (signed n) < 2 ^ 31
 signed-mag n h = of-signed (λ z. mag z < 2 ^ 31) n h (λ l. l) (λ l. omega arith)
 
--- ---- a size with a sign: the size of a number, and half of it rounded toward zero
-abbrev signed_by : ℕ → ℕ → ℕ
-signed_by n size = cond (ltb n (2 ^ 31)) size ((2 ^ 32 - size) % 2 ^ 32)
+-- ---- numbers of 32 bits as the code casts them
+cast-signed : (n : ℕ) → n < 2 ^ 32 → cast_signed w32 n ≡ signed n
+unfolding signed
+cast-signed n h = rw (lt-ltb n (2 ^ 32) h)
 
-pub sized : (n : ℕ) → n < 2 ^ 32 → signed_by n n ≡ nat_abs (signed n)
-sized n h =
-    of-signed (λ z. signed_by n n ≡ nat_abs z) n h (λ l. rw (lt-ltb n (2 ^ 31) l))
-    (λ l. rw (le-ltb n (2 ^ 31) l) (omega arith))
+cast-wrapped : (z : ℤ) → mag z < 2 ^ 31 → cast_unsigned w32 z ≡ wrapped z
+unfolding wrapped
+cast-wrapped (pos n) h = omega arith
+cast-wrapped (negsuc n) h = omega arith
 
-pub half-signed : (n : ℕ) → n < 2 ^ 32 → signed_by n (nat_abs (signed n) / 2) ≡ wrapped (halved (signed n))
-unfolding halved
-half-signed n h =
-    of-signed (λ z. signed_by n (nat_abs z / 2) ≡ wrapped (halved z)) n h (λ l. rw (lt-ltb n (2 ^ 31) l) (omega (arith, above (n / 2))))
-    (λ l. rw (le-ltb n (2 ^ 31) l) (sym (minus (suc (2 ^ 32 - suc n) / 2) (omega arith))))
+module _ (bits : ℕ) (drift : ℤ) (h : bits < 2 ^ 32) (e : drift ≡ cast_signed w32 bits) where
+  as_cast : cast_signed w32 (cast_unsigned w32 drift) ≡ signed bits
+  as_cast = ap (λ z. cast_signed w32 (cast_unsigned w32 z)) e ∙ ap (cast_signed w32) (of_z-to_z w32 bits h) ∙ cast-signed bits h
+
+  pub sized : nat_abs (cast_signed w32 (cast_unsigned w32 drift)) ≡ nat_abs (signed bits)
+  sized = ap nat_abs as_cast
+
+  -- half of it, rounded toward zero
+  pub half-cast : cast_unsigned w32 (cast_signed w32 (cast_unsigned w32 (int_div (cast_signed w32 (cast_unsigned w32 drift)) (pos 2)))) ≡ wrapped (halved (signed bits))
+  unfolding halved
+  half-cast =
+      let half = int_div (signed bits) (pos 2) in
+      let fits : mag half < 2 ^ 31 = (quot_fits w32 (signed bits) (pos 2) (record { sfits = signed-mag bits h }) (search rules)).sfits in
+      let same : cast_unsigned w32 half ≡ wrapped half = cast-wrapped half fits in
+      ap (λ z. cast_unsigned w32 (cast_signed w32 (cast_unsigned w32 (int_div z (pos 2))))) as_cast
+      ∙ of_z-to_z w32 (cast_unsigned w32 half) (omega (arith, wrapped_bound half)) ∙ same

@@ -1,12 +1,9 @@
 -- A step from its parts, as the code finds them one by one.
 -- Assumes nothing.
-use Rattle.octets.proofs.Words.{◌≡◌, ap, ◌∙◌, List, ℕ, ◌+◌, ◌%◌, ◌^◌, ◌<◌, arith}
+use Rattle.octets.proofs.Words.{◌≡◌, ap, ◌∙◌, ℕ, ◌+◌, ◌%◌, ◌^◌, ◌<◌, arith}
 use Rattle.std.proofs.Common.{pos}
-use Rattle.frame_beacons.specs.declared.either.EitherBeacon.{EitherBeacon}
-use Rattle.frame_beacons.specs.EitherBeacons.{either_in, refusal_for}
 use Rattle.moments.specs.Moments.{age_at}
-use Rattle.unit_clock.specs.declared.steps.Stepped.{Stepped}
-use Rattle.unit_clock.specs.Clock.{signed, wrapped, drift, correction, corrected, stepped, beacon_step_of}
+use Rattle.unit_clock.specs.Clock.{signed, wrapped, drift, correction, corrected}
 use Rattle.unit_clock.proofs.SignLaws.{above, is_less, same-age}
 
 -- the two times, the drift's 32 bits, how much of it is taken, and what is left of the offset
@@ -19,13 +16,3 @@ less_correction local offset original delay here sent bits part next o n h s b p
     let drifts : bits ≡ age_at (local + offset) (original + delay) = b ∙ same-age _ _ _ _ (omega arith) (omega arith) in
     let taken : part ≡ wrapped (correction (drift local offset original delay)) = p ∙ ap (λ (d : ℕ). wrapped (correction (signed d))) drifts in
     is_less (pos offset) (correction (drift local offset original delay)) next n (omega (arith, taken, above offset))
-
--- what refuses the step, what the frame says, and the next offset
-pub by-beacon : (b : EitherBeacon) (offset local network : ℕ) (s : List ℕ) (number next : ℕ) (r : Stepped)
-    → b ≡ either_in s → number ≡ refusal_for network s → next ≡ corrected local offset b.original_time b.delay → r ≡ stepped number offset next
-    → r ≡ beacon_step_of offset local network s
-unfolding beacon_step_of
-by-beacon b offset local network s number next r v n x q =
-    let by : EitherBeacon → Stepped = λ heard. stepped (refusal_for network s) offset (corrected local offset heard.original_time heard.delay) in
-    let parts : r ≡ by b = rw (q, n, x) in
-    parts ∙ ap by v

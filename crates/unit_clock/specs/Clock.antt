@@ -5,7 +5,7 @@ use Rattle.std.specs.Prelude.{ℕ, suc, ◌+◌, ◌-◌, ◌%◌, ◌^◌, cond
 use Rattle.octets.specs.Calls.{after}
 use Rattle.moments.specs.Moments.{age_at}
 use Rattle.frame_beacons.specs.EitherBeacons.{either_in, refusal_for}
-use Rattle.unit_clock.specs.declared.steps.Stepped.{Stepped}
+use Rattle.unit_clock.specs.Outcomes.{Stepped}
 
 -- ---- 32 bits, with a sign and without
 -- a number of 32 bits read with its sign: from 2^31 on it is 2^32 less

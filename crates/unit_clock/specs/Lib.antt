@@ -1,2 +1,3 @@
 pub mod Clock
 pub mod Laws
+pub mod Outcomes

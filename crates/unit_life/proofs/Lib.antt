@@ -1,3 +1,4 @@
+pub mod FrontLaws
 pub mod HistoryLaws
 pub mod LifeLaws
 pub mod SilenceLaws

@@ -1,8 +1,8 @@
 -- Where the table leads: to a state or nowhere, and on a tick always to a state.
 -- Assumes nothing.
-use Rattle.octets.proofs.Words.{◌≡◌, refl, sym, subst, Bool, true, false, cond, ◌&&◌, ◌||◌, and-eq-true_iff, List, [], ◌∷◌, ℕ, ◌*◌, ◌≤◌, arith, eqb-true, eqb-false, le-leb, leb-true, leb-false, ltb-false, eqb, leb, ltb}
+use Rattle.octets.proofs.Words.{◌≡◌, refl, sym, subst, Bool, true, false, cond, ◌&&◌, ◌||◌, and-eq-true_iff, List, [], ◌∷◌, ℕ, ◌*◌, ◌<◌, ◌≤◌, arith, eqb-true, eqb-false, le-leb, leb-true, leb-false, ltb-false, eqb, leb, ltb}
 use Rattle.octets.proofs.TestLaws.{or_elim, of-cond, of_choice}
-use Rattle.unit_life.specs.States.{Line, Limit, Discovery, Joining, Normal, Manager, Recovery, Stopped, Nowhere, beacon, elected, events, along, kind_after, limits, run_out, tick_to}
+use Rattle.unit_life.specs.States.{Line, Limit, Discovery, Joining, Normal, Manager, Recovery, Stopped, Nowhere, beacon, elected, recovered, events, along, kind_after, limits, run_out, tick_to}
 use Rattle.unit_life.specs.Calls.{runs_from_entry}
 
 -- every line leads to a state, or nowhere
@@ -20,6 +20,25 @@ pub leads-known : (state event : ℕ) → eqb (kind_after state event) Nowhere �
 unfolding kind_after
 leads-known state event e =
     le-leb (along events state event) Stopped (omega (arith, along-known events state event refl, eqb-false (along events state event) Nowhere e))
+
+-- no line is of a number that is no event: it leads nowhere
+abbrev events_known : List Line → Bool
+events_known [] = true
+events_known (l ∷ ls) = leb l.event recovered && events_known ls
+
+along-unlisted : (ls : List Line) (state event : ℕ) → events_known ls ≡ true → recovered < event → along ls state event ≡ Nowhere
+along-unlisted [] state event k h = refl
+along-unlisted (l ∷ ls) state event k h =
+    let (here, later) = (and-eq-true_iff (leb l.event recovered) (events_known ls)).0 k in
+    of-cond (λ n. n ≡ Nowhere) (eqb state l.from && eqb event l.event) l.to (along ls state event)
+    (λ e.
+    let same : event ≡ l.event = eqb-true event l.event ((and-eq-true_iff (eqb state l.from) (eqb event l.event)).0 e).1 in
+    absurd (omega (arith, leb-true l.event recovered here)))
+    (λ e. along-unlisted ls state event later h)
+
+pub unlisted : (state event : ℕ) → recovered < event → kind_after state event ≡ Nowhere
+unfolding kind_after
+unlisted state event h = along-unlisted events state event refl h
 
 -- every time runs out into a state
 abbrev limits-known : List Limit → Bool

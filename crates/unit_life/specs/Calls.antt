@@ -5,7 +5,7 @@ use Rattle.octets.specs.Answers.{Reason, reason, first}
 use Rattle.octets.specs.Calls.{after}
 use Rattle.moments.specs.Moments.{age_at, in_order}
 use Rattle.unit_life.specs.declared.state.State.{State}
-use Rattle.unit_life.specs.declared.state.Lived.{Lived}
+use Rattle.unit_life.specs.Outcomes.{Lived}
 use Rattle.unit_life.specs.States.{Initializing, Discovery, Joining, Normal, Recovery, Stopped, Nowhere, beacon, kind_after, tick_to}
 
 -- the kinds whose time runs from their entry

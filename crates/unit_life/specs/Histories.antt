@@ -3,7 +3,7 @@
 use Rattle.std.specs.Prelude.{ℕ, ◌*◌, Bool, true, false, not, ◌&&◌, ◌||◌, cond, List, [], ◌∷◌, map, eqb, leb}
 use Rattle.moments.specs.Elapsed.{Clock, started, now_at, Step, moved}
 use Rattle.unit_life.specs.declared.state.State.{State}
-use Rattle.unit_life.specs.declared.state.Lived.{Lived}
+use Rattle.unit_life.specs.Outcomes.{Lived}
 use Rattle.unit_life.specs.Calls.{on_event, on_tick}
 
 -- a call: an event's number and a time, or a tick's superframe in ms and a time

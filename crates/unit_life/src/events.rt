@@ -1,78 +1,91 @@
 // The events of a unit's life, by number and by name.
 ghost use Rattle.std.specs.Prelude.{◌≡◌};
 ghost use Rattle.unit_life.specs.Calls.{on_event};
+ghost use Rattle.unit_life.specs.Kinds.{event_number};
+ghost use Rattle.unit_life.specs.Outcomes.{lived_by};
 ghost use Rattle.unit_life.specs.States.{ready, failed, beacon, join_accepted, join_denied, fault, elected, role_change, recovered};
 
-use crate::state::{Lived, State};
+use crate::kinds::Event;
+use crate::state::State;
 use crate::table::kind_after;
-use octets::answers::Refusal;
+use octets::refusals::Refusal;
 
 impl State {
-    // Any number is taken: one that is no event leads nowhere, which is 7.
-    pub fn event(self, number: u8, time: u32) -> Lived
-        ensures { result ≡ on_event self number time }
+    // Kept: a number, since a caller may name any: one that is no event is refused as an event that is not listed, once the state and the time are judged.
+    #[tactic(auto, using(crate::proofs::TableLaws::unlisted), unfolding(crate::specs::Calls::on_event))]
+    pub fn event(self, number: u8, time: u32) -> Result<State, Refusal>
+        ensures { lived_by self result ≡ on_event self number time }
     {
-        let to = kind_after(self.kind, number);
-        self.step(
-            time,
-            to == State::NOWHERE,
-            Refusal::EVENT,
-            to,
-            number == State::BEACON,
-        )
+        match Event::try_from(number) {
+            Ok(event) => self.met(event, time),
+            Err(refusal) => {
+                self.kind_at(time)?;
+                Err(refusal)
+            }
+        }
     }
 
-    pub fn ready(self, time: u32) -> Lived
-        ensures { result ≡ on_event self ready time }
+    #[tactic(auto, unfolding(crate::specs::Calls::on_event))]
+    fn met(self, event: Event, time: u32) -> Result<State, Refusal>
+        ensures { lived_by self result ≡ on_event self (event_number event) time }
     {
-        self.event(State::READY, time)
+        let kind = self.kind_at(time)?;
+        let to = kind_after(kind, event).ok_or(Refusal::Event)?;
+        Ok(self.moved_on(to, event == Event::Beacon, time))
     }
 
-    pub fn failed(self, time: u32) -> Lived
-        ensures { result ≡ on_event self failed time }
+    // Kept: nine calls that differ in their event alone, since each is public by its name.
+    pub fn ready(self, time: u32) -> Result<State, Refusal>
+        ensures { lived_by self result ≡ on_event self ready time }
     {
-        self.event(State::FAILED, time)
+        self.met(Event::Ready, time)
     }
 
-    pub fn heard_beacon(self, time: u32) -> Lived
-        ensures { result ≡ on_event self beacon time }
+    pub fn failed(self, time: u32) -> Result<State, Refusal>
+        ensures { lived_by self result ≡ on_event self failed time }
     {
-        self.event(State::BEACON, time)
+        self.met(Event::Failed, time)
     }
 
-    pub fn accepted(self, time: u32) -> Lived
-        ensures { result ≡ on_event self join_accepted time }
+    pub fn heard_beacon(self, time: u32) -> Result<State, Refusal>
+        ensures { lived_by self result ≡ on_event self beacon time }
     {
-        self.event(State::ACCEPTED, time)
+        self.met(Event::Beacon, time)
     }
 
-    pub fn denied(self, time: u32) -> Lived
-        ensures { result ≡ on_event self join_denied time }
+    pub fn accepted(self, time: u32) -> Result<State, Refusal>
+        ensures { lived_by self result ≡ on_event self join_accepted time }
     {
-        self.event(State::DENIED, time)
+        self.met(Event::Accepted, time)
     }
 
-    pub fn fault(self, time: u32) -> Lived
-        ensures { result ≡ on_event self fault time }
+    pub fn denied(self, time: u32) -> Result<State, Refusal>
+        ensures { lived_by self result ≡ on_event self join_denied time }
     {
-        self.event(State::FAULT, time)
+        self.met(Event::Denied, time)
     }
 
-    pub fn elected(self, time: u32) -> Lived
-        ensures { result ≡ on_event self elected time }
+    pub fn fault(self, time: u32) -> Result<State, Refusal>
+        ensures { lived_by self result ≡ on_event self fault time }
     {
-        self.event(State::ELECTED, time)
+        self.met(Event::Fault, time)
     }
 
-    pub fn role_change(self, time: u32) -> Lived
-        ensures { result ≡ on_event self role_change time }
+    pub fn elected(self, time: u32) -> Result<State, Refusal>
+        ensures { lived_by self result ≡ on_event self elected time }
     {
-        self.event(State::ROLE_CHANGE, time)
+        self.met(Event::Elected, time)
     }
 
-    pub fn recovered(self, time: u32) -> Lived
-        ensures { result ≡ on_event self recovered time }
+    pub fn role_change(self, time: u32) -> Result<State, Refusal>
+        ensures { lived_by self result ≡ on_event self role_change time }
     {
-        self.event(State::RECOVERED, time)
+        self.met(Event::RoleChange, time)
+    }
+
+    pub fn recovered(self, time: u32) -> Result<State, Refusal>
+        ensures { lived_by self result ≡ on_event self recovered time }
+    {
+        self.met(Event::Recovered, time)
     }
 }

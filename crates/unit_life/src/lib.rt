@@ -2,6 +2,7 @@
 #![tactic(auto)]
 
 mod events;
+mod kinds;
 mod names;
 pub mod state;
 pub mod state_bytes;

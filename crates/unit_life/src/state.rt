@@ -1,26 +1,24 @@
 // A unit's state: how it begins, when it is within rule, and how a call that is accepted takes it on.
-ghost use Rattle.std.specs.Prelude.{◌≡◌};
+ghost use Rattle.std.specs.Prelude.{◌≡◌, IfOk, not, ◌∷◌, []};
 ghost use Rattle.octets.specs.Answers.{reason, first};
-ghost use Rattle.unit_life.specs.Calls.{within_rule, fresh_state, moved_on, reasons, stepped};
+ghost use Rattle.octets.specs.Refusals.{status_of};
+ghost use Rattle.moments.specs.Moments.{in_order};
+ghost use Rattle.unit_life.specs.Calls.{within_rule, fresh_state, moved_on};
+ghost use Rattle.unit_life.specs.Kinds.{kind_number};
 
+use crate::kinds::Kind;
 use moments::in_order;
-use octets::answers::{Refusal, refuse_if};
-use octets::choices::either32;
+use octets::choices::either;
+use octets::refusals::{Refusal, refuse_if};
 
-// The kind is one of seven numbers; the times are the last accepted one, that of entry into the kind, and that of the last beacon.
+// The times are the last accepted one, that of entry into the kind, and that of the last beacon.
+// Kept: `kind` is a number, since a stored state may hold any, which `state_of` hands on and `within_rule` judges.
 #[derive(Clone, Copy)]
 pub struct State {
     pub kind: u8,
     pub last: u32,
     pub entered: u32,
     pub beacon: u32,
-}
-
-// What a call gives: the state, which is as it was where `refused` is not 0.
-#[derive(Drop)]
-pub struct Lived {
-    pub refused: u8,
-    pub state: State,
 }
 
 impl State {
@@ -35,59 +33,44 @@ impl State {
         }
     }
 
-    // A state comes from whoever stored it and may hold any numbers, so every call asks this first.
-    fn within_rule(self) -> bool
-        ensures { result ≡ within_rule self }
+    // The kind, where the state is within rule. A state comes from whoever stored it, so every call asks this first.
+    fn kind_in_rule(self) -> Result<Kind, Refusal>
+        ensures refused { status_of result ≡ first (reason (not (within_rule self)) 14 ∷ []) }
+        ensures same { IfOk result (λ kind. kind_number kind ≡ self.kind) }
     {
-        let known = self.kind <= State::STOPPED;
-        let runs = (self.kind == State::DISCOVERY)
-            | (self.kind == State::JOINING)
-            | (self.kind == State::RECOVERY);
-        let normal = self.kind == State::NORMAL;
-        known
-            & (!runs | in_order(self.entered, self.last))
-            & (!normal | in_order(self.beacon, self.last))
+        let kind = Kind::try_from(self.kind)?;
+        let ordered = match kind {
+            Kind::Discovery | Kind::Joining | Kind::Recovery => in_order(self.entered, self.last),
+            Kind::Normal => in_order(self.beacon, self.last),
+            Kind::Initializing | Kind::Manager | Kind::Stopped => true,
+        };
+        refuse_if(!ordered, Refusal::Rule)?;
+        Ok(kind)
+    }
+
+    // What every call at a time asks of the state: 14, then 8.
+    pub(crate) fn kind_at(self, time: u32) -> Result<Kind, Refusal>
+        ensures refused { status_of result ≡ first (reason (not (within_rule self)) 14 ∷ reason (not (in_order self.last time)) 8 ∷ []) }
+        ensures same { IfOk result (λ kind. kind_number kind ≡ self.kind) }
+    {
+        let kind = self.kind_in_rule()?;
+        refuse_if(!in_order(self.last, time), Refusal::Earlier)?;
+        Ok(kind)
     }
 
     // The state that goes to a kind: a change of it is an entry, and entry into Normal counts as a beacon.
-    fn moved_on(self, to: u8, heard: bool, time: u32) -> State
-        ensures { result ≡ moved_on self to heard time }
+    #[tactic(auto, unfolding(crate::specs::Calls::moved_on))]
+    pub(crate) fn moved_on(self, to: Kind, heard: bool, time: u32) -> State
+        ensures { result ≡ moved_on self (kind_number to) heard time }
     {
-        let changed = to != self.kind;
-        let beacon = (heard & !changed) | (changed & (to == State::NORMAL));
+        let kind = to as u8;
+        let changed = kind != self.kind;
+        let beacon = (heard & !changed) | (changed & (to == Kind::Normal));
         State {
-            kind: to,
+            kind,
             last: time,
-            entered: either32(changed, time, self.entered),
-            beacon: either32(beacon, time, self.beacon),
-        }
-    }
-
-    // Document 01's first number that applies: 14, 8, or the call's own where `wrong`.
-    fn refusal(self, time: u32, wrong: bool, number: u8) -> u8
-        ensures { result ≡ first (reasons self time (reason wrong number)) }
-    {
-        let known = self.within_rule();
-        let ordered = in_order(self.last, time);
-        let refused = refuse_if(wrong, number, 0);
-        let refused = refuse_if(!ordered, Refusal::EARLIER, refused);
-        refuse_if(!known, Refusal::RULE, refused)
-    }
-
-    // What an event and a tick share: a refusal with the state as it was, or the state that goes to a kind.
-    pub(crate) fn step(self, time: u32, wrong: bool, number: u8, to: u8, heard: bool) -> Lived
-        ensures { result ≡ stepped self time (reason wrong number) to heard }
-    {
-        let refused = self.refusal(time, wrong, number);
-        if refused != 0 {
-            return Lived {
-                refused,
-                state: self,
-            };
-        }
-        Lived {
-            refused,
-            state: self.moved_on(to, heard, time),
+            entered: either(changed, time, self.entered),
+            beacon: either(beacon, time, self.beacon),
         }
     }
 }

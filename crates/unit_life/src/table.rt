@@ -1,58 +1,45 @@
-// Document 01's table of the seven states, on numbers alone: which event leads where, and which time runs out into what.
+// Document 01's table of the seven states: which event leads where, and which time runs out into what.
 ghost use Rattle.std.specs.Prelude.{◌≡◌};
+ghost use Rattle.unit_life.specs.Kinds.{kind_number, event_number, leads_to};
 ghost use Rattle.unit_life.specs.States.{kind_after, tick_to};
 
+use crate::kinds::{Event, Kind};
 use crate::state::State;
-use octets::choices::either;
 
-// The kind that an event leads to. A beacon in Joining or in Normal leads nowhere else: it only records its time.
-pub(crate) fn kind_after(kind: u8, event: u8) -> u8
-    ensures { result ≡ kind_after kind event }
+// The kind that an event leads to, if it is listed. A beacon in Joining or in Normal leads nowhere else: it only records its time.
+#[tactic(auto, unfolding(crate::specs::States::kind_after))]
+pub(crate) fn kind_after(kind: Kind, event: Event) -> Option<Kind>
+    ensures { leads_to result ≡ kind_after (kind_number kind) (event_number event) }
 {
-    match kind {
-        State::INITIALIZING => match event {
-            State::READY => State::DISCOVERY,
-            State::FAILED => State::STOPPED,
-            _ => State::NOWHERE,
-        },
-        State::DISCOVERY => match event {
-            State::BEACON => State::JOINING,
-            State::FAULT => State::RECOVERY,
-            _ => State::NOWHERE,
-        },
-        State::JOINING => match event {
-            State::ACCEPTED => State::NORMAL,
-            State::DENIED => State::DISCOVERY,
-            State::BEACON => State::JOINING,
-            _ => State::NOWHERE,
-        },
-        State::NORMAL => match event {
-            State::ELECTED => State::MANAGER,
-            State::BEACON => State::NORMAL,
-            _ => State::NOWHERE,
-        },
-        State::MANAGER => match event {
-            State::ROLE_CHANGE => State::NORMAL,
-            State::FAULT => State::RECOVERY,
-            _ => State::NOWHERE,
-        },
-        State::RECOVERY => either(event == State::RECOVERED, State::DISCOVERY, State::NOWHERE),
-        _ => State::NOWHERE,
+    match (kind, event) {
+        (Kind::Initializing, Event::Ready) => Some(Kind::Discovery),
+        (Kind::Initializing, Event::Failed) => Some(Kind::Stopped),
+        (Kind::Discovery, Event::Beacon) => Some(Kind::Joining),
+        (Kind::Discovery, Event::Fault) => Some(Kind::Recovery),
+        (Kind::Joining, Event::Accepted) => Some(Kind::Normal),
+        (Kind::Joining, Event::Denied) => Some(Kind::Discovery),
+        (Kind::Joining, Event::Beacon) => Some(Kind::Joining),
+        (Kind::Normal, Event::Elected) => Some(Kind::Manager),
+        (Kind::Normal, Event::Beacon) => Some(Kind::Normal),
+        (Kind::Manager, Event::RoleChange) => Some(Kind::Normal),
+        (Kind::Manager, Event::Fault) => Some(Kind::Recovery),
+        (Kind::Recovery, Event::Recovered) => Some(Kind::Discovery),
+        _ => None,
     }
 }
 
 // The kind after a tick, `age` ms after entry and `silence` ms after the last beacon. Three superframes of any length that
 // a caller names may be more than 32 bits hold.
-pub(crate) fn tick_to(kind: u8, age: u32, silence: u32, superframe_ms: u32) -> u8
-    ensures { result ≡ tick_to kind age silence superframe_ms }
+#[tactic(auto, unfolding(crate::specs::States::tick_to))]
+pub(crate) fn tick_to(kind: Kind, age: u32, silence: u32, superframe_ms: u32) -> Kind
+    ensures { kind_number result ≡ tick_to (kind_number kind) age silence superframe_ms }
 {
-    let three = 3 * superframe_ms as u64;
-    let lost = (kind == State::NORMAL) & (three < silence as u64);
-    let alone = (kind == State::DISCOVERY) & (State::DISCOVERY_MS <= age);
-    let unanswered = (kind == State::JOINING) & (State::JOINING_MS <= age);
-    let ended = (kind == State::RECOVERY) & (State::RECOVERY_MS <= age);
-    let to = either(ended, State::STOPPED, kind);
-    let to = either(unanswered, State::RECOVERY, to);
-    let to = either(alone, State::MANAGER, to);
-    either(lost, State::RECOVERY, to)
+    let three = 3 * u64::from(superframe_ms);
+    match kind {
+        Kind::Normal if three < u64::from(silence) => Kind::Recovery,
+        Kind::Discovery if State::DISCOVERY_MS <= age => Kind::Manager,
+        Kind::Joining if State::JOINING_MS <= age => Kind::Recovery,
+        Kind::Recovery if State::RECOVERY_MS <= age => Kind::Stopped,
+        _ => kind,
+    }
 }

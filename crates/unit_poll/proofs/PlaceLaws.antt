@@ -1,6 +1,6 @@
 -- The 24 places of a poll's bytes against the list of others that they hold.
 -- Assumes nothing.
-use Rattle.octets.proofs.Words.{◌≡◌, refl, sym, ap, ap₂, ◌∙◌, Bool, true, false, not, ◌&&◌, cond, and-true, List, [], ◌∷◌, ℕ, zero, suc, ◌+◌, ◌*◌, ◌-◌, ◌≤◌, ◌<◌, ℕ_discrete, add-one, arith, eq-eqb, ne_eqb, le-leb, not-true, not-false, eqb, length, get_or, drop, drop_of_length-le, drop-cons}
+use Rattle.octets.proofs.Words.{◌≡◌, refl, sym, ap, ap₂, ◌∙◌, Bool, true, false, ◌&&◌, cond, and-true, List, [], ◌∷◌, ℕ, zero, suc, ◌+◌, ◌*◌, ◌-◌, ◌≤◌, ◌<◌, add-one, arith, eq-eqb, ne_eqb, le-leb, eqb, length, get_or, drop, drop_of_length-le, drop-cons}
 use Rattle.octets.specs.Addresses.{address}
 use Rattle.octets.specs.Layouts.{fields}
 use Rattle.octets.specs.Lists.{every}
@@ -8,7 +8,6 @@ use Rattle.octets.specs.Numbers.{num}
 use Rattle.octets.specs.Places.{first_key}
 use Rattle.octets.specs.Zeros.{is_zero, zeros_from}
 use Rattle.octets.proofs.ListLaws.{length-tab, get_or-tab}
-use Rattle.octets.proofs.NumberLaws.{num-past}
 use Rattle.octets.proofs.PlaceLaws.{ok_right}
 use Rattle.octets.proofs.ZeroLaws.{fields-zero}
 use Rattle.unit_poll.specs.declared.voter.Voter.{Voter}
@@ -32,28 +31,19 @@ module _ (s : List ℕ) where
       let k : length (places_in s) ≤ i = omega (arith, places_long, h) in
       drop_of_length-le (places_in s) k
 
--- the one behind a place; behind the last there are no bytes
-pub behind-first : (s : List ℕ) → length s ≡ 75 → (i : ℕ) → i < 24 → first_key unit_of (drop (i + 1) (places_in s)) ≡ (voter_at s (i + 1)).unit
-unfolding voter_at
-behind-first s l i h = go (ℕ_discrete i 23)
-  where
-    go : Dec (i ≡ 23) → first_key unit_of (drop (i + 1) (places_in s)) ≡ num 2 s (3 + 3 * (i + 1))
-    go (yes e) = rw (places-past s (i + 1) (omega arith)) (sym (num-past 2 s (3 + 3 * (i + 1)) (omega (arith, l, e))))
-    go (no e) = rw (places-from s (i + 1) (omega (arith, h, e)))
+-- ---- the loop that judges the places, from the last on
+module _ (s : List ℕ) (own n : ℕ) (some : 0 < n) (h : n ≤ 24) where
+  first_turn : drop (n - 1) (places_in s) ≡ voter_at s (n - 1) ∷ drop n (places_in s)
+  first_turn =
+      let back : n - 1 + 1 ≡ n = omega arith in
+      places-from s (n - 1) (omega arith) ∙ ap (λ (k : ℕ). voter_at s (n - 1) ∷ drop k (places_in s)) back
 
--- ---- the loop that judges the places
-module _ (s : List ℕ) (l : length s ≡ 75) (own i : ℕ) (h : i < 24) (e : ok_places own (drop i (places_in s)) ≡ ok_places own (places_in s)) where
-  turn : (ok_voter own (voter_at s i) (voter_at s (i + 1)).unit && ok_places own (drop (i + 1) (places_in s))) ≡ ok_places own (places_in s)
-  turn = rw (← behind-first s l i h) (rw (places-from s i h) at e)
+  pub ok_turn : (good : Bool) (after : ℕ) → good ≡ ok_places own (drop n (places_in s)) → after ≡ first_key unit_of (drop n (places_in s))
+      → (ok_voter own (voter_at s (n - 1)) after && good) ≡ ok_places own (drop (n - 1) (places_in s))
+  ok_turn good after g a = rw (first_turn, g, a)
 
-  pub ok_stop : (b : Bool) → b ≡ ok_voter own (voter_at s i) (voter_at s (i + 1)).unit → not b ≡ true → false ≡ ok_places own (places_in s)
-  ok_stop b q t = rw (← q, not-true b t) at turn
-
-  pub ok_again : (b : Bool) → b ≡ ok_voter own (voter_at s i) (voter_at s (i + 1)).unit → not b ≡ false → ok_places own (drop (i + 1) (places_in s)) ≡ ok_places own (places_in s)
-  ok_again b q t = rw (← q, not-false b t) at turn
-
-pub ok_end : (s : List ℕ) (own i : ℕ) → 24 ≤ i → ok_places own (drop i (places_in s)) ≡ ok_places own (places_in s) → true ≡ ok_places own (places_in s)
-ok_end s own i h e = rw (places-past s i h) at e
+  pub unit_turn : (voter_at s (n - 1)).unit ≡ first_key unit_of (drop (n - 1) (places_in s))
+  unit_turn = rw first_turn
 
 -- ---- empty places are zeros
 not_none : (v : Voter) → (v.unit ≡ 0 → ⊥) → is_none v ≡ false

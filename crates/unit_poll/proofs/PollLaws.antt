@@ -1,8 +1,7 @@
 -- A poll within rule, its bytes, and what its calls leave of them.
 -- Assumes nothing.
-use Rattle.octets.proofs.Words.{◌≡◌, refl, sym, ap, ◌∙◌, Bool, true, false, not, ◌&&◌, cond, and-eq-true_iff, List, [], ◌∷◌, ◌++◌, append-nil, ℕ, ◌+◌, ◌*◌, ◌-◌, ◌≤◌, zero-add, arith, ne_eqb, lt-ltb, eqb-true, leb-true, eqb, leb, length, take, drop, drop_of_length-le, length-append, length-drop, length-replicate, replicate, sets, sets-eq}
+use Rattle.octets.proofs.Words.{◌≡◌, refl, sym, ap, ◌∙◌, Bool, true, false, not, ◌&&◌, cond, and-eq-true_iff, List, [], ◌∷◌, ◌++◌, append-nil, ℕ, ◌+◌, ◌*◌, ◌-◌, ◌≤◌, zero-add, arith, eq-eqb, lt-ltb, eqb-true, leb-true, eqb, leb, length, take, drop, drop_of_length-le, length-append, length-drop, length-replicate, replicate, sets, sets-eq}
 use Rattle.octets.specs.Addresses.{address}
-use Rattle.octets.specs.Calls.{after}
 use Rattle.octets.specs.Layouts.{bytes, Bytes}
 use Rattle.octets.specs.Lists.{every}
 use Rattle.octets.specs.Numbers.{digits}
@@ -20,8 +19,8 @@ use Rattle.frame_requests.specs.declared.Election.{Election}
 use Rattle.frame_requests.specs.Requests.{election, election_values, election_from}
 use Rattle.unit_poll.specs.declared.voter.Voter.{Voter}
 use Rattle.unit_poll.specs.Places.{is_none, sifted}
-use Rattle.unit_poll.specs.PollBytes.{voter_widths, voter_values, voters_bytes, in_use, places_in, poll_in, pad, poll_bytes, holds_poll, poll_left, fresh_call, hear_call, named_in}
-use Rattle.unit_poll.specs.Polls.{Poll, poll_rule, fresh_poll, fresh_refusal, voter_in, unheard_reasons, hear_refusal, with_message, winner_of}
+use Rattle.unit_poll.specs.PollBytes.{voter_widths, voter_values, voters_bytes, in_use, places_in, poll_in, pad, poll_bytes, holds_poll, poll_left, fresh_call, hear_call}
+use Rattle.unit_poll.specs.Polls.{Poll, poll_rule, voter_in, unheard_reasons, hear_refusal, with_message}
 use Rattle.unit_poll.specs.Voters.{voter, none, voter_rule, ascending, known, put}
 use Rattle.unit_poll.proofs.PlaceLaws.{places_long, none-zeros, others-few}
 use Rattle.unit_poll.proofs.SiftLaws.{used, sifted-pad}
@@ -127,40 +126,17 @@ module _ (s : List ℕ) (e : holds_poll s ≡ true) where
 pub message_in : (f : Election) (s : List ℕ) → election_values f ≡ values_in election s → voter f.node f.priority ≡ voter_in s
 message_in f s e = ap (λ (vs : List ℕ). voter (election_from vs).node (election_from vs).priority) e
 
-pub sender_in : (f : Election) (s : List ℕ) → election_values f ≡ values_in election s → f.node ≡ (voter_in s).unit
-sender_in f s e = ap (λ (v : Voter). v.unit) (message_in f s e)
+-- ---- what hearing leaves, where there is room for the message
+module _ (s frame : List ℕ) (e : holds_poll s ≡ true) (z : hear_refusal (poll_in s) frame ≡ 0) where
+  hearable : (not (known (voter_in frame).unit (poll_in s).others) && leb 24 (length (poll_in s).others)) ≡ false
+  unfolding hear_refusal
+  hearable = (none-holds (unheard_reasons (poll_in s) frame) (refusing_numbered (refusal_as election frame), _) z).1.1.0
 
--- ---- what hearing leaves
-module _ (s frame : List ℕ) where
-  pub heard-none : holds_poll s ≡ false → poll_left 14 s ≡ hear_call s frame
+  pub heard-accepted : Bytes s → (held : List ℕ) → held ≡ sets s 3 (voters_bytes (sifted false (voter_in frame) (places_in s))) → poll_left 0 held ≡ hear_call s frame
   unfolding hear_call
-  heard-none e = rw e
-
-  module _ (e : holds_poll s ≡ true) (n : ℕ) (z : n ≡ hear_refusal (poll_in s) frame) where
-    pub heard-refused : (n ≡ 0 → ⊥) → poll_left n s ≡ hear_call s frame
-    unfolding hear_call
-    heard-refused h = rw (e, ← z, ne_eqb n 0 h)
-
-    -- there is room for it
-    pub hearable : n ≡ 0 → (not (known (voter_in frame).unit (poll_in s).others) && leb 24 (length (poll_in s).others)) ≡ false
-    unfolding hear_refusal
-    hearable h = (none-holds (unheard_reasons (poll_in s) frame) (refusing_numbered (refusal_as election frame), _) (sym z ∙ h)).1.1.0
-
-    pub heard-accepted : n ≡ 0 → Bytes s → (held : List ℕ) → held ≡ sets s 3 (voters_bytes (sifted false (voter_in frame) (places_in s))) → poll_left 0 held ≡ hear_call s frame
-    unfolding hear_call
-    heard-accepted h b held q =
-        rw (e, ← z, h) (ap (poll_left 0) (q ∙ heard-bytes s e b (voter_in frame) (hearable h)))
+  heard-accepted b held q = rw (e, z) (ap (poll_left 0) (q ∙ heard-bytes s e b (voter_in frame) hearable))
 
 -- ---- a fresh poll
-pub fresh-refused : (s : List ℕ) (own priority n : ℕ) → n ≡ cond (not (eqb (length s) 75)) 14 (fresh_refusal own) → (n ≡ 0 → ⊥) → poll_left n s ≡ fresh_call s own priority
-unfolding fresh_call
-fresh-refused s own priority n e h = go (eqb (length s) 75) refl e
-  where
-    go : (b : Bool) → eqb (length s) 75 ≡ b → n ≡ cond (not b) 14 (fresh_refusal own)
-        → poll_left n s ≡ poll_left (cond b (fresh_refusal own) 14) (after (cond b (fresh_refusal own) 14) s (poll_bytes (fresh_poll own priority)))
-    go true q k = rw (← k, ne_eqb n 0 h)
-    go false q k = rw k
-
 abbrev zeros : List ℕ
 zeros = replicate 72 0
 
@@ -168,27 +144,13 @@ fresh-places : voters_bytes (pad []) ≡ zeros
 unfolding pad digits
 fresh-places = refl
 
-pub fresh-accepted : (s : List ℕ) (own priority n : ℕ) → n ≡ cond (not (eqb (length s) 75)) 14 (fresh_refusal own) → n ≡ 0
+pub fresh-accepted : (s : List ℕ) (own priority : ℕ) → length s ≡ 75 → address own ≡ true
     → (one two three : List ℕ) → one ≡ sets s 0 (digits 2 own) → two ≡ sets one 2 (digits 1 priority) → three ≡ sets two 3 zeros → poll_left 0 three ≡ fresh_call s own priority
 unfolding fresh_call poll_bytes
-fresh-accepted s own priority n e z one two three a b c = go (eqb (length s) 75) refl e
-  where
-    all : eqb (length s) 75 ≡ true → three ≡ bytes (2 ∷ 1 ∷ []) (own ∷ priority ∷ []) ++ voters_bytes (pad [])
-    all q =
-        let head = bytes (2 ∷ 1 ∷ []) (own ∷ priority ∷ []) in
-        let size : length head ≡ 3 = length-bytes (2 ∷ 1 ∷ []) (own ∷ priority ∷ []) refl in
-        let put : two ≡ sets s 0 head = b ∙ rw a (sym (sets_append (digits 2 own) (digits 1 priority ++ []) s 0 ∙ rw (zero-add, length_digits 2 own, append-nil (digits 1 priority)))) in
-        let whole : three ≡ sets s 0 (head ++ zeros) = c ∙ rw put (sym (sets_append head zeros s 0 ∙ rw (zero-add, size))) in
-        rw fresh-places (whole ∙ sets-whole s (head ++ zeros) (length-append head zeros ∙ omega (arith, size, eqb-true (length s) 75 q)))
-
-    go : (t : Bool) → eqb (length s) 75 ≡ t → n ≡ cond (not t) 14 (fresh_refusal own)
-        → poll_left 0 three ≡ poll_left (cond t (fresh_refusal own) 14) (after (cond t (fresh_refusal own) 14) s (bytes (2 ∷ 1 ∷ []) (own ∷ priority ∷ []) ++ voters_bytes (pad [])))
-    go true q k = rw (← k, z) (ap (poll_left 0) (all q))
-    go false q k = absurd (omega (arith, k, z))
-
--- ---- the winner
-pub named_none : (s : List ℕ) → holds_poll s ≡ false → record { refused = 14; unit = 0 } ≡ named_in s
-named_none s e = rw e
-
-pub named_by : (s : List ℕ) → holds_poll s ≡ true → (u : ℕ) → u ≡ winner_of (poll_in s) → record { refused = 0; unit = u } ≡ named_in s
-named_by s e u q = rw (e, q)
+fresh-accepted s own priority l g one two three a b c =
+    let head = bytes (2 ∷ 1 ∷ []) (own ∷ priority ∷ []) in
+    let size : length head ≡ 3 = length-bytes (2 ∷ 1 ∷ []) (own ∷ priority ∷ []) refl in
+    let put : two ≡ sets s 0 head = b ∙ rw a (sym (sets_append (digits 2 own) (digits 1 priority ++ []) s 0 ∙ rw (zero-add, length_digits 2 own, append-nil (digits 1 priority)))) in
+    let whole : three ≡ sets s 0 (head ++ zeros) = c ∙ rw put (sym (sets_append head zeros s 0 ∙ rw (zero-add, size))) in
+    rw (eq-eqb (length s) 75 l, g)
+    (ap (poll_left 0) (rw fresh-places (whole ∙ sets-whole s (head ++ zeros) (length-append head zeros ∙ omega (arith, size, l)))))

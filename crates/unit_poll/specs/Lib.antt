@@ -1,3 +1,4 @@
+pub mod Outcomes
 pub mod Places
 pub mod PollBytes
 pub mod Polls

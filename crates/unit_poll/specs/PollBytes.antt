@@ -8,7 +8,7 @@ use Rattle.octets.specs.Numbers.{num}
 use Rattle.octets.specs.Ordered.{in_use_by}
 use Rattle.octets.specs.Zeros.{zeros_from}
 use Rattle.unit_poll.specs.declared.voter.Voter.{Voter}
-use Rattle.unit_poll.specs.declared.poll.Named.{Named}
+use Rattle.unit_poll.specs.Outcomes.{Named}
 use Rattle.unit_poll.specs.Voters.{voter, none, unit_of}
 use Rattle.unit_poll.specs.Polls.{Poll, most_others, poll_rule, fresh_poll, fresh_refusal, hear_refusal, heard_by, winner_of}
 

@@ -1,14 +1,15 @@
 // The last election message of one unit in a poll: the unit, and its priority.
-ghost use Rattle.std.specs.Prelude.{◌≡◌, cond, ◌+◌, ◌*◌};
+ghost use Rattle.std.specs.Prelude.{◌≡◌, ◌+◌, ◌*◌};
 ghost use Rattle.std.proofs.lemmas.List.Edits.{sets};
 ghost use Rattle.octets.specs.Layouts.{bytes};
-ghost use Rattle.unit_poll.specs.Voters.{beats, better};
+ghost use Rattle.unit_poll.specs.Voters.{voter, beats, better};
 ghost use Rattle.unit_poll.specs.Places.{ok_voter};
 ghost use Rattle.unit_poll.specs.PollBytes.{voter_widths, voter_values, voter_at};
 
+use frame_requests::Election;
 use octets::addresses::is_address;
-use octets::fixed::{put8, put16};
-use octets::numbers::{number8, number16};
+use octets::choices::either;
+use octets::stored::Stored;
 
 #[derive(Clone, Copy)]
 pub struct Voter {
@@ -16,11 +17,15 @@ pub struct Voter {
     pub priority: u8,
 }
 
-// The first where a test holds, else the second.
-pub(crate) fn either(test: bool, first: Voter, second: Voter) -> Voter
-    ensures { result ≡ cond test first second }
-{
-    if test { first } else { second }
+impl From<Election> for Voter {
+    fn from(message: Election) -> Voter
+        ensures { result ≡ voter message.node message.priority }
+    {
+        Voter {
+            unit: message.node,
+            priority: message.priority,
+        }
+    }
 }
 
 impl Voter {
@@ -28,8 +33,7 @@ impl Voter {
     pub fn beats(self, other: Voter) -> bool
         ensures { result ≡ beats self other }
     {
-        (other.priority < self.priority)
-            | ((other.priority == self.priority) & (self.unit < other.unit))
+        (other.priority, self.unit) < (self.priority, other.unit)
     }
 
     // The one of two that goes before the other; the first where neither does.
@@ -40,6 +44,7 @@ impl Voter {
     }
 
     // Whether it may stand before one of this unit, 0 for none, in the poll of the unit `own`.
+    // Kept: 0 for none, as in the bytes and in `ok_voter`; an `Option` would have to ask that it holds no 0.
     pub(crate) fn ordered(self, own: u16, after: u16) -> bool
         ensures { result ≡ ok_voter own self after }
     {
@@ -50,13 +55,14 @@ impl Voter {
     }
 
     // The one at a place of a poll's bytes, counted from 0.
+    #[tactic(auto, unfolding(crate::specs::PollBytes::voter_at))]
     pub(crate) fn at(s: &[u8], place: u8) -> Voter
         ensures { result ≡ voter_at s.now place }
     {
         let start = 3 + 3 * (place as usize);
         Voter {
-            unit: number16(s, start),
-            priority: number8(s, start + 2),
+            unit: u16::read(s, start),
+            priority: u8::read(s, start + 2),
         }
     }
 
@@ -65,7 +71,7 @@ impl Voter {
         ensures { out.new ≡ sets out.old (3 + 3 * place) (bytes voter_widths (voter_values self)) }
     {
         let start = 3 + 3 * (place as usize);
-        put16(out, start, self.unit);
-        put8(out, start + 2, self.priority);
+        self.unit.store(out, start);
+        self.priority.store(out, start + 2);
     }
 }

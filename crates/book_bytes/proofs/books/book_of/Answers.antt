@@ -10,16 +10,15 @@ use Rattle.book_bytes.proofs.books.book_of.Goals as goal
 
 pub loop-place-init : goal.loop-place-init
 unfolding rows_of
-loop-place-init c = (search rules, refl, refl, tab-none _ _)
+loop-place-init c = (refl, refl, tab-none _ _)
 
 pub loop-place-preserved : goal.loop-place-preserved
 loop-place-preserved c =
     let l = c.loop-place in
     let s = c.args.s.now in (
       search rules,
-      search rules,
-      l.invariant.2,
-      row_written l.rows l.place _ ∙ rw (l.invariant.3, c.member_at.ensures) (tab_more l.place (row_at s) _ (omega arith)),
+      l.invariant.1,
+      row_written l.row-items l.place _ ∙ rw (l.invariant.2, c.member_at.ensures) (tab_more l.place (row_at s) _ (omega arith)),
     )
 
 pub returns : goal.returns
@@ -28,5 +27,5 @@ returns c =
     let l = c.loop-place in
     let s = c.args.s.now in
     let e : l.place ≡ 21 = omega arith in
-    let all : rows_of l.rows ≡ tab 21 (row_at s) = (rw e at l.invariant.3) ∙ tab-all 21 (row_at s) (rows_of (replicate 21 nobody)) l.invariant.2 in
-    rw (all, c.plan_of.ensures, c.number32.ensures)
+    let all : rows_of l.row-items ≡ tab 21 (row_at s) = (rw e at l.invariant.2) ∙ tab-all 21 (row_at s) (rows_of (replicate 21 nobody)) l.invariant.1 in
+    rw (all, c.plan_of.ensures, c.read.ensures)

@@ -15,7 +15,7 @@ pub returns : goal.returns
 returns c =
     let start = (goal.at.returns c).Start in
     let a = start.args in
-    all-put a.out.now a.place row_widths (row_values (row_of a.member)) _
-    (put c.put16.ensures (omega arith)
-    (put (rw (← mask_back a.member.slots (below start)) at c.put64.ensures) (omega arith)
-    (put c.put32.ensures refl done)))
+    all-put a.out.now a.at row_widths (row_values (row_of a.member)) _
+    (put c.store.ensures refl
+    (put (rw (← mask_back a.member.slots (below start)) at c.store-2.ensures) (omega arith)
+    (put c.store-3.ensures refl done)))

@@ -10,10 +10,10 @@ pub returns : goal.returns
 returns c =
     let a = c.args in
     all-put a.out.now 0 (head_widths (sections a.rows)) (head_values (sections a.rows)) _
-    (put c.put8.ensures refl
-    (put c.put8-2.ensures refl
-    (put c.put16.ensures refl
-    (put c.put16-2.ensures refl
-    (put c.put8-3.ensures refl
-    (put c.put16-3.ensures refl
-    (put c.put16-4.ensures refl done)))))))
+    (put c.store.ensures refl
+    (put c.store-2.ensures refl
+    (put c.store-3.ensures refl
+    (put c.store-4.ensures refl
+    (put c.store-5.ensures refl
+    (put c.store-6.ensures refl
+    (put (rw c.from.ensures at c.store-7.ensures) refl done)))))))

@@ -1,6 +1,6 @@
 -- `put_row`: the unit, and the slots behind it.
 -- Assumes nothing.
-use Rattle.octets.proofs.Words.{refl, ◌^◌, ◌<◌, arith, rules}
+use Rattle.octets.proofs.Words.{refl, ◌^◌, ◌<◌, rules}
 use Rattle.octets.proofs.StoreLaws.{all-put, put, done}
 use Rattle.slot_sets.proofs.MaskLaws.{mask_back}
 use Rattle.book_members.specs.Members.{row_of}
@@ -15,6 +15,6 @@ pub returns : goal.returns
 returns c =
     let start = (goal.at.returns c).Start in
     let a = start.args in
-    all-put a.out.now a.place row_widths (row_values (row_of a.member)) _
-    (put c.put16.ensures (omega arith)
-    (put (rw (← mask_back a.member.slots (below start)) at c.put64.ensures) refl done))
+    all-put a.out.now 0 row_widths (row_values (row_of a.member)) _
+    (put c.store.ensures refl
+    (put (rw (← mask_back a.member.slots (below start)) at c.store-2.ensures) refl done))

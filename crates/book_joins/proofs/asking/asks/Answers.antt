@@ -1,14 +1,9 @@
--- `asks`: the numbers of the definition, one after the other.
+-- `asks`: what is held and what is spare are no more than 128.
 -- Assumes nothing.
-use Rattle.octets.proofs.Words.{◌∙◌, arith, Fits-under}
+use Rattle.octets.proofs.Words.{arith, Fits-under}
 use Rattle.slot_sets.specs.Sets.{slots_of}
 use Rattle.slot_sets.proofs.CountLaws.{count_fits}
 use Rattle.book_joins.proofs.asking.asks.Goals as goal
 
 pub overflow_add-most : goal.overflow_add-most
-overflow_add-most c =
-    Fits-under _ _ 129 (omega (arith, c.size.ensures, count_fits 64 (slots_of c.args.own), c.spare.ensures.1)) _
-
-pub returns : goal.returns
-returns c =
-    c.brought.ensures ∙ rw (c.fewer.ensures, c.wish.ensures, c.spare.ensures.0, c.size.ensures)
+overflow_add-most c = Fits-under _ _ 129 (omega (arith, c.size.ensures, count_fits 64 (slots_of c.args.own), c.spare.ensures.1)) _

@@ -4,13 +4,8 @@ use Rattle.octets.proofs.Words.{ap, ◌∙◌, arith}
 use Rattle.slot_sets.specs.Sets.{Slots}
 use Rattle.slot_sets.proofs.MaskLaws.{mask-nothing}
 use Rattle.book_members.specs.Members.{row_of, member_with}
-use Rattle.book_members.proofs.RowLoopLaws.{live-kept, silent_dropped}
+use Rattle.book_members.proofs.RowLoopLaws.{silent_dropped}
 use Rattle.book_members.proofs.rows.kept.Goals as goal
-
-pub returns-then-age-le-LIVE_MS : goal.returns-then-age-le-LIVE_MS
-returns-then-age-le-LIVE_MS c =
-    let a = c.args in
-    live-kept a.time (row_of a.member) c.age.result c.age.ensures (omega (arith, c.if-age-le-LIVE_MS.true))
 
 pub returns : goal.returns
 returns c =

@@ -1,11 +1,9 @@
--- `distinct`'s loop: `Compared` holds before each turn, and each of the ways through it keeps it.
+-- `distinct`'s loop: the rows that it passed are distinct.
 -- Assumes nothing.
-use Rattle.octets.proofs.Words.{◌-◌, ◌*◌}
-use Rattle.book_members.proofs.DistinctLaws.{Compared}
+use Rattle.octets.proofs.Words.{◌≡◌, take, true}
+use Rattle.book_members.specs.Members.{rows_of}
+use Rattle.book_members.specs.Rules.{distinct}
 use Rattle.book_members.proofs.rules.distinct.Given as goal
 
 abbrev pub invariant-loop-at : goal.invariant-loop-at
-invariant-loop-at l = Compared l.rows l.count l.used l.at l.other
-
-abbrev pub decreases-loop-at : goal.decreases-loop-at
-decreases-loop-at l = (l.used - l.at) * 22 - l.other
+invariant-loop-at l = distinct (take l.at (rows_of l.rows)) ≡ true

@@ -7,7 +7,4 @@ use Rattle.book_members.proofs.rules.judged.Given as goal
 
 abbrev pub invariant-loop-i : goal.invariant-loop-i
 invariant-loop-i l =
-    Counted l.rows l.count l.i l.held l.vacant × (l.good ≡ judged l.manager l.data_slots l.last (from l.rows l.count l.i))
-
-abbrev pub decreases-loop-i : goal.decreases-loop-i
-decreases-loop-i l = l.i
+    Counted l.rows l.i l.held l.vacant × (l.good ≡ judged l.manager l.data_slots l.last (from l.rows l.i))

@@ -1,16 +1,11 @@
--- `settle`: the book that was granted, or why none is.
+-- `settle`: the book that was granted, over as many bytes as it has.
 -- Assumes nothing.
-use Rattle.octets.proofs.Words.{sym, ◌∙◌}
-use Rattle.octets.proofs.CallLaws.{after-accepted, after-refused}
+use Rattle.octets.proofs.Words.{refl}
+use Rattle.c_requests.proofs.RequestCallLaws.{stored}
 use Rattle.c_requests.proofs.request_calls.settle.Goals as goal
-
-pub returns-then-status-ne0 : goal.returns-then-status-ne0
-returns-then-status-ne0 c =
-    let back = c.write_back-status.ensures in
-    (back.0, back.1, sym (after-refused _ _ _ (λ z. c.if-status-ne0.true (back.0 ∙ z))), back.2)
 
 pub returns : goal.returns
 returns c =
-    let back = c.write_back-status.ensures in
-    let z = c.if-status-ne0.false in
-    (sym z ∙ back.0, back.1, sym (after-accepted _ _ _ (sym back.0 ∙ z)), back.2)
+    let a = c.args in
+    let w = c.write_back.ensures in
+    λ b held. rw w.0 (stored b held a.book.now _ a.written.now a.granted c.in_ok-granted.granted c.in_ok-granted.was c.requires.size (w.2 b refl) w.1)

@@ -3,12 +3,12 @@
 use Rattle.c_routes.proofs.RelayCallLaws.{unforwarded, forwarded}
 use Rattle.c_routes.proofs.relay_calls.braidlark_forward.Goals as goal
 
-pub returns-then-forwarded-ne0 : goal.returns-then-forwarded-ne0
-returns-then-forwarded-ne0 c =
+pub returns-in-Ok : goal.returns-in-Ok
+returns-in-Ok c =
     let a = c.args in
-    unforwarded a.table.now a.network a.manager a.frame.now a.delay a.time a.out.now _ c.forward_in-forwarded.result _ _ c.forward_in-forwarded.ensures c.if-forwarded-ne0.true
+    rw c.from.ensures (forwarded a.table.now a.network a.manager a.frame.now a.delay a.time a.out.now _ _ _ c.in-Ok.size c.in-Ok.ensures)
 
-pub returns : goal.returns
-returns c =
+pub returns-in-Err : goal.returns-in-Err
+returns-in-Err c =
     let a = c.args in
-    forwarded a.table.now a.network a.manager a.frame.now a.delay a.time a.out.now _ c.forward_in-forwarded.result _ _ c.forward_in-forwarded.ensures c.if-forwarded-ne0.false
+    rw c.number.ensures (unforwarded a.table.now a.network a.manager a.frame.now a.delay a.time a.out.now _ _ _ c.in-Err.reason c.in-Err.ensures)

@@ -5,4 +5,4 @@ use Rattle.c_routes.proofs.table_calls.braidlark_forget.Goals as goal
 
 pub returns : goal.returns
 unfolding forget_call
-returns c = c.forget.ensures
+returns c = rw c.status.ensures c.forget.ensures

@@ -3,12 +3,12 @@
 use Rattle.c_routes.proofs.UpdateCallLaws.{unmerged, merged}
 use Rattle.c_routes.proofs.update_calls.braidlark_merge.Goals as goal
 
-pub returns-then-merged-ne0 : goal.returns-then-merged-ne0
-returns-then-merged-ne0 c =
+pub returns-in-Ok : goal.returns-in-Ok
+returns-in-Ok c =
     let a = c.args in
-    unmerged a.table.now a.frame.now a.quality a.time _ _ c.merge_in-merged.result _ c.merge_in-merged.ensures c.if-merged-ne0.true
+    merged a.table.now a.frame.now a.quality a.time _ _ _ c.in-Ok.tally c.in-Ok.ensures
 
-pub returns : goal.returns
-returns c =
+pub returns-in-Err : goal.returns-in-Err
+returns-in-Err c =
     let a = c.args in
-    merged a.table.now a.frame.now a.quality a.time _ _ c.merge_in-merged.result _ c.merge_in-merged.ensures c.if-merged-ne0.false
+    rw c.number.ensures (unmerged a.table.now a.frame.now a.quality a.time _ _ _ c.in-Err.refusal c.in-Err.ensures)

@@ -7,14 +7,14 @@ use Rattle.c_routes.proofs.update_calls.braidlark_page.Goals as goal
 pub overflow_cast-written : goal.overflow_cast-written
 overflow_cast-written c =
     let a = c.args in
-    omega (arith, page-size a.table.now a.page a.time a.out.now 0 c.page_in.result _ c.page_in.ensures c.in-Done.size c.in-Done.is)
+    omega (arith, page-size a.table.now a.page a.time a.out.now 0 c.page_in.result _ c.page_in.ensures c.in-Ok.size c.in-Ok.is)
 
-pub returns-in-Done : goal.returns-in-Done
-returns-in-Done c =
+pub returns-in-Ok : goal.returns-in-Ok
+returns-in-Ok c =
     let a = c.args in
-    page-done a.table.now a.page a.time a.out.now _ c.page_in.result _ c.page_in.ensures c.in-Done.size c.in-Done.is
+    page-done a.table.now a.page a.time a.out.now _ c.page_in.result _ c.page_in.ensures c.in-Ok.size c.in-Ok.is
 
-pub returns-in-Refused : goal.returns-in-Refused
-returns-in-Refused c =
+pub returns-in-Err : goal.returns-in-Err
+returns-in-Err c =
     let a = c.args in
-    page_undone a.table.now a.page a.time a.out.now _ c.page_in.result _ c.page_in.ensures c.in-Refused.refusal c.in-Refused.is
+    rw c.number.ensures (page_undone a.table.now a.page a.time a.out.now _ c.page_in.result _ c.page_in.ensures c.in-Err.refusal c.in-Err.is)

@@ -5,7 +5,7 @@ use Rattle.frame_beacons.proofs.EitherLaws.{short_hop, beacon_hop}
 use Rattle.frame_beacons.proofs.either.hop_in.Goals as goal
 
 pub returns-then-is_short : goal.returns-then-is_short
-returns-then-is_short c = c.number8.ensures ∙ short_hop _ (sym c.is_short.ensures ∙ c.if-is_short.true)
+returns-then-is_short c = c.read.ensures ∙ short_hop _ (sym c.is_short.ensures ∙ c.if-is_short.true)
 
 pub returns : goal.returns
-returns c = c.number8-2.ensures ∙ beacon_hop _ (sym c.is_short.ensures ∙ c.if-is_short.false)
+returns c = c.read-2.ensures ∙ beacon_hop _ (sym c.is_short.ensures ∙ c.if-is_short.false)

@@ -6,4 +6,4 @@ use Rattle.frames.proofs.TripLaws.{typed_refusal}
 use Rattle.frame_reading.proofs.reading.refusal.Goals as goal
 
 pub returns : goal.returns
-returns c = c.wanted.ensures ∙ (ap (λ (t : ℕ). refusal_typed t c.args.s.now) c.number8.ensures ∙ typed_refusal _)
+returns c = c.wanted.ensures ∙ (ap (λ (t : ℕ). refusal_typed t c.args.s.now) c.read.ensures ∙ typed_refusal _)

@@ -7,11 +7,4 @@ use Rattle.frame_requests.proofs.JoinResponse.put.Goals as goal
 
 pub returns : goal.returns
 returns c =
-    all_laid _ 0 (1 ∷ join_response.widths) (join_response.code ∷ join_response_values _) _ (rw (
-      c.put16-3.ensures,
-      c.put32.ensures,
-      c.put16-2.ensures,
-      c.put8-2.ensures,
-      c.put16.ensures,
-      c.put8.ensures,
-    ))
+    all_laid _ 0 (1 ∷ join_response.widths) (join_response.code ∷ join_response_values _) _ cc

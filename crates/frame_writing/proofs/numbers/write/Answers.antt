@@ -1,27 +1,31 @@
 -- `write`: no numbers are refused, and so is a type that no kind has.
 -- Assumes nothing.
-use Rattle.octets.proofs.Words.{◌≡◌, ap, ◌∙◌, ℕ, ◌%◌, ◌≤◌, arith}
+use Rattle.octets.proofs.Words.{◌≡◌, ap, ◌∙◌, ◌<◌, arith, rules, length}
+use Rattle.std.specs.Prelude.{Err}
+use Rattle.octets.specs.declared.refusals.Refusal.TheVariants.{Length, WrongType}
 use Rattle.frames.specs.Layout.{layout_of}
 use Rattle.frames.proofs.ListedLaws.{none-listed}
 use Rattle.frame_writing.proofs.KnownLaws.{too_large, unknown}
 use Rattle.frame_writing.proofs.numbers.write.Goals as goal
 
--- a type that is not too large is the same as a byte
-as_byte : (t : ℕ) → t ≤ 255 → t % 256 ≡ t
-as_byte t h = omega (arith, h)
-
-pub returns-then-numbers-eq0 : goal.returns-then-numbers-eq0
-returns-then-numbers-eq0 c =
+pub returns-in_err-refuse_if : goal.returns-in_err-refuse_if
+returns-in_err-refuse_if c =
     let a = c.args in
-    none-listed a.part.now a.out.now a.numbers.now c.if-numbers-eq0.true
+    let e : c.from_residual.result ≡ Err Length = search rules in
+    let h : length a.numbers.now ≡ 0 = search rules in
+    rw e (none-listed a.part.now a.out.now a.numbers.now h)
 
-pub returns-then-first-gt255 : goal.returns-then-first-gt255
-returns-then-first-gt255 c =
+pub returns-in_default : goal.returns-in_default
+returns-in_default c =
     let a = c.args in
-    too_large a.numbers.now a.part.now a.out.now c.if-numbers-eq0.false c.if-first-gt255.true
+    let some : 0 < length a.numbers.now = search rules in
+    too_large a.numbers.now a.part.now a.out.now (λ z. omega (arith, some)) (omega (arith, c.in_default.ensures))
 
-pub returns-then-layout-eq0 : goal.returns-then-layout-eq0
-returns-then-layout-eq0 c =
+pub returns-in_err-refuse_if-2 : goal.returns-in_err-refuse_if-2
+returns-in_err-refuse_if-2 c =
     let a = c.args in
-    unknown a.numbers.now a.part.now a.out.now c.if-numbers-eq0.false c.layout_of-layout.result
-    (c.layout_of-layout.ensures ∙ ap layout_of (as_byte _ c.if-first-gt255.false)) c.if-layout-eq0.true
+    let e : c.from_residual-in_err-refuse_if-2.result ≡ Err WrongType = search rules in
+    let some : 0 < length a.numbers.now = search rules in
+    let h : c.layout_of-layout.result.count ≡ 0 = search rules in
+    rw e (unknown a.numbers.now a.part.now a.out.now (λ z. omega (arith, some)) c.layout_of-layout.result
+    (c.layout_of-layout.ensures ∙ ap layout_of c.in-Ok.ensures.1) h)

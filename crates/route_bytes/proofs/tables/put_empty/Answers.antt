@@ -1,10 +1,7 @@
 -- `put_empty`: the head, and zeros up to the end.
 -- Assumes nothing.
-use Rattle.route_bytes.proofs.TableByteLaws.{other_length, empty_stored}
+use Rattle.route_bytes.proofs.TableByteLaws.{empty_stored}
 use Rattle.route_bytes.proofs.tables.put_empty.Goals as goal
-
-pub returns-then-out-ne539 : goal.returns-then-out-ne539
-returns-then-out-ne539 c = other_length _ _ c.if-out-ne539.true
 
 pub returns : goal.returns
 returns c =

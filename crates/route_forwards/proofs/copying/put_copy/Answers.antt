@@ -1,6 +1,6 @@
 -- `put_copy`: this unit as source, hop and one more, the delay with the given one, and the checksum behind.
 -- Assumes nothing.
-use Rattle.octets.proofs.Words.{refl, [], ◌∷◌, arith}
+use Rattle.octets.proofs.Words.{refl, sym, [], ◌∷◌, arith, length-take-le}
 use Rattle.octets.specs.Layouts.{bytes}
 use Rattle.octets.proofs.LayoutLaws.{length-bytes}
 use Rattle.frame_kinds.proofs.StoredLaws.{frame-put}
@@ -8,6 +8,9 @@ use Rattle.frame_beacons.specs.Beacons.{beacon, beacon_values}
 use Rattle.route_forwards.specs.Copies.{passed_by}
 use Rattle.route_forwards.proofs.CopyLaws.{filled}
 use Rattle.route_forwards.proofs.copying.put_copy.Goals as goal
+
+pub slice_bounds-put-end-2 : goal.slice_bounds-put-end-2
+slice_bounds-put-end-2 c = sym (length-take-le 33 c.args.out.now (omega (arith, c.requires.2)))
 
 pub returns : goal.returns
 unfolding passed_by

@@ -16,5 +16,5 @@ returns c =
     let vs = short_beacon_values (short_passed_by a.own a.delay a.beacon) in
     let size = length-bytes (1 ∷ short_beacon.widths) (short_beacon.code ∷ vs) refl in
     frame-put short_beacon vs [] a.out.now refl _ _ _ (omega (arith, c.requires.2))
-    (filled 18 a.out.now (bytes (1 ∷ short_beacon.widths) (short_beacon.code ∷ vs)) _ size (omega (arith, c.requires.2)) c.put.ensures) refl
+    (filled 18 a.out.now (bytes (1 ∷ short_beacon.widths) (short_beacon.code ∷ vs)) _ size (omega (arith, c.requires.2)) (rw (← c.from.ensures) c.put.ensures)) refl
     c.seal.ensures

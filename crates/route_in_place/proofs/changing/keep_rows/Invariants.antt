@@ -1,11 +1,7 @@
 -- `keep_rows`'s loop: the rows kept, with those that are left stored behind them, are all.
 -- Assumes nothing.
-use Rattle.octets.proofs.Words.{◌-◌}
 use Rattle.route_in_place.proofs.KeepLaws.{Keeping}
 use Rattle.route_in_place.proofs.changing.keep_rows.Given as goal
 
 abbrev pub invariant-loop-place : goal.invariant-loop-place
 invariant-loop-place l = Keeping l.initial.table l.table l.unit l.time l.count l.place
-
-abbrev pub decreases-loop-place : goal.decreases-loop-place
-decreases-loop-place l = 48 - l.place

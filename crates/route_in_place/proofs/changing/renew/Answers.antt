@@ -1,12 +1,8 @@
 -- `renew`: the rows kept, zeros behind them, and the head.
 -- Assumes nothing.
-use Rattle.octets.proofs.Words.{arith}
 use Rattle.route_in_place.proofs.ChangeLaws.{renewed}
 use Rattle.route_in_place.proofs.JudgedLaws.{judged-length}
 use Rattle.route_in_place.proofs.changing.renew.Goals as goal
-
-pub overflow_sub-count : goal.overflow_sub-count
-overflow_sub-count c = omega (arith, c.keep_rows-count.ensures.2)
 
 pub returns : goal.returns
 returns c =

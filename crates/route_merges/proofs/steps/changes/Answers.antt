@@ -7,4 +7,4 @@ returns-then-bad c = rw (← c.bad.ensures, c.if-bad.true, c.usable-usable.ensur
 
 pub returns : goal.returns
 returns c =
-    rw (← c.bad.ensures, c.if-bad.false, c.usable-usable.ensures)
+    rw (← c.bad.ensures, c.if-bad.false, c.usable-usable.ensures, c.from-hops.ensures)

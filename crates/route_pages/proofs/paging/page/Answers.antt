@@ -1,48 +1,41 @@
--- `page`: no table within rule, the number that refuses it, or the page in bytes.
+-- `page`: no table within rule, or the page with the rows on it.
 -- Assumes nothing.
-use Rattle.octets.proofs.Words.{◌≡◌, refl, sym, ◌∙◌, ◌*◌, arith, take, drop}
-use Rattle.route_table.specs.Rows.{standing}
-use Rattle.route_table.specs.Tables.{rows_of}
-use Rattle.route_pages.specs.Pages.{on_page}
-use Rattle.route_pages.proofs.PageLaws.{page-none, Paged, page-unwritten, page-room, page-written}
-use Rattle.route_pages.proofs.PlaceLaws.{page-places, page-count}
+use Rattle.octets.proofs.Words.{◌≡◌, ap, ◌∙◌, true, false, arith, rules, length}
+use Rattle.std.specs.Prelude.{Err}
+use Rattle.std.specs.Option.{unwrap_or}
+use Rattle.octets.specs.declared.refusals.Refusal.TheVariants.{Rule}
+use Rattle.route_table.specs.Rows.{in_use}
+use Rattle.route_table.specs.Tables.{within_rule}
+use Rattle.route_table.proofs.StandingLaws.{in_use-fits}
+use Rattle.route_pages.proofs.PageLaws.{page-none, page-with}
+use Rattle.route_pages.proofs.PlaceLaws.{used-places, page-places}
 use Rattle.route_pages.proofs.paging.page.Goals as goal
-use Rattle.route_pages.proofs.paging.page.Goals.{After-refusal-refused}
+use Rattle.route_pages.proofs.paging.page.Goals.{After-unwrap_or-used}
 
--- when it decides
-rows_are : (d : After-refusal-refused) → drop (24 * d.args.number) (take d.smaller-to.result d.standing_places-stand.result) ≡ on_page (standing d.args.time (rows_of d.args.table)) d.args.number
-rows_are d =
-    let a = d.args in
-    page-places a.table a.number a.time _ _ _ _ d.standing_places-stand.ensures.0 d.rows_in.ensures.0 refl d.smaller-to.ensures
-
-here : (d : After-refusal-refused) → Paged d.args.table d.args.number d.args.time d.args.out.now d.between-count.result d.refusal-refused.result
-here d =
-    let a = d.args in
-    record {
-      right = sym d.within_rule.ensures ∙ d.if-not-within_rule.false;
-      counted = d.between-count.ensures.0 ∙ page-count a.table a.number a.time _ _ _ _ d.standing_places-stand.ensures.0 d.rows_in.ensures.0 refl d.smaller-to.ensures;
-      last = a.table.time;
-      accepted = refl;
-      why = d.refusal-refused.ensures;
-    }
-
-pub returns-then-not-within_rule : goal.returns-then-not-within_rule
-returns-then-not-within_rule c =
+pub returns-in_err-refuse_if : goal.returns-in_err-refuse_if
+returns-in_err-refuse_if c =
     let a = c.args in
-    page-none a.table a.number a.time a.out.now (sym c.within_rule.ensures ∙ c.if-not-within_rule.true)
+    let e : c.from_residual.result ≡ Err Rule = grind arith in
+    let wrong : within_rule a.table ≡ false = search rules in
+    rw e (page-none a.table a.number a.time a.out.now wrong)
 
-pub refusal-refused-requires : goal.refusal-refused-requires
-refusal-refused-requires c = omega (arith, c.between-count.ensures.0, c.smaller-to.ensures)
+-- as many places as are in use
+used : (d : After-unwrap_or-used) → d.unwrap_or-used.result ≡ length (in_use d.standing_places-stand.result)
+used d =
+    let long : length d.standing_places-stand.result ≡ 48 = search rules in
+    d.unwrap_or-used.ensures ∙ (ap (λ o. unwrap_or o 48) d.first_unused.ensures ∙ used-places d.standing_places-stand.result long)
 
-pub returns-then-refused-ne0 : goal.returns-then-refused-ne0
-returns-then-refused-ne0 c = page-unwritten (here ((goal.at.returns-then-refused-ne0 c).After-refusal-refused)) c.if-refused-ne0.true
-
-pub put_entries-requires : goal.put_entries-requires
-put_entries-requires c =
-    let d = (goal.at.put_entries-requires c).After-refusal-refused in
-    (omega (arith, d.smaller-to.ensures, d.rows_in.ensures.1), omega (arith, page-room (here d) c.if-refused-ne0.false, d.between-count.ensures.0, c.put.auto.out))
+pub slice_bounds-put_page-end : goal.slice_bounds-put_page-end
+slice_bounds-put_page-end c =
+    let d = (goal.at.slice_bounds-put_page-end c).After-unwrap_or-used in
+    let long : length d.standing_places-stand.result ≡ 48 = search rules in
+    omega (arith, used d, in_use-fits d.standing_places-stand.result long, c.min-to.ensures)
 
 pub returns : goal.returns
 returns c =
-    let d = (goal.at.returns c).After-refusal-refused in
-    page-written (here d) c.if-refused-ne0.false d.args.table.own refl _ (rows_are d) _ _ _ c.put.ensures c.put_entries.ensures c.seal.ensures
+    let d = (goal.at.returns c).After-unwrap_or-used in
+    let a = c.args in
+    let right : within_rule a.table ≡ true = search rules in
+    c.put_page.ensures ∙
+    rw c.head.ensures
+    (page-with a.table a.number a.time a.out.now right _ (page-places a.table a.number a.time _ _ _ _ c.standing_places-stand.ensures.0 (used d) c.min-from.ensures c.min-to.ensures))

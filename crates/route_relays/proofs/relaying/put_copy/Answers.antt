@@ -24,4 +24,4 @@ bounds-out-last c =
 pub returns : goal.returns
 returns c =
     rw c.put_bytes.ensures
-    (copied c.args.frame.now c.look_over.ensures c.requires.0 c.args.out.now c.requires.1 _ c.one_less-next.ensures)
+    (copied c.args.frame.now (record { small = λ i. omega (arith, c.type_inv.frame i) }) c.requires.0 c.args.out.now c.requires.1 _ c.saturating_sub-next.ensures)

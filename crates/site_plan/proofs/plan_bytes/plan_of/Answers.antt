@@ -9,4 +9,4 @@ unfolding plan_at section_at
 returns c =
     let p = c.args.place in
     let kind : p + 2 + 2 + 1 + 1 + 1 + 2 ≡ p + 9 = omega arith in
-    rw (kind, c.section_plan-section.ensures, c.number8.ensures)
+    rw (kind, c.section_plan.ensures, c.read.ensures)

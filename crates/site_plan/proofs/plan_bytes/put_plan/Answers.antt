@@ -12,4 +12,4 @@ returns c =
     let a = c.args in
     let behind : a.place + 2 + 2 + 1 + 1 + 1 + 2 ≡ a.place + 9 = omega arith in
     all_laid a.out.now a.place plan_widths (plan_values a.plan) _
-    (rw (c.put8.ensures, c.put_section.ensures, behind, all_laid a.out.now a.place section_widths (section_values a.plan) _ refl))
+    (rw (c.store.ensures, c.put_section.ensures, behind, all_laid a.out.now a.place section_widths (section_values a.plan) _ refl))

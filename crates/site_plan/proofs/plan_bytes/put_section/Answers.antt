@@ -10,9 +10,9 @@ unfolding section_bytes
 returns c =
     let a = c.args in
     all-put a.out.now a.place section_widths (section_values a.plan) _
-    (put c.put16.ensures (omega arith)
-    (put c.put16-2.ensures (omega arith)
-    (put c.put8.ensures (omega arith)
-    (put c.put8-2.ensures (omega arith)
-    (put c.put8-3.ensures (omega arith)
-    (put c.put16-3.ensures refl done))))))
+    (put c.store.ensures (omega arith)
+    (put c.store-2.ensures (omega arith)
+    (put c.store-3.ensures (omega arith)
+    (put c.store-4.ensures (omega arith)
+    (put c.store-5.ensures (omega arith)
+    (put c.store-6.ensures refl done))))))

@@ -1,26 +1,25 @@
 -- `check_sheet`: why the sheet is refused, or what is judged.
 -- Assumes nothing.
-use Rattle.octets.proofs.Words.{◌∙◌, ap, not, rules, not-false}
-use Rattle.site_sheet.proofs.CheckLaws.{says-unfit, few-units, listed-once, says_twice, says_unlinked, says-judged}
+use Rattle.std.proofs.Common.{Err}
+use Rattle.octets.proofs.Words.{◌≡◌, arith}
+use Rattle.site_sheet.proofs.CheckLaws.{says-unfit, few-units, listed-once, says_unlinked, says-judged}
 use Rattle.site_sheet.proofs.checking.check_sheet.Goals as goal
 
-pub returns-then-number-ne0 : goal.returns-then-number-ne0
-returns-then-number-ne0 c = search (rules, says-unfit)
+pub returns-in_err-refuse_unfit : goal.returns-in_err-refuse_unfit
+returns-in_err-refuse_unfit c =
+    let e : c.from_residual.result ≡ Err c.in_err-refuse_unfit.field-0.0 = grind arith in
+    rw (e, ← c.new-sheet.ensures) (says-unfit _ _ _ c.in_err-refuse_unfit.field-0.0 c.in_err-refuse_unfit.ensures)
 
-pub returns-then-not-distinct : goal.returns-then-not-distinct
-returns-then-not-distinct c = search (rules, says_twice)
+pub neighbours_of-requires : goal.neighbours_of-requires
+neighbours_of-requires c =
+    let held = c.in_ok-refuse_unfit.ensures in
+    (few-units c.args.plan c.args.links.now _ held _ c.new-sheet.result.counted, listed-once c.args.plan c.args.links.now _ held)
 
-pub neighbours_of-known-requires : goal.neighbours_of-known-requires
-neighbours_of-known-requires c = search (rules, few-units, listed-once)
+pub returns-in_default : goal.returns-in_default
+returns-in_default c = rw (← c.new-sheet.ensures) (says_unlinked _ _ _ c.in_ok-refuse_unfit.ensures c.in_default.ensures)
 
-pub returns-then-not-known : goal.returns-then-not-known
-returns-then-not-known c = search (rules, says_unlinked)
-
-pub judge-requires : goal.judge-requires
-judge-requires c = search (rules, few-units)
+pub invariant_of-linked : goal.invariant_of-linked
+invariant_of-linked c = record { few = few-units c.args.plan c.args.links.now _ c.in_ok-refuse_unfit.ensures _ c.new-sheet.result.counted }
 
 pub returns : goal.returns
-returns c =
-    c.judge.ensures
-    ∙ says-judged _ _ _ _ c.unfit-number.ensures c.if-number-ne0.false _ c.distinct.ensures (ap not c.if-not-distinct.false) _ c.neighbours_of-known.ensures.0 c.if-not-known.false _
-    (c.neighbours_of-known.ensures.1 (not-false _ c.if-not-known.false))
+returns c = rw (← c.new-sheet.ensures) (says-judged _ _ _ c.in_ok-refuse_unfit.ensures c.in-Some.masks c.in-Some.ensures _ c.judge.ensures)

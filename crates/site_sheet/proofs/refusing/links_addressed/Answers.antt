@@ -1,14 +1,11 @@
--- `links_addressed`: the links from i on.
+-- `links_addressed`: the links from the place on.
 -- Assumes nothing.
-use Rattle.octets.proofs.Words.{◌≡◌, arith, rules}
+use Rattle.octets.proofs.Words.{rules}
 use Rattle.site_sheet.proofs.RefusalLaws.{links-none, links_more}
 use Rattle.site_sheet.proofs.refusing.links_addressed.Goals as goal
 
-pub loop-i-init : goal.loop-i-init
-loop-i-init c = (search rules, search (rules, links-none))
+pub loop-place-init : goal.loop-place-init
+loop-place-init c = search (rules, links-none)
 
-pub loop-i-preserved : goal.loop-i-preserved
-loop-i-preserved c = (search rules, search (rules, links_more))
-
-pub returns : goal.returns
-returns c = let l = c.loop-i in let none : l.i ≡ 0 = omega arith in rw none at l.invariant.1
+pub loop-place-preserved : goal.loop-place-preserved
+loop-place-preserved c = search (rules, links_more)

@@ -7,4 +7,4 @@ use Rattle.site_sheet.proofs.rows.link_at.Goals as goal
 pub returns : goal.returns
 returns c =
     let a = c.args in
-    ends_read a.links.now a.place (4 * a.place + 4 - 4 * a.place) _ _ (omega arith) c.number16.ensures c.number16-2.ensures
+    ends_read a.links.now a.place (4 * a.place + 4 - 4 * a.place) _ _ (omega arith) c.read.ensures c.read-2.ensures

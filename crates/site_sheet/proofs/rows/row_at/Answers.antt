@@ -7,4 +7,4 @@ use Rattle.site_sheet.proofs.rows.row_at.Goals as goal
 pub returns : goal.returns
 returns c =
     let a = c.args in
-    row_read a.sheet.now a.place (10 * a.place + 10 - 10 * a.place) _ _ (omega arith) c.number16.ensures c.number64.ensures
+    row_read a.sheet.now a.place (10 * a.place + 10 - 10 * a.place) _ _ (omega arith) c.read.ensures c.read-2.ensures

@@ -1,31 +1,25 @@
 -- `lowest`: what the turns leave is the mask without its k lowest slots, and the rest of it is those.
 -- Assumes nothing.
-use mathlib.Core.Path.{refl, ap, ◌∙◌}
+use mathlib.Core.Path.{◌≡◌, refl, ap, ◌∙◌}
+use Prim.Native.Nat.{ℕ}
 use native.Mathlib.Omega.{arith}
 use Rattle.slot_sets.specs.Sets.{slots_of, minus}
 use Rattle.slot_sets.proofs.DropLaws.{without_lowest, minus-left}
-use Rattle.slot_sets.proofs.TurnLaws.{wanted, there, turned, ended}
+use Rattle.slot_sets.proofs.TurnLaws.{turned, all_dropped}
 use Rattle.slot_sets.proofs.masks.lowest.Goals as goal
 
-pub loop-left-init : goal.loop-left-init
+pub loop-init : goal.loop-init
 unfolding without_lowest
-loop-left-init c = record { few = omega arith; rest = refl }
+loop-init c = refl
 
-pub overflow_sub-left : goal.overflow_sub-left
-overflow_sub-left c = there c.loop-left.left _ c.loop-left-test.true
+pub returns-then-left-eq0 : goal.returns-then-left-eq0
+returns-then-left-eq0 c = all_dropped c.args.m c.args.k c.loop.left c.loop.counter c.loop.invariant c.if-left-eq0.true c.loop-test.true
 
-pub overflow_add-dropped : goal.overflow_add-dropped
-overflow_add-dropped c = omega (arith, wanted c.args.k c.loop-left.left c.loop-left.dropped c.loop-left-test.true)
-
-pub loop-left-smaller : goal.loop-left-smaller
-loop-left-smaller c = omega (arith, wanted c.args.k c.loop-left.left c.loop-left.dropped c.loop-left-test.true)
-
-pub loop-left-preserved : goal.loop-left-preserved
-loop-left-preserved c = turned c.loop-left.invariant c.loop-left-test.true
+pub loop-preserved : goal.loop-preserved
+loop-preserved c = turned c.args.m c.loop.left c.loop.counter c.loop.invariant c.if-left-eq0.false
 
 pub returns : goal.returns
 returns c =
     let set = slots_of c.args.m in
-    c.without.ensures
-    ∙ ap (minus set) (ended c.loop-left.invariant c.loop-left-test.false)
-    ∙ minus-left c.args.k set
+    let all : c.loop.counter ≡ c.args.k = omega arith in
+    c.without.ensures ∙ ap (minus set) (c.loop.invariant ∙ ap (λ (n : ℕ). without_lowest n set) all) ∙ minus-left c.args.k set

@@ -1,11 +1,10 @@
 -- `step`: the offset less the correction of its drift.
 -- Assumes nothing.
-use Rattle.std.proofs.Common.{rules}
+use Rattle.std.proofs.Common.{refl, arith, rules}
 use Rattle.unit_clock.proofs.StepLaws.{less_correction}
 use Rattle.unit_clock.proofs.steps.step.Goals as goal
 
 pub returns : goal.returns
 returns c =
     let a = c.args in
-    less_correction a.local a.offset a.original_time a.delay _ _ _ _ _ (search rules) (search rules) c.wrapping_add_u32-here.ensures.value
-    c.wrapping_add_u32-sent.ensures.value c.age.ensures c.correction.ensures c.wrapping_sub_u32.ensures.value
+    less_correction a.local a.offset a.original_time a.delay _ _ _ _ _ (search rules) (search rules) refl refl c.age.ensures c.correction.ensures (omega arith)

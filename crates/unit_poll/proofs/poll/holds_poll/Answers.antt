@@ -9,4 +9,4 @@ returns-then-s-ne-POLL_SIZE c = no_length _ c.if-s-ne-POLL_SIZE.true
 
 pub returns : goal.returns
 returns c =
-    judged _ c.if-s-ne-POLL_SIZE.false _ _ (c.is_address.ensures ∙ rw c.number16-own.ensures) (c.places_ok.ensures ∙ rw c.number16-own.ensures)
+    judged _ c.if-s-ne-POLL_SIZE.false _ _ (c.is_address.ensures ∙ rw c.read-own.ensures) (c.places_ok.ensures ∙ rw c.read-own.ensures)

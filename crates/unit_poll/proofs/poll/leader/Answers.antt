@@ -6,7 +6,7 @@ use Rattle.unit_poll.proofs.poll.leader.Goals as goal
 
 pub loop-place-init : goal.loop-place-init
 unfolding poll_in
-loop-place-init c = leading _ _ (rw (c.number8.ensures, c.number16.ensures))
+loop-place-init c = leading _ _ (rw (c.read-2.ensures, c.read.ensures))
 
 pub returns-then-voter-eq0 : goal.returns-then-voter-eq0
 returns-then-voter-eq0 c =

@@ -1,21 +1,22 @@
--- `places_ok`'s loop: the places passed are right, and the rest is exactly if all are.
+-- `places_ok`'s loop goes down from the last place: whether the places from an index on are right, and the unit of the first of them.
 -- Assumes nothing.
-use Rattle.octets.proofs.Words.{refl, ap, not, ◌∙◌}
-use Rattle.unit_poll.proofs.PlaceLaws.{ok_stop, ok_again, ok_end}
+use Rattle.octets.proofs.Words.{◌≡◌, refl, arith}
+use Rattle.unit_poll.proofs.PlaceLaws.{places-past, ok_turn, unit_turn}
 use Rattle.unit_poll.proofs.poll.places_ok.Goals as goal
 
 pub loop-place-init : goal.loop-place-init
-loop-place-init c = refl
-
-pub returns-then-not-ordered : goal.returns-then-not-ordered
-returns-then-not-ordered c =
-    let l = c.loop-place in
-    ok_stop _ c.requires _ l.place c.loop-place-test.true l.invariant _ (c.ordered.ensures ∙ rw (c.at.ensures, c.at-after.ensures)) (ap not c.if-not-ordered.true)
+loop-place-init c =
+    rw (places-past c.args.s.now 24 (omega arith)) (refl, refl)
 
 pub loop-place-preserved : goal.loop-place-preserved
 loop-place-preserved c =
     let l = c.loop-place in
-    ok_again _ c.requires _ l.place c.loop-place-test.true l.invariant _ (c.ordered.ensures ∙ rw (c.at.ensures, c.at-after.ensures)) (ap not c.if-not-ordered.false)
+    let s = c.args.s.now in (
+      rw (c.ordered-good.ensures, c.at-voter.ensures) (ok_turn s c.args.own l.place c.loop-place-test.true l.auto.place _ _ l.invariant.0 l.invariant.1),
+      rw c.at-voter.ensures (unit_turn s c.args.own l.place c.loop-place-test.true l.auto.place),
+    )
 
 pub returns : goal.returns
-returns c = ok_end _ _ _ c.loop-place-test.false c.loop-place.invariant
+returns c =
+    let z : c.loop-place.place ≡ 0 = omega arith in
+    rw z at c.loop-place.invariant.0

@@ -4,7 +4,7 @@ use Rattle.unit_poll.proofs.LoopLaws.{sifting, sifted_in, sifting_on}
 use Rattle.unit_poll.proofs.poll.sift.Goals as goal
 
 pub loop-place-init : goal.loop-place-init
-loop-place-init c = sifting _ _ c.requires
+loop-place-init c = sifting _ _
 
 pub loop-place-preserved : goal.loop-place-preserved
 loop-place-preserved c =

@@ -1,10 +1,11 @@
--- `Book::fresh`: the plan's own rule, or zeros.
+-- `Book::fresh`: the manager in the first row.
 -- Assumes nothing.
-use Rattle.octets.proofs.Words.{◌∙◌}
+use Rattle.octets.proofs.Words.{rules}
+use Rattle.slot_sets.proofs.MaskLaws.{mask-nothing}
+use Rattle.book_members.specs.Members.{rows_of}
 use Rattle.book.specs.Books.{fresh_of}
 use Rattle.book.proofs.book.Book.fresh.Goals as goal
 
 pub returns : goal.returns
-unfolding fresh_of
-returns c =
-    c.settled.ensures ∙ rw (c.refuse_if.ensures, c.within_rule.ensures, c.zeros.ensures, c.opened.ensures)
+unfolding fresh_of rows_of
+returns c = rw (mask-nothing, c.below.ensures) (search rules)

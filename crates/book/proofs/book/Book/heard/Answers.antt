@@ -1,13 +1,30 @@
 -- `Book::heard`: a live member's row with the call's time.
 -- Assumes nothing.
-use Rattle.octets.proofs.Words.{◌∙◌}
-use Rattle.book.proofs.VisitLaws.{heards}
+use Rattle.std.proofs.Common.{◌≡◌, ◌∙◌, sym, arith, rules, Some, None}
+use Rattle.book.specs.Books.{heard_of}
+use Rattle.book.proofs.VisitLaws.{gone, live, within, heards}
 use Rattle.book.proofs.book.Book.heard.Goals as goal
 
+pub returns-in_err-at : goal.returns-in_err-at
+unfolding heard_of
+returns-in_err-at c =
+    let a = c.args in
+    let none : c.place_for.result ≡ None = grind arith in
+    let none = gone a.self a.unit a.time c.current-rows.result c.used.result.now c.current-rows.ensures c.used.ensures.0 (sym c.place_for.ensures ∙ none) in
+    search rules
+
+pub bounds-rows-at : goal.bounds-rows-at
+bounds-rows-at c =
+    let a = c.args in
+    let some : c.place_for.result ≡ Some c.in_ok-at.at = grind arith in
+    let below = within a.self a.unit a.time c.current-rows.result c.used.result.now c.current-rows.ensures c.used.ensures.0 c.in_ok-at.at (sym c.place_for.ensures ∙ some) in
+    omega arith
+
 pub returns : goal.returns
+unfolding heard_of
 returns c =
     let a = c.args in
-    c.settled.ensures ∙
-    heards a.self a.unit a.time c.current-now.result c.current-now.ensures c.place_for-at.result c.place_for-at.ensures.0 c.in_use.result c.in_use.ensures
-    c.place_for-at.ensures.1 c.refusal-refused.result c.slots_at-slots.result c.with_row-next.result c.refusal-refused.ensures
-    c.slots_at-slots.ensures c.with_row-next.ensures
+    let some : c.place_for.result ≡ Some c.in_ok-at.at = grind arith in
+    let is_live = live a.self a.unit a.time c.current-rows.result c.used.result.now c.current-rows.ensures c.used.ensures.0 c.in_ok-at.at (sym c.place_for.ensures ∙ some) in
+    let same = heards a.self a.unit a.time c.current-rows.result c.used.result.now c.current-rows.ensures c.used.ensures.0 c.in_ok-at.at (sym c.place_for.ensures ∙ some) in
+    search rules

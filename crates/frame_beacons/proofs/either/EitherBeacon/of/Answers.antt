@@ -5,7 +5,7 @@ use Rattle.frame_beacons.proofs.EitherLaws.{short_read, beacon-read}
 use Rattle.frame_beacons.proofs.either.EitherBeacon.of.Goals as goal
 
 pub returns-then-is_short : goal.returns-then-is_short
-returns-then-is_short c = c.of_short.ensures ∙ short_read _ (sym c.is_short.ensures ∙ c.if-is_short.true) _ c.of.ensures
+returns-then-is_short c = c.from.ensures ∙ short_read _ (sym c.is_short.ensures ∙ c.if-is_short.true) _ c.of.ensures
 
 pub returns : goal.returns
-returns c = c.of_beacon.ensures ∙ beacon-read _ (sym c.is_short.ensures ∙ c.if-is_short.false) _ c.of-2.ensures
+returns c = c.from-2.ensures ∙ beacon-read _ (sym c.is_short.ensures ∙ c.if-is_short.false) _ c.of-2.ensures

@@ -6,10 +6,4 @@ use Rattle.frame_traffic.proofs.entry.Entry.put.Goals as goal
 
 pub returns : goal.returns
 returns c =
-    all_laid _ 0 entry_widths (entry_values _) _ (rw (
-      c.put32.ensures,
-      c.put16-2.ensures,
-      c.put8-2.ensures,
-      c.put8.ensures,
-      c.put16.ensures,
-    ))
+    all_laid _ 0 entry_widths (entry_values _) _ cc

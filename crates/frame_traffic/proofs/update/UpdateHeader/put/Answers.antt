@@ -7,9 +7,4 @@ use Rattle.frame_traffic.proofs.update.UpdateHeader.put.Goals as goal
 
 pub returns : goal.returns
 returns c =
-    all_laid _ 0 (1 ∷ update.widths) (update.code ∷ update_values _) _ (rw (
-      c.put32.ensures,
-      c.put8-2.ensures,
-      c.put16.ensures,
-      c.put8.ensures,
-    ))
+    all_laid _ 0 (1 ∷ update.widths) (update.code ∷ update_values _) _ cc

@@ -6,6 +6,3 @@ use Rattle.site_plan.proofs.plan.Plan.superframe_ms.Goals as goal
 
 pub overflow_mul-result : goal.overflow_mul-result
 overflow_mul-result c = search (rules, superframe_fits)
-
-pub returns : goal.returns
-returns c = rw c.slots.ensures

@@ -1,9 +1,17 @@
--- `tick`: where the two ages lead, with the superframe's length as its own refusal.
+-- `tick`: what the state or the time refuses is refused whatever the superframe's length.
 -- Assumes nothing.
-use Rattle.unit_life.specs.Calls.{on_tick}
+use Rattle.std.proofs.Common.{◌≡◌, not, Err, arith}
+use Rattle.octets.specs.Answers.{reason}
+use Rattle.moments.specs.Moments.{in_order}
+use Rattle.unit_life.specs.Calls.{within_rule, superframe_rule, on_tick}
+use Rattle.unit_life.proofs.FrontLaws.{in_front}
 use Rattle.unit_life.proofs.state.State.tick.Goals as goal
 
-pub returns : goal.returns
+pub returns-in_err-kind : goal.returns-in_err-kind
 unfolding on_tick
-returns c =
-    rw (c.step.ensures, c.tick_to-to.ensures, c.age-silence.ensures, c.age-since_entry.ensures)
+returns-in_err-kind c =
+    let s = c.args.self in
+    let e : c.from_residual.result ≡ Err c.in_err-kind.field-0.0 = grind arith in
+    rw e
+    (in_front (not (within_rule s)) (not (in_order s.last c.args.time)) (reason (not (superframe_rule c.args.superframe_ms)) 14) _ s _
+    c.in_err-kind.ensures.refused)

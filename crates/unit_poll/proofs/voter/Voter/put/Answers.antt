@@ -9,5 +9,5 @@ pub returns : goal.returns
 returns c =
     let a = c.args in
     all-put a.out.now (3 + 3 * a.place) voter_widths (voter_values a.self) _
-    (put c.put16.ensures (omega arith)
-    (put c.put8.ensures refl done))
+    (put c.store.ensures (omega arith)
+    (put c.store-2.ensures refl done))

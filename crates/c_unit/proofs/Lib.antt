@@ -1,4 +1,0 @@
-pub mod ClockCallLaws
-pub mod FollowCallLaws
-pub mod PollCallLaws
-pub mod StateCallLaws

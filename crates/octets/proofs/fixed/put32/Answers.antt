@@ -1,9 +1,0 @@
--- `put32`: four bytes, or what there is of them.
--- Assumes nothing.
-use Rattle.octets.proofs.Words.{sym}
-use Rattle.octets.specs.Numbers.{digits}
-use Rattle.octets.proofs.StoreLaws.{sets-past}
-use Rattle.octets.proofs.fixed.put32.Goals as goal
-
-pub returns-then-n-at : goal.returns-then-n-at
-returns-then-n-at c = sym (sets-past (digits 4 _) _ _ c.if-n-at.true)

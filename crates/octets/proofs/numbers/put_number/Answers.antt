@@ -1,23 +1,26 @@
 -- `put_number`'s loop: to store the digits that are left is to store them all.
 -- Assumes nothing.
-use Rattle.octets.proofs.Words.{◌≡◌, ◌+◌, ◌-◌, sym, ◌∙◌, arith, length-set}
+use Rattle.octets.proofs.Words.{◌≡◌, refl, sym, ◌∙◌, arith, length-set}
 use Rattle.octets.specs.Numbers.{digits}
-use Rattle.octets.proofs.StoreLaws.{sets-past, digits-turn, digits_stored}
+use Rattle.octets.proofs.StoreLaws.{sets-past, digits-turn}
 use Rattle.octets.proofs.numbers.put_number.Goals as goal
 
-pub returns-then-out-at : goal.returns-then-out-at
-returns-then-out-at c = let a = c.args in sym (sets-past (digits a.width a.value) a.out.now a.at c.if-out-at.true)
+pub loop-init : goal.loop-init
+loop-init c = (refl, refl)
 
-pub loop-k-preserved : goal.loop-k-preserved
-loop-k-preserved c =
-    let l = c.loop-k in
-    let a = c.args in
-    let e : a.at + (l.k + 1) ≡ a.at + l.k + 1 = omega arith in
-    let f : a.width - (l.k + 1) ≡ a.width - l.k - 1 = omega arith in
-    (simp length-set l.invariant.0, rw (e, f) (sym (digits-turn l.out (a.at + l.k) (a.width - l.k) l.rest (omega arith)) ∙ l.invariant.1))
+pub returns-then-out-place : goal.returns-then-out-place
+returns-then-out-place c =
+    let l = c.loop in
+    sym (sets-past (digits l.counter l.rest) l.out l.place c.if-out-place.true) ∙ l.invariant.1
+
+pub loop-preserved : goal.loop-preserved
+loop-preserved c =
+    let l = c.loop in
+    (simp length-set l.invariant.0, sym (digits-turn l.out l.place l.counter l.rest c.loop-test.true) ∙ l.invariant.1)
 
 pub returns : goal.returns
+unfolding digits
 returns c =
-    let l = c.loop-k in
-    let a = c.args in
-    sym (digits_stored l.out a.at l.k a.width l.rest (omega arith)) ∙ l.invariant.1
+    let l = c.loop in
+    let e : l.counter ≡ 0 = omega arith in
+    rw e at l.invariant.1

@@ -1,6 +1,7 @@
 // The seven kinds of a state and the nine events, each with its number in document 01.
 ghost use Rattle.unit_life.specs.Kinds.{SaysKind, SaysEvent};
 
+use crate::state::State;
 use octets::refusals::Refusal;
 
 #[derive(Clone, Copy, Debug, PartialEq, Eq)]
@@ -35,13 +36,13 @@ impl TryFrom<u8> for Kind {
 
     fn try_from(number: u8) -> Result<Self, Refusal> {
         match number {
-            0 => Ok(Kind::Initializing),
-            1 => Ok(Kind::Discovery),
-            2 => Ok(Kind::Joining),
-            3 => Ok(Kind::Normal),
-            4 => Ok(Kind::Manager),
-            5 => Ok(Kind::Recovery),
-            6 => Ok(Kind::Stopped),
+            State::INITIALIZING => Ok(Kind::Initializing),
+            State::DISCOVERY => Ok(Kind::Discovery),
+            State::JOINING => Ok(Kind::Joining),
+            State::NORMAL => Ok(Kind::Normal),
+            State::MANAGER => Ok(Kind::Manager),
+            State::RECOVERY => Ok(Kind::Recovery),
+            State::STOPPED => Ok(Kind::Stopped),
             _ => Err(Refusal::Rule),
         }
     }
@@ -55,15 +56,15 @@ impl TryFrom<u8> for Event {
 
     fn try_from(number: u8) -> Result<Self, Refusal> {
         match number {
-            0 => Ok(Event::Ready),
-            1 => Ok(Event::Failed),
-            2 => Ok(Event::Beacon),
-            3 => Ok(Event::Accepted),
-            4 => Ok(Event::Denied),
-            5 => Ok(Event::Fault),
-            6 => Ok(Event::Elected),
-            7 => Ok(Event::RoleChange),
-            8 => Ok(Event::Recovered),
+            State::READY => Ok(Event::Ready),
+            State::FAILED => Ok(Event::Failed),
+            State::BEACON => Ok(Event::Beacon),
+            State::ACCEPTED => Ok(Event::Accepted),
+            State::DENIED => Ok(Event::Denied),
+            State::FAULT => Ok(Event::Fault),
+            State::ELECTED => Ok(Event::Elected),
+            State::ROLE_CHANGE => Ok(Event::RoleChange),
+            State::RECOVERED => Ok(Event::Recovered),
             _ => Err(Refusal::Event),
         }
     }

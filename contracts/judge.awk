@@ -1,20 +1,24 @@
 # Judges contracts: awk -f clauses.awk -f judge.awk LIST SOURCE..
 #
-# LIST has the views, as fields `pub NAME : TellsApart POSSIBLE VIEW` of a record, some for each value that may stand before the
-# call. The sources have public functions, and methods of a trait to which an impl gives contracts of their own. A contract is
+# LIST has the views, as fields `pub NAME : TellsApart POSSIBLE VIEW` of a record, or `pub NAME : (OLD : TYPE) → TellsApart ..`,
+# for any value that stood before the call. The sources have public functions, methods of traits among them. A contract is
 # `ensures { (view of the answer ≡ what is given) × .. }`, one such clause or several that have names. The parts of an answer
 # are the result and what is left in each buffer that is lent with `&mut`. An equation fixes the parts on its left side, if that
 # is a view on the list and its right side names no part. Every part has to be fixed; what else a contract says only narrows it.
 #
+# Methods are judged in the trait and in each impl. In the trait, where no type is known, a ghost of that trait counts as a view;
+# each impl has to say its answers by the list. A method may lack a contract only in an impl for a type that its file keeps within
+# the crate, since no other crate can call it: `try_from` of the kinds and events of `unit_life`. What is derived has no text.
+#
 # Below, `@` stands for `result` and `@out` for `out.new`. A view is known by its form: its words, each name with the module that
-# it comes from, `_` for each part, and `$` for an argument that names no part, which is what the call was given. The sources are
+# it comes from, `_` for each part, and `$` for OLD, for which a contract may have any argument that it was given. The sources are
 # in the formatter's layout: a body begins with the first line that ends in a bracket, or is `{}`.
 
-# A text with `$` for each argument that names no part.
+# A contract's text with `$` for each argument that was given: that names neither a part nor anything else that is left.
 function with_given(text,    argument, i, n, said) {
     n = words_of(text, argument)
     for (i = 1; i <= n; i++) {
-        if (argument[i] " " !~ /(^| )@/ && i > 1 && argument[i] !~ /^[.]/)
+        if (argument[i] " " !~ /(^| )@|[.](new|exit) / && i > 1 && argument[i] !~ /^[.]/)
             argument[i] = "$"
         else if (argument[i] ~ /^[(] /)
             argument[i] = "( " with_given(substr(argument[i], 3, length(argument[i]) - 4)) " )"
@@ -23,10 +27,30 @@ function with_given(text,    argument, i, n, said) {
     return substr(said, 2)
 }
 
+# What each OLD of a field is in the form of its view: `$`, if the field names it there alone, and once. Else the view was proved
+# for some values only, and it is `?`, which no contract has.
+function find_old(field,    word, argument, binder, i, times) {
+    split("", old)
+    for (i = split(field, word, " "); i > 0; i--)
+        times[word[i]]++
+    for (i = words_of(field, argument); i > 0; i--) {
+        split(argument[i], binder, " ")
+        if (binder[3] == ":")
+            old[binder[2]] = times[binder[2]] == 2 ? "$" : "?"
+    }
+}
+
 function form(text,    word, n, i, said) {
-    n = split(with_given(text), word, " ")
-    for (i = 1; i <= n; i++)
-        said = said " " (word[i] ~ /^@/ ? "_" : word[i] in home ? home[word[i]] : word[i])
+    n = split(text, word, " ")
+    for (i = 1; i <= n; i++) {
+        if (word[i] ~ /^@/)
+            word[i] = "_"
+        else if (word[i] in old)
+            word[i] = old[word[i]]
+        else if (word[i] in home)
+            word[i] = home[word[i]]
+        said = said " " word[i]
+    }
     return said
 }
 
@@ -64,9 +88,13 @@ function open_parts(word, n,    i, name, type) {
 function judge_equation(text, type,    side, view, word, i) {
     if (split_at("≡", unwrapped(text), side) != 2 || side[2] " " ~ /@|[.](new|exit) |→|⊎/)
         return
-    view = form(side[1])
-    if (!(view in view_of) && side[1] " " ~ / @ /)
-        view = type ":" view
+    if (split(side[1], word, " ") == 2 && word[1] in ghosts)
+        delete open[word[2]]
+    for (i = 0; i < 2 && !(view in view_of); i++) {
+        view = form(i ? with_given(side[1]) : side[1])
+        if (!(view in view_of) && side[1] " " ~ / @ /)
+            view = type ":" view
+    }
     if (!(view in view_of) || (view, side[1]) in met)
         return
     met[view, side[1]]
@@ -102,10 +130,17 @@ function judge(text, where,    word, n, i, k, said, type, body, part, equation) 
         for (k = split_at("×", body, equation); k > 0; k--)
             judge_equation(equation[k], type)
     }
-    sub(/ *[{] *[}]? *$/, "", text)
+    sub(/ *([{] *[}]?|;) *$/, "", text)
     i = index(text, " ensures")
     for (part in open)
         report(where "no view on the list fixes " open[part] ": " (i ? substr(text, i + 1) : "it has no contract"))
+}
+
+# The name in a text behind some words.
+function named_after(words, text) {
+    sub(".*" words, "", text)
+    sub(/[^A-Za-z0-9_].*/, "", text)
+    return text
 }
 
 function report(text) {
@@ -115,6 +150,9 @@ function report(text) {
 
 FNR == 1 {
     split("", home)
+    split("", old)
+    split("", inner)
+    head = ""
 }
 
 # `use MODULE.{NAME, NAME as OTHER, ..}`
@@ -129,20 +167,34 @@ FNR == 1 {
 }
 
 FNR == NR && /^  pub .* TellsApart / {
+    find_old(spaced($0))
     n = words_of(spaced($0), argument)
     add_view($2, argument[n])
 }
 
 FNR < NR {
-    sub(/\/\/.*/, "")
-    if (/^[^ \t]/)
-        of_trait = /^impl.* for /
-    if (/(^|[ \t])pub ([a-z]+ |"C" )*fn / || (of_trait && /^    fn /))
+    sub(/[ \t]*\/\/.*/, "")
+    # The head of an item stands in one line or in several.
+    whole = "[{};]$|^ *#.*[]]$"
+    if (head ~ whole && /^[^ \t]/) {
+        head = ""
+        split("", ghosts)
+    }
+    if (head !~ whole)
+        head = head " " $0
+    of_trait = head ~ /^ *(unsafe )?impl.* for /
+    in_trait = head ~ /^ *([a-z()]+ )*trait /
+    may_lack = of_trait && named_after(" for ", head) in inner
+    if (/^(pub[(][a-z]+[)] )?(struct|enum) /)
+        inner[named_after("(struct|enum) ", $0)]
+    if (in_trait && /^    ghost [a-z_]+:/)
+        ghosts[substr($2, 1, length($2) - 1)]
+    if (/(^|[ \t])pub ([a-z]+ |"C" )*fn / || ((of_trait || in_trait) && /^    ([a-z]+ |"C" )*fn /))
         where = FILENAME ":" FNR
     if (where)
         text = text " " $0
-    if (where && /[{][ \t]*[}]?[ \t]*$/) {
-        if (!of_trait || text ~ / ensures /)
+    if (where && (/[{][ \t]*[}]?[ \t]*$/ || (in_trait && /;[ \t]*$/))) {
+        if (!may_lack || text ~ / ensures /)
             judge(text, where)
         where = text = ""
     }

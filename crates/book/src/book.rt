@@ -18,6 +18,25 @@ pub struct Book {
     pub rows: [Member; 21],
 }
 
+// What stands where there is no book: zeros.
+pub fn zeros() -> Book
+    ensures { contents result ≡ no_book }
+{
+    Book {
+        plan: Plan {
+            network: 0,
+            manager: 0,
+            max_hops: 0,
+            rows: 0,
+            data_slots: 0,
+            slot_ms: 0,
+            beacon_type: 0,
+        },
+        time: 0,
+        rows: [Member::EMPTY; 21],
+    }
+}
+
 impl Book {
     // The book of a plan: the manager in row 0 with the lowest data slot. A plan out of rule is refused.
     #[tactic(auto, unfolding(crate::specs::Books::fresh_of))]

@@ -1,6 +1,7 @@
 // A book as 308 bytes, the lowest byte of a number first: the plan, the last accepted time, then 21 rows of 14.
 ghost use Rattle.std.specs.Prelude.{◌≡◌, ◌<◌, ◌≤◌, length};
 ghost use Rattle.std.proofs.lemmas.List.Edits.{sets};
+ghost use Rattle.octets.specs.Calls.{after};
 ghost use Rattle.octets.specs.Layouts.{fields, bytes};
 ghost use Rattle.octets.specs.Refusals.{status_of};
 ghost use Rattle.book_members.specs.Members.{row_of, rows_of};
@@ -99,4 +100,15 @@ pub fn write_back(book: &mut [u8], next: Result<Book, Refusal>) -> Result<(), Re
 {
     put_book(book, next?);
     Ok(())
+}
+
+// The same for a caller that refuses by a number of its own, any byte, 0 for none: that number is the answer.
+pub fn write_back_numbered(book: &mut [u8], refused: u8, next: Book) -> u8
+    ensures { (result ≡ refused) × (book.new ≡ after refused book.old (sets book.old 0 (bytes_of_book (contents next)))) × (refused ≡ 0 → length (bytes_of_book (contents next)) ≡ book_size) }
+{
+    if refused != 0 {
+        return refused;
+    }
+    put_book(book, next);
+    0
 }

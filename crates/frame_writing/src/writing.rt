@@ -3,6 +3,7 @@ ghost use Rattle.std.specs.Prelude.{◌≡◌, ◌≤◌, ◌<◌, length, get_o
 ghost use Rattle.octets.specs.Told.{wrote};
 ghost use Rattle.frames.specs.Layout.{widths_of};
 ghost use Rattle.frames.specs.Told.{write_frame};
+ghost use Rattle.frame_writing.specs.Handed.{write_answer};
 ghost use Rattle.frame_writing.specs.Typed.{write_typed};
 
 use crate::emitting::Draft;
@@ -32,6 +33,17 @@ pub fn write(frame: Frame, part: &[u8], out: &mut [u8]) -> Result<usize, Refusal
         Frame::Beacon(f) => write_as(0, f.good(), &f.numbers(), part, out),
         Frame::ShortBeacon(f) => write_as(0, f.good(), &f.numbers(), part, out),
     }
+}
+
+// What was read, written with these bytes: a refusal stays that refusal, and then nothing is written.
+pub fn write_read(
+    answer: Result<Frame, Refusal>,
+    part: &[u8],
+    out: &mut [u8],
+) -> Result<usize, Refusal>
+    ensures { wrote result out.new ≡ write_answer answer part.now out.old }
+{
+    write(answer?, part, out)
 }
 
 // The numbers of a frame, its type first, with so many bytes behind its fields by its count.

@@ -99,6 +99,20 @@ pub refused_before : (s : List ℕ) (before network : ℕ) (p : Passing) (delay 
 unfolding pass_of
 refused_before s before network p delay time behind holds z = rw (judged-rule s holds, ne_eqb before 0 z)
 
+-- the number that refuses it, and the table where none does
+module _ (s : List ℕ) (before network : ℕ) (p : Passing) (delay time behind : ℕ) where
+  pub pass-first : (n : ℕ) → n ≡ first (pass_reasons (table_in s) before network p delay time behind) → n ≡ (pass_of (table_in s) before network p delay time behind).refused
+  unfolding pass_of
+  pass-first n f = f
+
+  pub passed-table : holds_table s ≡ true → 0 ≡ first (pass_reasons (table_in s) before network p delay time behind) → (h : Head) → h ≡ passed_head (head_of (table_in s)) p time
+      → table_of h (kept 0 h.time (rows_of (table_in s))) ≡ (pass_of (table_in s) before network p delay time behind).table
+  unfolding pass_of
+  passed-table holds none h q =
+      let t = table_in s in
+      let same = kept_whole t.own t.time time (standing time (rows_of t)) (standing-every (row_rule t.own t.time) time (rows_of t) (within t (judged-rule s holds)).rules) in
+      rw (← none, q, same)
+
 -- what the code has when it decides on passing a beacon on
 pub record Asked (s : List ℕ) (before network : ℕ) (p : Passing) (delay time why : ℕ) : Type 0 where
   pub holds : holds_table s ≡ true
@@ -121,11 +135,7 @@ module _ (s : List ℕ) (before network : ℕ) (p : Passing) (delay time behind 
 
   pub pass-table : 0 ≡ cond (not (eqb why 0)) why behind → (h : Head) → h ≡ passed_head (head_of (table_in s)) p time
       → table_of h (kept 0 h.time (rows_of (table_in s))) ≡ (pass_of (table_in s) before network p delay time behind).table
-  unfolding pass_of
-  pass-table f h q =
-      let t = table_in s in
-      let same = kept_whole t.own t.time time (standing time (rows_of t)) (standing-every (row_rule t.own t.time) time (rows_of t) (within t (judged-rule s k.holds)).rules) in
-      rw (← number, ← f, q, same)
+  pass-table f h q = passed-table s before network p delay time behind k.holds (f ∙ number) h q
 
 pub unpassed : (before network : ℕ) (p : Passing) (delay time behind : ℕ) (t : Table) → within_rule t ≡ false → (pass_of t before network p delay time behind).refused ≡ 14
 unfolding pass_of

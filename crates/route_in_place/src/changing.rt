@@ -9,7 +9,8 @@ ghost use Rattle.route_bytes.specs.TableBytes.{rows_bytes, table_in, table_bytes
 ghost use Rattle.route_in_place.specs.Changes.{kept};
 
 use crate::judging::{holds_table, judged_for};
-use octets::refusals::Refusal;
+use octets::choices::either;
+use octets::refusals::{Refusal, status};
 use octets::zeros::put_zeros;
 use route_bytes::tables::{head_of, put_head, put_row, row_in};
 use route_passing::{Passing, passed_head, why_not_passed};
@@ -87,4 +88,31 @@ pub fn pass(
     // Kept: the unit 0 for none that is forgotten, and no Option: no row leads to 0 or through it, so that no row is lost.
     renew(table, passed_head(head, passing, time), 0);
     Ok(())
+}
+
+// The same for a caller that refuses by numbers of its own: `before` and `behind` are any bytes, 0 where nothing refuses. Answers the number that does.
+pub fn pass_numbered(
+    table: &mut [u8],
+    before: u8,
+    network: u16,
+    passing: Passing,
+    delay: u32,
+    time: u32,
+    behind: u8,
+) -> u8
+    ensures { table_left result table.new ≡ changed_by table.old (λ t. pass_of t before network passing delay time behind) }
+{
+    let Some(row) = judged_for(&table[..], passing.original_source) else {
+        return Refusal::Rule.number();
+    };
+    let head = head_of(&table[..]);
+    let route = found_by(head.time, row, passing.original_source, time);
+    let unpassed = status(why_not_passed(head, route, network, passing, delay, time));
+    let refused = either(before != 0, before, either(unpassed != 0, unpassed, behind));
+    if refused != 0 {
+        return refused;
+    }
+    let passed = passed_head(head, passing, time);
+    renew(table, passed, 0);
+    0
 }

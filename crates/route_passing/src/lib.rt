@@ -5,10 +5,12 @@ ghost use Rattle.std.specs.Prelude.{◌≡◌, Ok};
 ghost use Rattle.octets.specs.Answers.{first};
 ghost use Rattle.octets.specs.Refusals.{status_of};
 ghost use Rattle.route_table.specs.Outcomes.{changed, found};
+ghost use Rattle.route_passing.specs.Numbers.{numbered};
 ghost use Rattle.route_passing.specs.Passes.{again, to_forward, passing_reasons, passed_head, pass_of};
 
 use moments::in_order;
-use octets::refusals::{Refusal, refuse_if};
+use octets::choices::either;
+use octets::refusals::{Refusal, refuse_if, status};
 use route_table::standing::standing_places;
 use route_table::table::{Head, Route, Table};
 
@@ -97,4 +99,43 @@ pub fn pass(
     behind?;
     let rows = standing_places(table.rows, time);
     Ok(passed_head(head, passing, time).placed(rows))
+}
+
+// What passing on by numbers gives: 0, or the number that refuses it, and the table that then stands.
+#[derive(Clone, Copy)]
+pub struct Numbered {
+    pub refused: u8,
+    pub table: Table,
+}
+
+// The same for a caller that refuses by numbers of its own: `before` and `behind` are any bytes, 0 where nothing refuses.
+pub fn pass_numbered(
+    table: Table,
+    before: u8,
+    network: u16,
+    passing: Passing,
+    delay: u32,
+    time: u32,
+    behind: u8,
+) -> Numbered
+    ensures { result ≡ numbered (pass_of table before network passing delay time behind) }
+{
+    if !table.within_rule() {
+        return Numbered {
+            refused: Refusal::Rule.number(),
+            table,
+        };
+    }
+    let head = table.head();
+    let route = table.route_to(passing.original_source, time);
+    let unpassed = status(why_not_passed(head, route, network, passing, delay, time));
+    let refused = either(before != 0, before, either(unpassed != 0, unpassed, behind));
+    if refused != 0 {
+        return Numbered { refused, table };
+    }
+    let rows = standing_places(table.rows, time);
+    Numbered {
+        refused: 0,
+        table: passed_head(head, passing, time).placed(rows),
+    }
 }

@@ -1,7 +1,7 @@
 -- The schedule of a member, slot by slot, and in a buffer.
 -- Assumes nothing.
 use Rattle.octets.proofs.Words.{◌≡◌, refl, sym, ap, ap₂, ◌∙◌, Bool, true, false, ◌&&◌, cond, and-eq-true_iff, eqb-true, leb-true, ltb-false, not-false, eqb, leb, List, [], ◌∷◌, ◌++◌, append-nil, ℕ, zero, suc, ◌+◌, ◌-◌, ◌≤◌, ◌<◌, min, zero-add, suc-add, arith, length, take, length-take-le, drop, length-drop, drop_of_length-le, replicate, sets, sets-eq}
-use Rattle.std.proofs.lemmas.List.{take_at}
+use Rattle.std.proofs.lemmas.List.{length-replicate}
 use borrow.Rule.Slice.PartMut.{put_mid}
 use Rattle.octets.specs.Lists.{tab}
 use Rattle.slot_sets.specs.Sets.{Slots}
@@ -16,6 +16,7 @@ use Rattle.book.proofs.WithinLaws.{within}
 use Rattle.book.specs.Books.{Contents, within_rule, rows_at, live_at, holding}
 use Rattle.book.specs.Schedules.{hop_rule, kinds_for, schedule_reasons, schedule_refusal}
 use Rattle.octets.proofs.ListLaws.{length-tab}
+use Rattle.octets.proofs.StoreLaws.{sets_append, sets-whole}
 
 -- values that are one from a place on
 same-behind : (m n : ℕ) (f : ℕ → ℕ) (v : ℕ) → ((k : ℕ) → m ≤ k → k < m + n → f k ≡ v) → tab (m + n) f ≡ tab m f ++ replicate n v
@@ -25,19 +26,32 @@ same-behind zero (suc n) f v e = rw zero-add (ap₂ ◌∷◌ (e 0 (omega arith)
 same-behind (suc m) n f v e = rw suc-add (ap (λ (l : List ℕ). f 0 ∷ l) (same-behind m n (λ k. f (suc k)) v (λ k h l. e (suc k) (omega (arith, h)) (omega (arith, l)))))
 
 -- the slots awake, and those asleep behind them
-pub both-put : (p : Plan) (row hop : ℕ) (own : Slots 64) (held out last : List ℕ) (awake slot : ℕ) → awake ≡ min (length held) (sleep_slot_at p) → slot ≡ awake
+pub both-put : (p : Plan) (row hop : ℕ) (own : Slots 64) (count awake : ℕ) (held out last : List ℕ) → awake ≡ min (sleep_slot_at p) count
+    → out ≡ sets held 0 (tab awake (kind_of p row hop own)) → last ≡ sets out awake (replicate (count - awake) sleep) → last ≡ sets held 0 (tab count (kind_of p row hop own))
+both-put p row hop own count awake held out last a o l =
+    let f = kind_of p row hop own in
+    let n : awake + (count - awake) ≡ count = omega (arith, a) in
+    let whole : tab count f ≡ tab awake f ++ replicate (count - awake) sleep =
+    sym (ap (λ (i : ℕ). tab i f) n) ∙ same-behind awake (count - awake) f sleep (λ k h b. (kinds_by_region p row hop own k).behind (omega (arith, a, h, b, n))) in
+    rw (l, o, whole) (sym (sets_append (tab awake f) (replicate (count - awake) sleep) held 0 ∙ rw (length-tab awake f, zero-add)))
+
+-- the same of a loop and a fill behind it, which leave no place of the buffer
+pub both-filled : (p : Plan) (row hop : ℕ) (own : Slots 64) (held out last : List ℕ) (awake slot : ℕ) → awake ≡ min (length held) (sleep_slot_at p) → slot ≡ awake
     → length out ≡ length held → out ≡ tab slot (kind_of p row hop own) ++ drop slot held → last ≡ replicate (length (take (length out - awake) (drop awake out))) sleep
     → put_mid awake (length out - awake) out last ≡ tab (length held) (kind_of p row hop own)
-both-put p row hop own held out last awake slot a z l o e =
+both-filled p row hop own held out last awake slot a z l o e =
     let f = kind_of p row hop own in
     let n = length held - awake in
-    let front : take awake out ≡ tab awake f = ap (take awake) o ∙ rw z (take_at (tab awake f) (drop awake held) awake (length-tab awake f)) in
+    let w = length-tab awake f in
+    let front : out ≡ sets held 0 (tab awake f) = o ∙ rw z (sym (sets-eq (tab awake f) held 0 (omega (arith, w)) ∙ rw (w, zero-add))) in
     let left : length (drop awake out) ≡ n = omega (arith, length-drop awake out) in
     let none : drop (length out - awake) (drop awake out) ≡ [] = drop_of_length-le (drop awake out) {i = length out - awake} (omega (arith, left)) in
     let asleep : last ≡ replicate n sleep = e ∙ ap (λ (i : ℕ). replicate i sleep) (length-take-le (length out - awake) (drop awake out) (omega (arith, left)) ∙ omega arith) in
-    let sum : awake + n ≡ length held = omega arith in
-    rw (front, none, asleep, append-nil)
-    (sym (same-behind awake n f sleep (λ k h b. (kinds_by_region p row hop own k).behind (omega (arith, a, h, b, sum)))) ∙ ap (λ (i : ℕ). tab i f) sum)
+    let long : length (replicate n sleep) ≡ n = length-replicate n sleep in
+    let past : drop (awake + length (replicate n sleep)) out ≡ [] = drop_of_length-le out {i = awake + length (replicate n sleep)} (omega (arith, long)) in
+    let behind : put_mid awake (length out - awake) out last ≡ sets out awake (replicate n sleep) =
+    rw (none, asleep, append-nil) (sym (sets-eq (replicate n sleep) out awake (omega (arith, long)) ∙ rw (past, append-nil))) in
+    both-put p row hop own (length held) awake held out _ (omega arith) front behind ∙ sets-whole held (tab (length held) f) (length-tab (length held) f)
 
 -- the slots of a member, as the code puts them into the start of a buffer
 pub scheduled : (b : Contents) (unit hop time at : ℕ) (own : Slots 64) (out put : List ℕ) (count : ℕ) → count ≡ slots b.plan → count ≤ length out → at ≡ place_for unit (rows_at b time)

@@ -2,7 +2,7 @@
 -- Assumes nothing.
 use Rattle.std.proofs.Common.{Some, None}
 use Rattle.std.proofs.lemmas.List.{take-map}
-use Rattle.octets.proofs.Words.{◌≡◌, refl, sym, ap, ◌∙◌, Bool, not, true, false, List, [], ◌∷◌, map, ℕ, zero, suc, ◌<◌, arith, lt-ltb, le-ltb, length, get_or, take, set, length-map, length-take, get_or-take, get_or-map}
+use Rattle.octets.proofs.Words.{◌≡◌, refl, sym, ap, ◌∙◌, Bool, not, true, false, List, [], ◌∷◌, map, ℕ, zero, suc, ◌<◌, arith, lt-ltb, le-ltb, not-false, length, get_or, take, set, length-map, length-take, get_or-take, get_or-map}
 use Rattle.slot_sets.specs.Sets.{Slots}
 use Rattle.slot_sets.proofs.MaskLaws.{mask-nothing}
 use Rattle.book_members.specs.declared.member.Member.{Member}
@@ -10,7 +10,8 @@ use Rattle.book_members.specs.Members.{Row, row_of, member_with, rows_of, empty_
 use Rattle.book_members.proofs.LookupLaws.{placed-there, placed-nowhere}
 use Rattle.book_members.proofs.RowLoopLaws.{nobody, row_written}
 use Rattle.book.specs.declared.book.Book.{Book}
-use Rattle.octets.specs.Answers.{Reason, reason}
+use Rattle.octets.specs.Answers.{Reason, reason, first}
+use Rattle.octets.proofs.AnswerLaws.{none-holds}
 use Rattle.octets.specs.Addresses.{address}
 use Rattle.moments.specs.Moments.{in_order}
 use Rattle.book.specs.Books.{Contents, within_rule, contents, rows_at, live_at, own_row, with_row}
@@ -19,6 +20,13 @@ use Rattle.book.specs.Books.{Contents, within_rule, contents, rows_at, live_at, 
 abbrev pub member_reasons : Contents → ℕ → ℕ → Bool → List Reason
 member_reasons b unit time found =
     reason (not (within_rule b)) 14 ∷ reason (not (address unit)) 4 ∷ reason (not (in_order b.time time)) 8 ∷ reason (not found) 13 ∷ []
+
+-- an accepted call finds the member that it wants
+found-true : (b : Contents) (unit time n : ℕ) (found : Bool) → n ≡ first (member_reasons b unit time found) → n ≡ 0 → found ≡ true
+found-true b unit time n found q z =
+    let none =
+    none-holds (member_reasons b unit time found) _ (sym q ∙ z) in
+    not-false found none.1.1.1.0
 
 -- the rows that a plan uses at a time are among its places then
 pub take-current : (time n : ℕ) (places : List Row) → take n (current time places) ≡ current time (take n places)

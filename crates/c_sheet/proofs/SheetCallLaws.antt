@@ -29,9 +29,13 @@ module _ (plan links sheet : List ℕ) where
       go false q = rw q
 
   module _ (named lower higher : ℕ) where
-    pub not-judged : (r : Refusal) (n : ℕ) → n ≡ number_of r → refused (number_of r) ≡ said → sheet_left n named lower higher ≡ sheet_call plan links sheet named lower higher
+    refused-left : (n : ℕ) → status ≡ n → (n ≡ 0 → ⊥) → sheet_left n named lower higher ≡ sheet_call plan links sheet named lower higher
     unfolding sheet_call
-    not-judged r n en e = let s : status ≡ number_of r = status-said ∙ sym (ap (λ (x : Said). x.refusal) e) in rw (en, s, ne_eqb (number_of r) 0 (numbered r))
+    refused-left n e z = rw (e, ne_eqb n 0 z)
+
+    pub not-judged : (r : Refusal) (n : ℕ) → n ≡ number_of r → refused (number_of r) ≡ said → sheet_left n named lower higher ≡ sheet_call plan links sheet named lower higher
+    not-judged r n en e =
+        rw en (refused-left (number_of r) (status-said ∙ sym (ap (λ (x : Said). x.refusal) e)) (numbered r))
 
     pub judged : (vs : List ℕ) (f : Finding) → finding (accepted vs) ≡ f → accepted vs ≡ said → sheet_left 0 f.named f.lower f.higher ≡ sheet_call plan links sheet named lower higher
     unfolding sheet_call

@@ -14,6 +14,10 @@ pub leads : (time happened : ℕ) → (age_at time happened + happened) % 2 ^ 32
 unfolding age_at
 leads time happened = omega arith
 
+-- the number below 2^32 that leads from one time to another is the age
+pub is_age : (now then r : ℕ) → now < 2 ^ 32 → then < 2 ^ 32 → r < 2 ^ 32 → (r + then) % 2 ^ 32 ≡ now → r ≡ age_at now then
+is_age now then r n t b e = omega (arith, leads now then, age_bound now then)
+
 -- ---- no step
 -- what happens has no age
 pub no_age : (t : ℕ) → age_at t t ≡ 0

@@ -1,14 +1,15 @@
 -- The numbers of a plan, and what its rule makes of them.
 -- Assumes nothing.
 use Rattle.std.proofs.Common.{Some, None}
-use Rattle.octets.proofs.Words.{◌≡◌, refl, sym, ap, ◌∙◌, Bool, true, false, ◌&&◌, ◌||◌, cond, and-eq-true_iff, false≢true, List, ℕ, ◌*◌, ◌≤◌, ◌<◌, ◌^◌, mul-le-mul, arith, eqb-true, leb-true, le-leb, eqb, leb, get_or}
+use Rattle.octets.proofs.Words.{◌≡◌, refl, sym, ap, ◌∙◌, Bool, true, false, ◌&&◌, ◌||◌, cond, and-eq-true_iff, false≢true, List, ℕ, ◌+◌, ◌*◌, ◌≤◌, ◌<◌, ◌^◌, mul-le-mul, arith, eqb-true, leb-true, le-leb, ltb-true, ltb-false, eqb, leb, ltb, get_or}
+use mir.Val.{bool_byte}
 use Rattle.octets.specs.Answers.{Said, accepted, refused}
 use Rattle.octets.specs.Lists.{tab}
 use Rattle.octets.proofs.ListLaws.{get_or-tab}
 use Rattle.octets.proofs.TestLaws.{all_hold}
 use Rattle.octets.specs.Addresses.{address, network}
 use Rattle.site_plan.specs.declared.plan.Plan.{Plan}
-use Rattle.site_plan.specs.Plans.{slots, plan_rule, active, slots_in, plan_rules, long_beacons, short_beacons, plan_values, plan_of}
+use Rattle.site_plan.specs.Plans.{slots, plan_rule, discovery_slots, active, slots_in, plan_rules, long_beacons, short_beacons, plan_values, plan_of}
 use Rattle.site_plan.specs.Laws.{LengthsByTable, RuleBounds}
 
 -- ---- the length of a superframe and its time
@@ -37,6 +38,20 @@ superframe_fits active slots ms e h =
     let few : slots ≤ 100 = omega (arith, e, few-length active) in
     let short : ms ≤ 65535 = omega (arith, h) in
     omega (arith, mul-le-mul few short)
+
+-- ---- discovery
+-- from two slots on there is one more from the 7th, the 10th and the 13th row on
+pub by-steps : (rows : ℕ) → 2 + bool_byte (ltb 6 rows) + bool_byte (ltb 9 rows) + bool_byte (ltb 12 rows) ≡ discovery_slots rows
+by-steps rows = go (ltb 6 rows) (ltb 9 rows) (ltb 12 rows) refl refl refl
+  where
+    go : (a b c : Bool) → ltb 6 rows ≡ a → ltb 9 rows ≡ b → ltb 12 rows ≡ c → 2 + bool_byte a + bool_byte b + bool_byte c ≡ discovery_slots rows
+    go true true true p q r = omega (arith, ltb-true 12 rows r)
+    go true true false p q r = omega (arith, ltb-true 9 rows q, ltb-false 12 rows r)
+    go true false true p q r = omega (arith, ltb-false 9 rows q, ltb-true 12 rows r)
+    go true false false p q r = omega (arith, ltb-true 6 rows p, ltb-false 9 rows q)
+    go false true c p q r = omega (arith, ltb-false 6 rows p, ltb-true 9 rows q)
+    go false false true p q r = omega (arith, ltb-false 9 rows q, ltb-true 12 rows r)
+    go false false false p q r = omega (arith, ltb-false 6 rows p)
 
 -- ---- the rule
 -- what its bounds rest on, and that its network and its manager are such

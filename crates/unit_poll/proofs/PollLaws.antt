@@ -128,7 +128,7 @@ message_in f s e = ap (λ (vs : List ℕ). voter (election_from vs).node (electi
 
 -- ---- what hearing leaves, where there is room for the message
 module _ (s frame : List ℕ) (e : holds_poll s ≡ true) (z : hear_refusal (poll_in s) frame ≡ 0) where
-  hearable : (not (known (voter_in frame).unit (poll_in s).others) && leb 24 (length (poll_in s).others)) ≡ false
+  pub hearable : (not (known (voter_in frame).unit (poll_in s).others) && leb 24 (length (poll_in s).others)) ≡ false
   unfolding hear_refusal
   hearable = (none-holds (unheard_reasons (poll_in s) frame) (refusing_numbered (refusal_as election frame), _) z).1.1.0
 

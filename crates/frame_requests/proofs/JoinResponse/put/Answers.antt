@@ -7,4 +7,11 @@ use Rattle.frame_requests.proofs.JoinResponse.put.Goals as goal
 
 pub returns : goal.returns
 returns c =
-    all_laid _ 0 (1 ∷ join_response.widths) (join_response.code ∷ join_response_values _) _ cc
+    all_laid _ 0 (1 ∷ join_response.widths) (join_response.code ∷ join_response_values _) _ (rw (
+      c.store-6.ensures,
+      c.store-5.ensures,
+      c.store-4.ensures,
+      c.store-3.ensures,
+      c.store-2.ensures,
+      c.store.ensures,
+    ))

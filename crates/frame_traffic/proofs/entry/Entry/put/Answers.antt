@@ -6,4 +6,10 @@ use Rattle.frame_traffic.proofs.entry.Entry.put.Goals as goal
 
 pub returns : goal.returns
 returns c =
-    all_laid _ 0 entry_widths (entry_values _) _ cc
+    all_laid _ 0 entry_widths (entry_values _) _ (rw (
+      c.store-5.ensures,
+      c.store-4.ensures,
+      c.store-3.ensures,
+      c.store-2.ensures,
+      c.store.ensures,
+    ))

@@ -7,4 +7,9 @@ use Rattle.frame_traffic.proofs.update.UpdateHeader.put.Goals as goal
 
 pub returns : goal.returns
 returns c =
-    all_laid _ 0 (1 ∷ update.widths) (update.code ∷ update_values _) _ cc
+    all_laid _ 0 (1 ∷ update.widths) (update.code ∷ update_values _) _ (rw (
+      c.store-4.ensures,
+      c.store-3.ensures,
+      c.store-2.ensures,
+      c.store.ensures,
+    ))
